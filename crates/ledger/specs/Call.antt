@@ -1,0 +1,21 @@
+-- What can be asked of a book: nine calls and three queries (01, Posting, Migration, Tiers). Every number is allowed; the causes say which are refused.
+use Prim.Native.Nat.{ℕ}
+use mathlib.Core.List.{List}
+use Rattle.tariff.specs.Load.{Block}
+use Rattle.tariff.specs.declared.ClassLine.{ClassLine}
+
+pub data Call : Type 0 where
+  load : (holder sink term contract hours : ℕ) → List Block → Call
+  carry : (holder path kw : ℕ) → Call
+  prior : (holder path allocated longTerm : ℕ) → Call
+  verify : (holder source kind capacity right first last : ℕ) → Call
+  migrate : (term sink : ℕ) → List ClassLine → Call
+  openTier : (tier : ℕ) → Call
+  nominate : (holder path kw : ℕ) → Call
+  award : (holder path kw : ℕ) → Call
+  closeTier : Call
+
+pub data Query : Type 0 where
+  limitOf : (holder sink : ℕ) → Query
+  heldOn : (holder path month : ℕ) → Query
+  netOn : (path month : ℕ) → Query

@@ -1,0 +1,15 @@
+-- The plain ledger of document 01: what the book is opened with, what it is asked, what refuses a call, and what an accepted call does.
+pub mod Opening
+pub mod Call
+pub mod Ledger
+pub mod Calendar
+pub mod Limits
+pub mod Verification
+pub mod Moves
+pub mod Numbers
+pub mod Ranges
+pub mod Causes
+pub mod Effects
+pub mod Season
+pub mod Totals
+pub mod Marked

@@ -1,0 +1,43 @@
+-- The sums that a limit is made of, and the limit of a holder at a base in a tier (01, Limits).
+use Prim.Native.Nat.{ℕ, _-_}
+use Rattle.tariff.specs.Sum.{countIf, sumTo}
+use Rattle.tariff.specs.Terms.{termOf, carriedMonth}
+use Rattle.tariff.specs.Limit.{Sums, limit}
+use Rattle.ledger.specs.Opening.{Opening, endsAt}
+use Rattle.ledger.specs.Ledger.{Ledger}
+
+-- f summed over the paths whose sink has this base
+unfoldable pub sumAtBase : Opening → ℕ → (ℕ → ℕ) → ℕ
+sumAtBase o b f = sumTo (o .paths) (λ p. countIf (endsAt o b p) (f p))
+
+-- LT: the holder's carried holding there in a month
+unfoldable pub longTermAt : Opening → Ledger → ℕ → ℕ → ℕ → ℕ
+longTermAt o L h b month = sumAtBase o b (λ p. L .rights .carried h p month)
+
+-- the holder's allocation of last year there: the sum of a
+unfoldable pub priorYearAt : Opening → Ledger → ℕ → ℕ → ℕ
+priorYearAt o L h b = sumAtBase o b (λ p. L .priors .allocated h p)
+
+-- Tn: the holder's awards there in tier n
+unfoldable pub awardsAt : Opening → Ledger → ℕ → ℕ → ℕ → ℕ
+awardsAt o L h b tier = sumAtBase o b (λ p. L .tiers .awards h p tier)
+
+-- what the holder has nominated there in a tier
+unfoldable pub nominatedAt : Opening → Ledger → ℕ → ℕ → ℕ → ℕ
+nominatedAt o L h b tier = sumAtBase o b (λ p. L .tiers .nominated h p tier)
+
+unfoldable pub limitSums : Opening → Ledger → ℕ → ℕ → ℕ → Sums
+limitSums o L tier h b =
+    record {
+      load = L .loads .kw h b (termOf tier);
+      longTerm = longTermAt o L h b (carriedMonth (termOf tier));
+      priorYear = priorYearAt o L h b;
+      tier1 = awardsAt o L h b 1;
+      tier2 = awardsAt o L h b 2;
+      tier3 = awardsAt o L h b 3;
+      before = awardsAt o L h b (tier - 1);
+    }
+
+-- the limit on what a holder nominates at a base in a tier
+unfoldable pub tierLimit : Opening → Ledger → ℕ → ℕ → ℕ → ℕ
+tierLimit o L tier h b = limit tier (limitSums o L tier h b)

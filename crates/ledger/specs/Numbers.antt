@@ -1,0 +1,66 @@
+-- The numbers of the causes that a call or a query can meet (01, Refusals by cause), and the first cause of a list that is met.
+-- 1 and 15 belong to the script and its host; 16 is the opening's.
+use Prim.Native.Nat.{ℕ}
+use mathlib.Core.Bool.{Bool, cond}
+use mathlib.Core.List.{List, [], _∷_}
+
+-- a holder, source, sink or path is not in the book
+abbrev pub notInBook : ℕ
+notInBook = 2
+
+-- another field is outside its range
+abbrev pub outOfRange : ℕ
+outOfRange = 3
+
+-- not at this time
+abbrev pub notAtThisTime : ℕ
+notAtThisTime = 4
+
+-- posted before
+abbrev pub postedBefore : ℕ
+postedBefore = 5
+
+-- the block list is broken, or there is no block
+abbrev pub brokenBlocks : ℕ
+brokenBlocks = 6
+
+-- too many hours are missing
+abbrev pub hoursMissing : ℕ
+hoursMissing = 7
+
+-- a class line from a holder to itself, or with a holder of kind 2
+abbrev pub notSuppliers : ℕ
+notSuppliers = 8
+
+-- a loser's m together exceed its load
+abbrev pub lossAboveLoad : ℕ
+lossAboveLoad = 9
+
+-- the sink is not for this holder, or not for this call
+abbrev pub sinkNotForIt : ℕ
+sinkNotForIt = 10
+
+-- above the verified kW of the source
+abbrev pub aboveVerified : ℕ
+aboveVerified = 11
+
+-- above the path's a − l in tier 1
+abbrev pub aboveRenewable : ℕ
+aboveRenewable = 12
+
+-- above the tier's limit
+abbrev pub aboveLimit : ℕ
+aboveLimit = 13
+
+-- an award above what is nominated and unawarded
+abbrev pub aboveNominated : ℕ
+aboveNominated = 14
+
+-- a cause: its number, and whether the call meets it
+pub data Cause : Type 0 where
+  cause : ℕ → Bool → Cause
+
+-- the number of the first cause that is met, 0 where none is
+unfoldable pub firstMet : List Cause → ℕ
+firstMet [] = 0
+firstMet (cause number met ∷ later) = cond met number (firstMet later)

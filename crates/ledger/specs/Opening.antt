@@ -1,0 +1,114 @@
+-- What a book is opened with, and when that is legal (01, The book, and cause 16).
+use Prim.Native.Nat.{ℕ}
+use mathlib.Core.Bool.{Bool, cond, not, _&&_, _||_}
+use mathlib.Core.List.{List}
+use lib.ListN.{length, getD}
+use lib.Dec.{leb, ltb, eqb}
+use Rattle.tariff.specs.Sum.{allBelow, anyBelow}
+
+-- the counts, and for each holder, sink and path what stands on its line
+pub record Opening : Type 0 where
+  pub holders : ℕ
+  pub sources : ℕ
+  pub sinks : ℕ
+  pub paths : ℕ
+  pub holderKinds : List ℕ
+  pub sinkKinds : List ℕ
+  pub sinkParents : List ℕ
+  pub pathSources : List ℕ
+  pub pathSinks : List ℕ
+
+-- holder kind 1 is a load-serving entity, 2 a qualified entity outside the balancing area
+abbrev pub loadServing : ℕ
+loadServing = 1
+
+abbrev pub outsideEntity : ℕ
+outsideEntity = 2
+
+-- sink kind 1 is a Default LAP, 2 a Sub-LAP, 3 a custom LAP or node, 4 a scheduling point
+abbrev pub defaultLap : ℕ
+defaultLap = 1
+
+abbrev pub subLap : ℕ
+subLap = 2
+
+abbrev pub schedulingPoint : ℕ
+schedulingPoint = 4
+
+unfoldable pub holderKind : Opening → ℕ → ℕ
+holderKind o h = getD (o .holderKinds) h 0
+
+unfoldable pub sinkKind : Opening → ℕ → ℕ
+sinkKind o s = getD (o .sinkKinds) s 0
+
+-- the sink that a sink names: a Sub-LAP's parent, any other sink itself
+unfoldable pub base : Opening → ℕ → ℕ
+base o s = getD (o .sinkParents) s 0
+
+unfoldable pub pathSource : Opening → ℕ → ℕ
+pathSource o p = getD (o .pathSources) p 0
+
+unfoldable pub pathSink : Opening → ℕ → ℕ
+pathSink o p = getD (o .pathSinks) p 0
+
+-- the base of a path's sink
+unfoldable pub pathBase : Opening → ℕ → ℕ
+pathBase o p = base o (pathSink o p)
+
+-- the path's sink has this base
+unfoldable pub endsAt : Opening → ℕ → ℕ → Bool
+endsAt o b p = eqb (pathBase o p) b
+
+-- the path comes from this source
+unfoldable pub comesFrom : Opening → ℕ → ℕ → Bool
+comesFrom o s p = eqb (pathSource o p) s
+
+-- at most 8 holders, 16 sources, 16 sinks and 16 paths; none of a kind is allowed
+unfoldable pub countsFit : Opening → Bool
+countsFit o = leb (o .holders) 8 && leb (o .sources) 16 && leb (o .sinks) 16 && leb (o .paths) 16
+
+-- each list has as many entries as are counted
+unfoldable pub listsFit : Opening → Bool
+listsFit o =
+    eqb (length (o .holderKinds)) (o .holders)
+    && eqb (length (o .sinkKinds)) (o .sinks)
+    && eqb (length (o .sinkParents)) (o .sinks)
+    && eqb (length (o .pathSources)) (o .paths)
+    && eqb (length (o .pathSinks)) (o .paths)
+
+unfoldable pub holderLegal : Opening → ℕ → Bool
+holderLegal o h = eqb (holderKind o h) loadServing || eqb (holderKind o h) outsideEntity
+
+-- a Sub-LAP names a lower-numbered parent that is a Default LAP
+unfoldable pub parentLegal : Opening → ℕ → Bool
+parentLegal o s = ltb (base o s) s && eqb (sinkKind o (base o s)) defaultLap
+
+-- a sink's kind is 1 to 4; a Sub-LAP has a parent, any other sink names itself
+unfoldable pub sinkLegal : Opening → ℕ → Bool
+sinkLegal o s = leb 1 (sinkKind o s) && leb (sinkKind o s) 4 && cond (eqb (sinkKind o s) subLap) (parentLegal o s) (eqb (base o s) s)
+
+-- a path's source and sink are in the book
+unfoldable pub pathLegal : Opening → ℕ → Bool
+pathLegal o p = ltb (pathSource o p) (o .sources) && ltb (pathSink o p) (o .sinks)
+
+-- two paths share both source and sink
+unfoldable pub pathsAlike : Opening → ℕ → ℕ → Bool
+pathsAlike o p q = eqb (pathSource o p) (pathSource o q) && eqb (pathSink o p) (pathSink o q)
+
+-- a path is like none before it
+unfoldable pub pathNew : Opening → ℕ → Bool
+pathNew o p = not (anyBelow p (pathsAlike o p))
+
+-- the opening breaks no rule
+unfoldable pub legal : Opening → Bool
+legal o =
+    countsFit o
+    && listsFit o
+    && allBelow (o .holders) (holderLegal o)
+    && allBelow (o .sinks) (sinkLegal o)
+    && allBelow (o .paths) (pathLegal o)
+    && allBelow (o .paths) (pathNew o)
+
+-- cause 16: a kind, parent, path or count breaks the rules; 0 for a legal opening
+unfoldable pub openingRefusal : Opening → ℕ
+openingRefusal o = cond (legal o) 0 16

@@ -1,0 +1,82 @@
+-- Which numbers are in the book (cause 2), and which fields are in range (cause 3).
+use Prim.Native.Nat.{ℕ}
+use mathlib.Core.Bool.{Bool, not, _&&_, _||_}
+use mathlib.Core.List.{List}
+use lib.ListN.{length}
+use lib.Dec.{leb, ltb, eqb}
+use Rattle.tariff.specs.declared.ClassLine.{ClassLine}
+use Rattle.tariff.specs.Sum.{anyOf}
+use Rattle.tariff.specs.Load.{Block}
+use Rattle.tariff.specs.Terms.{isMonth}
+use Rattle.tariff.specs.Evidence.{highestRight}
+use Rattle.ledger.specs.Opening.{Opening}
+
+-- cause 2: a number that is not below its count
+
+unfoldable pub noHolder : Opening → ℕ → Bool
+noHolder o h = leb (o .holders) h
+
+unfoldable pub noSource : Opening → ℕ → Bool
+noSource o s = leb (o .sources) s
+
+unfoldable pub noSink : Opening → ℕ → Bool
+noSink o s = leb (o .sinks) s
+
+unfoldable pub noPath : Opening → ℕ → Bool
+noPath o p = leb (o .paths) p
+
+-- a class line names a holder that is not in the book
+unfoldable pub strangerIn : Opening → List ClassLine → Bool
+strangerIn o lines = anyOf lines (λ l. noHolder o (l .from) || noHolder o (l .to))
+
+-- cause 3
+
+-- no kW is above this one, and that of carry, prior's a, capacity, nominate and award is 1 or more
+abbrev pub mostKw : ℕ
+mostKw = 99999999
+
+unfoldable pub within : ℕ → ℕ → ℕ → Bool
+within low high x = leb low x && leb x high
+
+unfoldable pub wrongKw : ℕ → Bool
+wrongKw kw = not (within 1 mostKw kw)
+
+unfoldable pub wrongTerm : ℕ → Bool
+wrongTerm term = ltb 3 term
+
+unfoldable pub wrongMonth : ℕ → Bool
+wrongMonth m = not (isMonth m)
+
+-- load: contract load 0 to the most kW, hours 1 to 2,208, at most 2,208 blocks, none above the most kW
+unfoldable pub wrongLoad : ℕ → ℕ → ℕ → List Block → Bool
+wrongLoad term contract n blocks =
+    wrongTerm term
+    || ltb mostKw contract
+    || not (within 1 2208 n)
+    || ltb 2208 (length blocks)
+    || anyOf blocks (λ b. ltb mostKw (b .kw))
+
+-- prior: of a kW allocated, l went to Long Term, 0 ≤ l ≤ a
+unfoldable pub wrongPrior : ℕ → ℕ → Bool
+wrongPrior a l = wrongKw a || ltb a l
+
+-- verify: kind 1 or 2, the right from 1 to the highest of its kind, months 1 to 3 in order
+unfoldable pub wrongEvidence : ℕ → ℕ → ℕ → ℕ → ℕ → Bool
+wrongEvidence kind capacity right first last =
+    not (within 1 2 kind)
+    || wrongKw capacity
+    || not (within 1 (highestRight kind capacity) right)
+    || wrongMonth first
+    || wrongMonth last
+    || ltb last first
+
+-- a class line: class 1 to 8, customers and average watts up to 9,999,999
+unfoldable pub wrongClassLine : ClassLine → Bool
+wrongClassLine l = not (within 1 8 (l .class)) || ltb 9999999 (l .customers) || ltb 9999999 (l .watts)
+
+-- migrate: at most 64 class lines
+unfoldable pub wrongMigration : ℕ → List ClassLine → Bool
+wrongMigration term lines = wrongTerm term || ltb 64 (length lines) || anyOf lines wrongClassLine
+
+unfoldable pub wrongTier : ℕ → Bool
+wrongTier tier = not (within 1 9 tier)

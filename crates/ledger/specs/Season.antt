@@ -1,0 +1,70 @@
+-- The plain ledger over a list of calls, and what it answers (01, The plain ledger).
+use Prim.Native.Nat.{ℕ, _+_}
+use mathlib.Core.Bool.{Bool, cond}
+use mathlib.Core.List.{List, [], _∷_}
+use lib.Dec.{eqb}
+use Rattle.tariff.specs.Sum.{sumTo}
+use Rattle.ledger.specs.Opening.{Opening, base, legal, openingRefusal}
+use Rattle.ledger.specs.Call.{Call, Query, limitOf, heldOn, netOn}
+use Rattle.ledger.specs.Ledger.{Ledger, emptyLedger}
+use Rattle.ledger.specs.Limits.{tierLimit}
+use Rattle.ledger.specs.Causes.{refusal, queryRefusal}
+use Rattle.ledger.specs.Effects.{effect}
+
+-- a call that meets no cause is accepted
+unfoldable pub accepted : Opening → Ledger → Call → Bool
+accepted o L c = eqb (refusal o L c) 0
+
+-- an accepted call has its effect, a refused one changes nothing
+unfoldable pub step : Opening → Ledger → Call → Ledger
+step o L c = cond (accepted o L c) (effect o L c) L
+
+-- the ledger after a list of calls
+unfoldable pub afterFrom : Opening → Ledger → List Call → Ledger
+afterFrom o L [] = L
+afterFrom o L (c ∷ cs) = afterFrom o (step o L c) cs
+
+unfoldable pub after : Opening → List Call → Ledger
+after o cs = afterFrom o emptyLedger cs
+
+-- a holding is carried plus awarded kW
+unfoldable pub held : Ledger → ℕ → ℕ → ℕ → ℕ
+held L h p m = L .rights .carried h p m + L .rights .awarded h p m
+
+-- net: the holdings on a path in a month, over all holders
+unfoldable pub net : Opening → Ledger → ℕ → ℕ → ℕ
+net o L p m = sumTo (o .holders) (λ h. held L h p m)
+
+-- what a query answers where it meets no cause; a limit is that of the sink's base in the open tier
+unfoldable pub figure : Opening → Ledger → Query → ℕ
+figure o L (limitOf h s) = tierLimit o L (L .tiers .openNow) h (base o s)
+figure o L (heldOn h p m) = held L h p m
+figure o L (netOn p m) = net o L p m
+
+-- an answer: done, done with a figure, or refused with a number
+pub data Answer : Type 0 where
+  done : Answer
+  value : ℕ → Answer
+  refused : ℕ → Answer
+
+-- whoever writes a script asks calls and queries in any order
+pub data Ask : Type 0 where
+  call : Call → Ask
+  query : Query → Ask
+
+unfoldable pub answer : Opening → Ledger → Ask → Answer
+answer o L (call c) = cond (accepted o L c) done (refused (refusal o L c))
+answer o L (query q) = cond (eqb (queryRefusal o L q) 0) (value (figure o L q)) (refused (queryRefusal o L q))
+
+-- a query changes nothing
+unfoldable pub stepAsk : Opening → Ledger → Ask → Ledger
+stepAsk o L (call c) = step o L c
+stepAsk o L (query q) = L
+
+unfoldable pub answers : Opening → Ledger → List Ask → List Answer
+answers o L [] = []
+answers o L (a ∷ asks) = answer o L a ∷ answers o (stepAsk o L a) asks
+
+-- a whole season: the opening's answer, and those of what is asked after it; nothing is answered past a refused opening
+unfoldable pub season : Opening → List Ask → List Answer
+season o asks = cond (legal o) (done ∷ answers o emptyLedger asks) (refused (openingRefusal o) ∷ [])

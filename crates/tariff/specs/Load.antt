@@ -1,0 +1,63 @@
+-- The load metric over blocks of metered hours (01, Posting, Load).
+use Prim.Native.Nat.{ℕ, _+_, _*_, _-_, _/_, min}
+use mathlib.Core.Bool.{Bool, true, false, not, _&&_, _||_}
+use mathlib.Core.List.{List, [], _∷_, map}
+use lib.Dec.{leb, ltb}
+use Rattle.tariff.specs.Sum.{countIf, sumOver, only}
+
+-- a run of hours with one load: its first hour, counted from 0, how many hours it has, and the kW
+pub record Block : Type 0 where
+  pub first : ℕ
+  pub hours : ℕ
+  pub kw : ℕ
+
+-- the blocks stand in order from hour `from` on: none begins before the last one ended, each has an hour or more and ends by hour n
+unfoldable pub inOrder : ℕ → ℕ → List Block → Bool
+inOrder n from [] = true
+inOrder n from (b ∷ bs) = leb from (b .first) && leb 1 (b .hours) && leb (b .first + b .hours) n && inOrder n (b .first + b .hours) bs
+
+unfoldable pub isEmpty : List Block → Bool
+isEmpty [] = true
+isEmpty (b ∷ bs) = false
+
+-- cause 6: the block list is broken, or there is no block
+unfoldable pub blocksBroken : ℕ → List Block → Bool
+blocksBroken n bs = isEmpty bs || not (inOrder n 0 bs)
+
+-- the hours that blocks cover
+unfoldable pub presentHours : List Block → ℕ
+presentHours bs = sumOver bs (λ b. b .hours)
+
+-- the hours of n that no block covers
+unfoldable pub missingHours : ℕ → List Block → ℕ
+missingHours n bs = n - presentHours bs
+
+-- cause 7: more than 1 hour in 50 is missing (house)
+unfoldable pub tooManyMissing : ℕ → List Block → Bool
+tooManyMissing n bs = ltb n (missingHours n bs * 50)
+
+-- the present hours in which the load is above kw: hours are counted, not blocks
+unfoldable pub hoursAbove : ℕ → List Block → ℕ
+hoursAbove kw bs = sumOver bs (λ b. countIf (ltb kw (b .kw)) (b .hours))
+
+-- how many present hours may lie above the metric: 0.5% of them, rounded down
+unfoldable pub mayExceed : List Block → ℕ
+mayExceed bs = presentHours bs / 200
+
+-- this kW is exceeded in no more hours than may be
+unfoldable pub seldomExceeded : List Block → ℕ → Bool
+seldomExceeded bs kw = leb (hoursAbove kw bs) (mayExceed bs)
+
+-- the smallest number of a list, 0 for an empty one
+unfoldable pub smallest : List ℕ → ℕ
+smallest [] = 0
+smallest (x ∷ []) = x
+smallest (x ∷ y ∷ ys) = min x (smallest (y ∷ ys))
+
+-- the load metric: the smallest kW among the blocks that is exceeded seldom enough
+unfoldable pub metric : List Block → ℕ
+metric bs = smallest (only (seldomExceeded bs) (map (λ b. b .kw) bs))
+
+-- the load posted: the metric less the contract load, not below 0 (house)
+unfoldable pub loadPosted : ℕ → List Block → ℕ
+loadPosted contract bs = metric bs - contract
