@@ -19,7 +19,7 @@ sumAccepted amount o L (c ∷ cs) = countIf (accepted o L c) (amount L c) + sumA
 -- the kW of a carry call on the path
 unfoldable pub carriedBy : ℕ → Ledger → Call → ℕ
 carriedBy p L (load h s term contract n blocks) = 0
-carriedBy p L (carry h q kw) = countIf (eqb q p) kw
+carriedBy p L (carry h q kw) = countIf (eqb p q) kw
 carriedBy p L (prior h q a l) = 0
 carriedBy p L (verify h s kind capacity right first last) = 0
 carriedBy p L (migrate term sink lines) = 0
@@ -37,12 +37,12 @@ awardedBy p m L (verify h s kind capacity right first last) = 0
 awardedBy p m L (migrate term sink lines) = 0
 awardedBy p m L (openTier tier) = 0
 awardedBy p m L (nominate h q kw) = 0
-awardedBy p m L (award h q kw) = countIf (eqb q p && hasMonth (termOf (L .tiers .openNow)) m) kw
+awardedBy p m L (award h q kw) = countIf (eqb p q && hasMonth (termOf (L .tiers .openNow)) m) kw
 awardedBy p m L closeTier = 0
 
 -- the load that a load call posts at the sink and term
 unfoldable pub postedBy : ℕ → ℕ → Ledger → Call → ℕ
-postedBy s t L (load h q term contract n blocks) = countIf (eqb q s && eqb term t) (loadPosted contract blocks)
+postedBy s t L (load h q term contract n blocks) = countIf (eqb s q && eqb t term) (loadPosted contract blocks)
 postedBy s t L (carry h q kw) = 0
 postedBy s t L (prior h q a l) = 0
 postedBy s t L (verify h q kind capacity right first last) = 0
@@ -60,7 +60,7 @@ nominatedBy o h b L (prior x p a l) = 0
 nominatedBy o h b L (verify x s kind capacity right first last) = 0
 nominatedBy o h b L (migrate term sink lines) = 0
 nominatedBy o h b L (openTier tier) = 0
-nominatedBy o h b L (nominate x p kw) = countIf (eqb x h && endsAt o b p) kw
+nominatedBy o h b L (nominate x p kw) = countIf (eqb h x && endsAt o b p) kw
 nominatedBy o h b L (award x p kw) = 0
 nominatedBy o h b L closeTier = 0
 

@@ -1,1 +1,4 @@
 pub mod RuledOut
+pub mod Sums
+pub mod Shifts
+pub mod Tests

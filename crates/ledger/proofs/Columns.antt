@@ -1,0 +1,48 @@
+-- A column is a record read for every holder. One entry more adds its kW to the column's sum; a migration keeps the sum. Assumes nothing.
+use Prim.Native.Nat.{ℕ, zero, suc, _+_, _≤_, _<_}
+use mathlib.Core.Path.{_≡_, refl, sym, ap, _∙_}
+use mathlib.Core.Bool.{Bool, true, false, cond, _&&_, and-true}
+use mathlib.Core.List.{List}
+use native.Mathlib.Nat.{add-zero}
+use native.Mathlib.Omega.{arith}
+use lib.Dec.{eqb}
+use Rattle.tariff.specs.declared.ClassLine.{ClassLine}
+use Rattle.tariff.specs.Sum.{countIf, sumTo}
+use Rattle.tariff.specs.Migration.{netted, lostBy, shares, shifted}
+use Rattle.tariff.proofs.Sums.{count-true, count-false, sum-ext, sum-add, sum-zero, sum-one, sum-plus}
+use Rattle.tariff.proofs.Tests.{and-right-false}
+use Rattle.tariff.proofs.Shifts.{shares-fit, shift-sum}
+use Rattle.ledger.specs.Opening.{Opening}
+use Rattle.ledger.specs.Ledger.{Ledger}
+use Rattle.ledger.specs.Moves.{loadBefore, columnAfter}
+
+-- kw in one holder's entry, if a test passes
+pub column-one : (n x : ℕ) (t : Bool) (kw : ℕ) → x < n → sumTo n (λ h. countIf (eqb h x && t) kw) ≡ countIf t kw
+column-one n x true kw l =
+    sum-ext {f = λ h. countIf (eqb h x && true) kw} {g = λ h. countIf (eqb h x) kw} n (λ h i. ap (λ b. countIf b kw) (and-true (eqb h x)))
+    ∙ sum-one kw n x l
+    ∙ sym (count-true kw refl)
+column-one n x false kw l =
+    sum-zero {f = λ h. countIf (eqb h x && false) kw} n (λ h i. count-false kw (and-right-false (eqb h x) refl)) ∙ sym (count-false kw refl)
+
+pub column-plus : (v : ℕ → ℕ) (n x : ℕ) (t : Bool) (kw : ℕ) → x < n → sumTo n (λ h. v h + countIf (eqb h x && t) kw) ≡ sumTo n v + countIf t kw
+column-plus v n x t kw l = sum-add v (λ h. countIf (eqb h x && t) kw) n ∙ ap (λ s. sumTo n v + s) (column-one n x t kw l)
+
+module _ (o : Opening) (L : Ledger) (term sink : ℕ) (lines : List ClassLine) (fits : (i : ℕ) → i < o .holders → lostBy (o .holders) (netted lines) i ≤ loadBefore L term sink i) where
+  -- the shares that a record loses to all gainers together are at most its value before the call
+  pub column-fits : (v : ℕ → ℕ) (i : ℕ) → i < o .holders → sumTo (o .holders) (λ j. shares (netted lines) (loadBefore L term sink) v i j) ≤ v i
+  column-fits v i l = shares-fit (o .holders) (netted lines) (loadBefore L term sink) v i (fits i l)
+
+  -- a column that migrates where a test passes keeps its sum
+  pub column-kept : (t : Bool) (v : ℕ → ℕ) → sumTo (o .holders) (λ h. cond t (columnAfter o L term sink lines v h) (v h)) ≡ sumTo (o .holders) v
+  unfolding columnAfter
+  column-kept true v = shift-sum (o .holders) (shares (netted lines) (loadBefore L term sink) v) v (column-fits v)
+  column-kept false v = refl
+
+  -- and so does the load, of which m itself moves
+  pub load-kept : (t : Bool) (v : ℕ → ℕ) → ((h : ℕ) → t ≡ true → v h ≡ loadBefore L term sink h) → sumTo (o .holders) (λ h. cond t (shifted (o .holders) (netted lines) (loadBefore L term sink) h) (v h)) ≡ sumTo (o .holders) v
+  unfolding lostBy
+  load-kept true v same =
+      shift-sum (o .holders) (netted lines) (loadBefore L term sink) fits
+      ∙ sum-ext {f = loadBefore L term sink} {g = v} (o .holders) (λ h l. sym (same h refl))
+  load-kept false v same = refl

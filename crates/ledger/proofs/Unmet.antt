@@ -1,0 +1,61 @@
+-- A call that is accepted meets none of its causes: from the refusal 0 to the row, and from the row's test to its fact. Assumes nothing.
+use Prim.Native.Nat.{ℕ, suc, _≤_, _<_}
+use mathlib.Core.Path.{_≡_, refl}
+use mathlib.Core.Bool.{Bool, true, false, not, _&&_}
+use mathlib.Core.List.{List, _∷_}
+use native.Mathlib.Omega.{arith}
+use lib.Dec.{leb, ltb, eqb}
+use borrow.Author.Tests.{ltb-true, leb-true, eqb-true, eqb-false, not-true, not-false}
+use Rattle.tariff.specs.Terms.{isMonth}
+use Rattle.tariff.proofs.Tests.{and-both}
+use Rattle.ledger.specs.Opening.{Opening}
+use Rattle.ledger.specs.Ledger.{Ledger}
+use Rattle.ledger.specs.Call.{Call}
+use Rattle.ledger.specs.Numbers.{Cause, cause, firstMet}
+use Rattle.ledger.specs.Ranges.{within, wrongKw, wrongMonth, mostKw}
+use Rattle.ledger.specs.Calendar.{tierIsOpen, beforeTier}
+use Rattle.ledger.specs.Causes.{refusal, callCauses}
+use Rattle.ledger.specs.Season.{accepted}
+
+-- where no cause of a list is met, its first is not, and none of the later ones is
+pub unmet : (n : ℕ) (met : Bool) (later : List Cause) → firstMet (cause (suc n) met ∷ later) ≡ 0 → (met ≡ false) × (firstMet later ≡ 0)
+unfolding firstMet
+unmet n true later e = absurd (let z : ⊥ = omega (arith, e) in z)
+unmet n false later e = (refl, e)
+
+pub accepted-zero : (o : Opening) (L : Ledger) (c : Call) → accepted o L c ≡ true → firstMet (callCauses o L c) ≡ 0
+unfolding accepted refusal
+accepted-zero o L c e = eqb-true (firstMet (callCauses o L c)) 0 e
+
+pub is-within : (low high x : ℕ) → not (within low high x) ≡ false → (low ≤ x) × (x ≤ high)
+unfolding within
+is-within low high x e =
+    let both = and-both (leb low x) (leb x high) (not-false (leb low x && leb x high) e) in
+    (leb-true low x (both .0), leb-true x high (both .1))
+
+pub kw-in-range : (kw : ℕ) → wrongKw kw ≡ false → (1 ≤ kw) × (kw ≤ mostKw)
+unfolding wrongKw
+kw-in-range kw e = is-within 1 mostKw kw e
+
+pub is-month : (m : ℕ) → wrongMonth m ≡ false → (1 ≤ m) × (m ≤ 3)
+unfolding wrongMonth isMonth
+is-month m e =
+    let both = and-both (leb 1 m) (leb m 3) (not-false (leb 1 m && leb m 3) e) in
+    (leb-true 1 m (both .0), leb-true m 3 (both .1))
+
+-- a tier is open: the number of the open one is not 0
+pub open-number : (L : Ledger) → not (tierIsOpen L) ≡ false → 1 ≤ L .tiers .openNow
+unfolding tierIsOpen
+open-number L e =
+    let ne = eqb-false (L .tiers .openNow) 0 (not-true (eqb (L .tiers .openNow) 0) (not-false (not (eqb (L .tiers .openNow) 0)) e)) in
+    omega (arith, ne)
+
+pub none-open : (L : Ledger) → tierIsOpen L ≡ false → L .tiers .openNow ≡ 0
+unfolding tierIsOpen
+none-open L e = eqb-true (L .tiers .openNow) 0 (not-false (eqb (L .tiers .openNow) 0) e)
+
+pub before-tier : (tier : ℕ) (L : Ledger) → not (beforeTier tier L) ≡ false → (L .tiers .openNow ≡ 0) × (L .tiers .lastClosed < tier)
+unfolding beforeTier
+before-tier tier L e =
+    let both = and-both (not (tierIsOpen L)) (ltb (L .tiers .lastClosed) tier) (not-false (not (tierIsOpen L) && ltb (L .tiers .lastClosed) tier) e) in
+    (none-open L (not-true (tierIsOpen L) (both .0)), ltb-true (L .tiers .lastClosed) tier (both .1))

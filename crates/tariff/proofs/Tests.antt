@@ -1,0 +1,66 @@
+-- What the tests of the rules tell, taken apart and put together. Assumes nothing.
+use Prim.Native.Nat.{ℕ, _≤_, _<_}
+use mathlib.Core.Path.{_≡_, refl, sym, ap, _∙_}
+use mathlib.Core.Bool.{Bool, true, false, cond, not, _&&_, _||_}
+use mathlib.Core.List.{List, [], _∷_}
+use mathlib.Core.Logic.{_⊎_, inl, inr}
+use native.Mathlib.Nat.{not-suc-le-zero, le-refl}
+use native.Mathlib.Omega.{arith}
+use Prim.Native.Nat.{zero, suc}
+use Rattle.tariff.specs.Sum.{allBelow, anyBelow, anyOf}
+use Rattle.tariff.proofs.Sums.{below-suc}
+
+pub or-unmet : (a b : Bool) → (a || b) ≡ false → (a ≡ false) × (b ≡ false)
+or-unmet true b e = (e, absurd-path e)
+  where
+    absurd-path : true ≡ false → b ≡ false
+    absurd-path q = cc
+or-unmet false b e = (refl, e)
+
+pub and-both : (a b : Bool) → (a && b) ≡ true → (a ≡ true) × (b ≡ true)
+and-both true b e = (refl, e)
+and-both false b e = (e, absurd-path e)
+  where
+    absurd-path : false ≡ true → b ≡ true
+    absurd-path q = cc
+
+pub and-join : {a b : Bool} → a ≡ true → b ≡ true → (a && b) ≡ true
+and-join p q = rw (p, q)
+
+pub and-left-false : {a : Bool} (b : Bool) → a ≡ false → (a && b) ≡ false
+and-left-false b p = rw p
+
+pub and-right-false : (a : Bool) {b : Bool} → b ≡ false → (a && b) ≡ false
+and-right-false true p = p
+and-right-false false p = refl
+
+pub or-left-true : {a : Bool} (b : Bool) → a ≡ true → (a || b) ≡ true
+or-left-true b p = rw p
+
+-- a test is true or false
+pub decided : (t : Bool) → (t ≡ true) ⊎ (t ≡ false)
+decided true = inl refl
+decided false = inr refl
+
+pub both-ways : {t : Bool} → t ≡ true → t ≡ false → ⊥
+both-ways p q = let z : _≡_ {A = ℕ} 0 1 = cc in omega arith
+
+-- a test that every number below n passes is passed by each
+pub all-below : (n : ℕ) (test : ℕ → Bool) → allBelow n test ≡ true → (i : ℕ) → i < n → test i ≡ true
+unfolding allBelow
+all-below zero test e i h = absurd (not-suc-le-zero h)
+all-below (suc n) test e i h = go (below-suc h) (all-below n test (and-both (allBelow n test) (test n) e .0) i)
+  where
+    go : (i < n) ⊎ (i ≡ n) → (i < n → test i ≡ true) → test i ≡ true
+    go (inl l) ih = ih l
+    go (inr q) ih = ap test q ∙ and-both (allBelow n test) (test n) e .1
+
+-- a test that no number below n passes is failed by each
+pub none-below : (n : ℕ) (test : ℕ → Bool) → anyBelow n test ≡ false → (i : ℕ) → i < n → test i ≡ false
+unfolding anyBelow
+none-below zero test e i h = absurd (not-suc-le-zero h)
+none-below (suc n) test e i h = go (below-suc h) (none-below n test (or-unmet (anyBelow n test) (test n) e .0) i)
+  where
+    go : (i < n) ⊎ (i ≡ n) → (i < n → test i ≡ false) → test i ≡ false
+    go (inl l) ih = ih l
+    go (inr q) ih = ap test q ∙ or-unmet (anyBelow n test) (test n) e .1
