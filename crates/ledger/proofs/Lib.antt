@@ -5,3 +5,8 @@ pub mod TierFacts
 pub mod Steps
 pub mod Columns
 pub mod Conserved
+pub mod TiersSound
+pub mod Settled
+pub mod AtBase
+pub mod WithinLimit
+pub mod Nominations

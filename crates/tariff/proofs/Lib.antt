@@ -2,3 +2,4 @@ pub mod RuledOut
 pub mod Sums
 pub mod Shifts
 pub mod Tests
+pub mod Limits

@@ -1,0 +1,107 @@
+-- Laws of the limit by tier: it is at most the load, it reads only earlier tiers, and the tariff's 50% cap is never the tighter one. Assumes nothing.
+use Prim.Native.Nat.{ℕ, suc, _+_, _*_, _-_, _/_, _%_, _≤_, _<_, min}
+use mathlib.Core.Path.{_≡_, refl, sym, ap, ap₂, _∙_, subst}
+use mathlib.Core.Bool.{Bool, true, false, cond}
+use native.Mathlib.Nat.{le-trans, min-le-left, sub-le}
+use native.Mathlib.Omega.{arith}
+use lib.Dec.{leb, eqb}
+use borrow.Author.Tests.{eqb-true, eqb-false, ne-eqb, leb-true, leb-false, lt-leb}
+use Rattle.tariff.specs.Eligible.{seasonalEligible, priorityEligible}
+use Rattle.tariff.specs.Limit.{Sums, limitTier1, limitTier2, limitTier3, limitEvenTier, limitOddTier, limit}
+
+pub seasonal-le : (load : ℕ) → seasonalEligible load ≤ load
+unfolding seasonalEligible
+seasonal-le load = omega arith
+
+pub priority-le : (load : ℕ) → priorityEligible load ≤ load
+unfolding priorityEligible seasonalEligible
+priority-le load = omega arith
+
+-- P is never above half the load, so a cap of half the load is never the tighter one
+pub half-load-never-tighter : (load : ℕ) → priorityEligible load ≤ load / 2
+unfolding priorityEligible seasonalEligible
+half-load-never-tighter load = omega arith
+
+-- the limit by the tier's number, one law to a formula
+pub limit-one : (s : Sums) → limit 1 s ≡ limitTier1 s
+unfolding limit
+limit-one s = refl
+
+pub limit-two : (s : Sums) → limit 2 s ≡ limitTier2 s
+unfolding limit
+limit-two s = refl
+
+pub limit-three : (s : Sums) → limit 3 s ≡ limitTier3 s
+unfolding limit
+limit-three s = refl
+
+pub limit-even : (tier : ℕ) (s : Sums) → 3 < tier → eqb (tier % 2) 0 ≡ true → limit tier s ≡ limitEvenTier s
+unfolding limit
+limit-even tier s l e = rw (ne-eqb tier 1 (λ q. omega (arith, q)), lt-leb tier 3 l, e)
+
+pub limit-odd : (tier : ℕ) (s : Sums) → 3 < tier → eqb (tier % 2) 0 ≡ false → limit tier s ≡ limitOddTier s
+unfolding limit
+limit-odd tier s l e = rw (ne-eqb tier 1 (λ q. omega (arith, q)), lt-leb tier 3 l, e)
+
+-- which formula a tier has
+pub data TierCase : ℕ → Type 0 where
+  first : TierCase 1
+  second : TierCase 2
+  third : TierCase 3
+  even : (tier : ℕ) → 3 < tier → eqb (tier % 2) 0 ≡ true → TierCase tier
+  odd : (tier : ℕ) → 3 < tier → eqb (tier % 2) 0 ≡ false → TierCase tier
+
+pub tier-case : (tier : ℕ) → 1 ≤ tier → TierCase tier
+tier-case tier low = by-three (leb tier 3) refl
+  where
+    above : 3 < tier → (b : Bool) → eqb (tier % 2) 0 ≡ b → TierCase tier
+    above l true e = even tier l e
+    above l false e = odd tier l e
+
+    at-two : tier ≤ 3 → (tier ≡ 1 → ⊥) → (b : Bool) → eqb tier 2 ≡ b → TierCase tier
+    at-two l ne true e = subst TierCase (sym (eqb-true tier 2 e)) second
+    at-two l ne false e = subst TierCase (let n2 = eqb-false tier 2 e in omega (arith, ne, n2)) third
+
+    at-one : tier ≤ 3 → (b : Bool) → eqb tier 1 ≡ b → TierCase tier
+    at-one l true e = subst TierCase (sym (eqb-true tier 1 e)) first
+    at-one l false e = at-two l (eqb-false tier 1 e) (eqb tier 2) refl
+
+    by-three : (b : Bool) → leb tier 3 ≡ b → TierCase tier
+    by-three true e = at-one (leb-true tier 3 e) (eqb tier 1) refl
+    by-three false e = above (leb-false tier 3 e) (eqb (tier % 2) 0) refl
+
+-- a limit is at most the load
+pub limit-le-load : (tier : ℕ) (s : Sums) → 1 ≤ tier → limit tier s ≤ s .load
+unfolding limitTier1 limitTier2 limitTier3 limitEvenTier limitOddTier
+limit-le-load tier s low = let seasonal = seasonal-le (s .load) in let priority = priority-le (s .load) in go seasonal priority (tier-case tier low)
+  where
+    go : {n : ℕ} → seasonalEligible (s .load) ≤ s .load → priorityEligible (s .load) ≤ s .load → TierCase n → limit n s ≤ s .load
+    go seasonal priority first = rw (limit-one s) (omega arith)
+    go seasonal priority second = rw (limit-two s) (omega arith)
+    go seasonal priority third = rw (limit-three s) (omega arith)
+    go seasonal priority (even tier l e) = rw (limit-even tier s l e) (omega arith)
+    go seasonal priority (odd tier l e) = rw (limit-odd tier s l e) (omega arith)
+
+-- the same sums, as far as a tier's limit reads them: awards of earlier tiers only
+pub record SameBefore (tier : ℕ) (s u : Sums) : Type 0 where
+  pub load : s .load ≡ u .load
+  pub longTerm : s .longTerm ≡ u .longTerm
+  pub priorYear : s .priorYear ≡ u .priorYear
+  pub tier1 : 1 < tier → s .tier1 ≡ u .tier1
+  pub tier2 : 2 < tier → s .tier2 ≡ u .tier2
+  pub tier3 : 3 < tier → s .tier3 ≡ u .tier3
+  pub before : s .before ≡ u .before
+
+-- a tier's limit rests on earlier tiers alone
+pub limit-reads-before : (tier : ℕ) (s u : Sums) → 1 ≤ tier → SameBefore tier s u → limit tier s ≡ limit tier u
+unfolding limitTier1 limitTier2 limitTier3 limitEvenTier limitOddTier
+limit-reads-before tier s u low same = go (tier-case tier low) same
+  where
+    go : {n : ℕ} → TierCase n → SameBefore n s u → limit n s ≡ limit n u
+    go first k = let p = ap priorityEligible (k .load) in rw (limit-one s, limit-one u) (omega arith)
+    go second k = let p = ap priorityEligible (k .load) in rw (limit-two s, limit-two u) (omega (arith, k .tier1 (omega arith)))
+    go third k =
+        let p = ap seasonalEligible (k .load) in
+        rw (limit-three s, limit-three u) (omega (arith, k .tier1 (omega arith), k .tier2 (omega arith)))
+    go (even tier l e) k = rw (limit-even tier s l e, limit-even tier u l e) (omega (arith, k .tier1 (omega arith), k .tier2 (omega arith), k .tier3 l))
+    go (odd tier l e) k = rw (limit-odd tier s l e, limit-odd tier u l e) (omega (arith, k .tier1 (omega arith), k .tier2 (omega arith), k .tier3 l))
