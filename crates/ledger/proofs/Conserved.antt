@@ -36,14 +36,14 @@ unfoldable pub loadSum : Opening → ℕ → ℕ → Ledger → ℕ
 loadSum o s t L = sumTo (o .holders) (λ h. L .loads .kw h s t)
 
 -- kw added for one holder and path in the months of a term
-in-term : (o : Opening) (term x q kw : ℕ) (f : ℕ → ℕ → ℕ → ℕ) (p m : ℕ) → x < o .holders → sumTo (o .holders) (λ h. plusInTerm term x q kw f h p m) ≡ sumTo (o .holders) (λ h. f h p m) + countIf (eqb p q && hasMonth term m) kw
+pub in-term : (o : Opening) (term x q kw : ℕ) (f : ℕ → ℕ → ℕ → ℕ) (p m : ℕ) → x < o .holders → sumTo (o .holders) (λ h. plusInTerm term x q kw f h p m) ≡ sumTo (o .holders) (λ h. f h p m) + countIf (eqb p q && hasMonth term m) kw
 unfolding plusInTerm same2
 in-term o term x q kw f p m l =
     sum-ext {f = λ h. f h p m + countIf (eqb h x && eqb p q && hasMonth term m) kw} {g = λ h. f h p m + countIf (eqb h x && (eqb p q && hasMonth term m)) kw} (o .holders) (λ h i. ap (λ b. f h p m + countIf b kw) (and-assoc (eqb h x) (eqb p q) (hasMonth term m)))
     ∙ column-plus (λ h. f h p m) (o .holders) x (eqb p q && hasMonth term m) kw l
 
 -- kw added in one place
-in-place : (o : Opening) (x q term kw : ℕ) (f : ℕ → ℕ → ℕ → ℕ) (s t : ℕ) → x < o .holders → sumTo (o .holders) (λ h. plusAt3 x q term kw f h s t) ≡ sumTo (o .holders) (λ h. f h s t) + countIf (eqb s q && eqb t term) kw
+pub in-place : (o : Opening) (x q term kw : ℕ) (f : ℕ → ℕ → ℕ → ℕ) (s t : ℕ) → x < o .holders → sumTo (o .holders) (λ h. plusAt3 x q term kw f h s t) ≡ sumTo (o .holders) (λ h. f h s t) + countIf (eqb s q && eqb t term) kw
 unfolding plusAt3 same3
 in-place o x q term kw f s t l =
     sum-ext {f = λ h. f h s t + countIf (eqb h x && eqb s q && eqb t term) kw} {g = λ h. f h s t + countIf (eqb h x && (eqb s q && eqb t term)) kw} (o .holders) (λ h i. ap (λ b. f h s t + countIf b kw) (and-assoc (eqb h x) (eqb s q) (eqb t term)))
@@ -55,7 +55,7 @@ unfolding after
 from-empty figure amount o adds none cs = let all = list-adds figure amount o adds emptyLedger cs in omega arith
 
 module _ (o : Opening) (p m : ℕ) where
-  awarded-adds : Adds (awardedSum o p m) (awardedBy p m) o
+  pub awarded-adds : Adds (awardedSum o p m) (awardedBy p m) o
   unfolding awardedSum awardedBy effect withLoads withRights withPriors withPapers withTiers migrated rightsAfter afterCarry holdingsAfter
   awarded-adds L (load h s term contract n blocks) e = omega arith
   awarded-adds L (carry h q kw) e = omega arith
@@ -74,7 +74,7 @@ module _ (o : Opening) (p m : ℕ) where
   unfolding awardedIn awardedSum emptyLedger
   awarded-conserved = from-empty (awardedSum o p m) (awardedBy p m) o awarded-adds (sum-zero (o .holders) (λ h l. refl))
 
-  carried-adds : isMonth m ≡ true → Adds (carriedSum o p m) (carriedBy p) o
+  pub carried-adds : isMonth m ≡ true → Adds (carriedSum o p m) (carriedBy p) o
   unfolding carriedSum carriedBy effect withLoads withRights withPriors withPapers withTiers migrated rightsAfter afterCarry holdingsAfter hasMonth
   carried-adds month L (load h s term contract n blocks) e = omega arith
   carried-adds month L (carry h q kw) e =
@@ -103,7 +103,7 @@ module _ (o : Opening) (p m : ℕ) where
       ∙ ap₂ (λ a b. a + b) (carried-conserved month cs) (awarded-conserved cs)
 
 module _ (o : Opening) (s t : ℕ) where
-  load-adds : Adds (loadSum o s t) (postedBy s t) o
+  pub load-adds : Adds (loadSum o s t) (postedBy s t) o
   unfolding loadSum postedBy effect withLoads withRights withPriors withPapers withTiers migrated loadsAfter afterLoad loadBefore
   load-adds L (load h q term contract n blocks) e = in-place o h q term (loadPosted contract blocks) (L .loads .kw) s t (load-facts o L h q term contract n blocks e .holder)
   load-adds L (carry h q kw) e = omega arith

@@ -10,3 +10,10 @@ pub mod Settled
 pub mod AtBase
 pub mod WithinLimit
 pub mod Nominations
+pub mod Once
+pub mod PostedOnce
+pub mod TierBounds
+pub mod PaperBounds
+pub mod NeverBelowZero
+pub mod Bounds
+pub mod SumBounds

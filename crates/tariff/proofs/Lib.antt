@@ -3,3 +3,5 @@ pub mod Sums
 pub mod Shifts
 pub mod Tests
 pub mod Limits
+pub mod Metric
+pub mod EvidenceBounds

@@ -1,0 +1,44 @@
+-- Every entry of evidence in a ledger that calls lead to has its numbers in range. Assumes nothing.
+use Prim.Native.Nat.{ℕ}
+use mathlib.Core.Path.{_≡_}
+use mathlib.Core.Bool.{Bool, true, false, cond}
+use mathlib.Core.List.{List}
+use Rattle.tariff.specs.declared.Entry.{Entry}
+use Rattle.tariff.specs.Evidence.{noEntry, evidenceOf}
+use Rattle.tariff.proofs.EvidenceBounds.{InRange, filed-in-range}
+use Rattle.ledger.specs.Opening.{Opening}
+use Rattle.ledger.specs.Ledger.{Ledger, Papers, emptyLedger, withLoads, withRights, withPriors, withPapers, withTiers}
+use Rattle.ledger.specs.Call.{Call, load, carry, prior, verify, migrate, openTier, nominate, award, closeTier}
+use Rattle.ledger.specs.Moves.{migrated}
+use Rattle.ledger.specs.Ranges.{mostKw}
+use Rattle.ledger.specs.Effects.{same3, afterVerify, effect}
+use Rattle.ledger.specs.Season.{accepted, step, after}
+use Rattle.ledger.proofs.Steps.{step-keeps, after-keeps}
+use Rattle.ledger.proofs.PostingFacts.{verify-facts}
+
+abbrev pub PapersInRange : Papers → Type 0
+PapersInRange P = (h s kind : ℕ) → InRange mostKw (P .entry h s kind .evidence)
+
+papers-effect : (o : Opening) (L : Ledger) (c : Call) → PapersInRange (L .papers) → accepted o L c ≡ true → PapersInRange (effect o L c .papers)
+unfolding effect withLoads withRights withPriors withPapers withTiers migrated afterVerify
+papers-effect o L (load h s term contract n blocks) k e = k
+papers-effect o L (carry h p kw) k e = k
+papers-effect o L (prior h p a l) k e = k
+papers-effect o L (verify x q kind capacity right first last) k e = λ h s j. go h s j (same3 x q kind h s j)
+  where
+    filed : Entry
+    filed = record { evidence = evidenceOf kind capacity right; first = first; last = last }
+
+    go : (h s j : ℕ) (here : Bool) → InRange mostKw (cond here filed (L .papers .entry h s j) .evidence)
+    go h s j true = let f = verify-facts o L x q kind capacity right first last e in filed-in-range mostKw kind capacity right (f .high) (f .rights .1)
+    go h s j false = k h s j
+papers-effect o L (migrate term sink lines) k e = k
+papers-effect o L (openTier tier) k e = k
+papers-effect o L (nominate h p kw) k e = k
+papers-effect o L (award h p kw) k e = k
+papers-effect o L closeTier k e = k
+
+-- it holds after every list of calls
+pub papers-in-range : (o : Opening) (cs : List Call) → PapersInRange (after o cs .papers)
+unfolding emptyLedger noEntry
+papers-in-range o cs = after-keeps (λ l. PapersInRange (l .papers)) o (λ L c k. step-keeps (λ l. PapersInRange (l .papers)) o L c k (papers-effect o L c k)) (λ h s kind. tt) cs

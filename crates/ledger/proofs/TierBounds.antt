@@ -1,0 +1,167 @@
+-- Nominations and awards are bounded in every ledger that calls lead to, by the loads that their limits come from. Assumes nothing.
+use Prim.Native.Nat.{ℕ, suc, _+_, _*_, _≤_, _<_, zero-le}
+use mathlib.Core.Path.{_≡_, refl, sym, ap, _∙_, subst}
+use mathlib.Core.Bool.{Bool, true, false, cond, _&&_, and-comm}
+use mathlib.Core.List.{List}
+use native.Mathlib.Nat.{le-refl, le-trans, le-of-eq, add-le-add}
+use native.Mathlib.Omega.{arith}
+use lib.Dec.{eqb}
+use borrow.Author.Tests.{eqb-true, eqb-false, eq-eqb}
+use Rattle.tariff.specs.Sum.{countIf, sumTo}
+use Rattle.tariff.specs.Terms.{termOf, hasMonth}
+use Rattle.tariff.proofs.Sums.{count-true, count-false, count-le, count-zero, sum-ext, sum-le, sum-zero, sum-add, sum-bound, term-le-sum}
+use Rattle.tariff.proofs.Tests.{and-both, decided}
+use Rattle.tariff.proofs.Limits.{limit-le-load}
+use Rattle.ledger.specs.Opening.{Opening, endsAt, pathBase}
+use Rattle.ledger.specs.Ledger.{Ledger, emptyLedger, withLoads, withRights, withPriors, withPapers, withTiers}
+use Rattle.ledger.specs.Call.{Call, load, carry, prior, verify, migrate, openTier, nominate, award, closeTier}
+use Rattle.ledger.specs.Limits.{sumAtBase, nominatedAt, limitSums, tierLimit}
+use Rattle.ledger.specs.Moves.{migrated}
+use Rattle.ledger.specs.Ranges.{mostKw}
+use Rattle.ledger.specs.Effects.{plusAt3, afterOpen, afterNominate, awardsAfter, afterClose, effect}
+use Rattle.ledger.specs.Season.{accepted, step, after}
+use Rattle.ledger.specs.Totals.{awardedBy}
+use Rattle.ledger.proofs.Steps.{step-keeps, after-keeps}
+use Rattle.ledger.proofs.Columns.{column-plus}
+use Rattle.ledger.proofs.Conserved.{in-place, awardedSum, awarded-adds}
+use Rattle.ledger.proofs.TierFacts.{nominate-facts, award-facts}
+use Rattle.ledger.proofs.TiersSound.{TiersSound, sound-step, sound-empty}
+use Rattle.ledger.proofs.AtBase.{base-other}
+use Rattle.ledger.proofs.WithinLimit.{WithinLimit, within-effect, within-step}
+use Rattle.ledger.proofs.Once.{once-bound}
+use Rattle.ledger.proofs.PostedOnce.{PostedOnce, once-effect, once-step, once-empty}
+
+-- per base and tier, what all holders nominate
+unfoldable pub nominatedSum : Opening → Ledger → ℕ → ℕ → ℕ
+nominatedSum o L b t = sumTo (o .holders) (λ h. nominatedAt o L h b t)
+
+-- per base and tier: at most the most kW for each holder
+abbrev pub NominatedBound : Opening → Ledger → Type 0
+NominatedBound o L = (b t : ℕ) → nominatedSum o L b t ≤ o .holders * mostKw
+
+tier-limit-le-load : (o : Opening) (L : Ledger) (t h b : ℕ) → 1 ≤ t → tierLimit o L t h b ≤ L .loads .kw h b (termOf t)
+unfolding tierLimit limitSums
+tier-limit-le-load o L t h b l = limit-le-load t (limitSums o L t h b) l
+
+-- in an open tier nominations are within limits, those within loads, and those are bounded
+open-bound : (o : Opening) (L : Ledger) (b : ℕ) → WithinLimit o L → PostedOnce o L → 1 ≤ L .tiers .openNow → nominatedSum o L b (L .tiers .openNow) ≤ o .holders * mostKw
+unfolding nominatedSum
+open-bound o L b w k isOpen =
+    let t = L .tiers .openNow in
+    le-trans (sum-le (o .holders) (λ h l. le-trans (w isOpen h b) (tier-limit-le-load o L t h b isOpen)))
+    (once-bound (o .holders) (λ h. L .loads .kw h b (termOf t)) (λ h. L .loads .posted h b (termOf t)) (k .loadColumn b (termOf t)))
+
+nominate-bound : (o : Opening) (L : Ledger) (x q kw : ℕ) → TiersSound (L .tiers) → WithinLimit o L → PostedOnce o L → NominatedBound o L → accepted o L (nominate x q kw) ≡ true → NominatedBound o (effect o L (nominate x q kw))
+unfolding effect withTiers afterNominate nominatedSum nominatedAt
+nominate-bound o L x q kw k w one old e b t = go (eqb t (L .tiers .openNow)) refl
+  where
+    c : Call
+    c = nominate x q kw
+
+    go : (d : Bool) → eqb t (L .tiers .openNow) ≡ d → nominatedSum o (effect o L c) b t ≤ o .holders * mostKw
+    go true d =
+        subst (λ n. nominatedSum o (effect o L c) b n ≤ o .holders * mostKw) (sym (eqb-true t (L .tiers .openNow) d))
+        (open-bound o (effect o L c) b (within-effect o L c k w e) (once-effect o L c one e) (nominate-facts o L x q kw e .isOpen))
+    go false d =
+        le-trans
+        (le-of-eq
+        (sum-ext {f = λ h. nominatedAt o (effect o L c) h b t} {g = λ h. nominatedAt o L h b t} (o .holders) (λ h l. base-other o b x q (L .tiers .openNow) kw h t (L .tiers .nominated) (eqb-false t (L .tiers .openNow) d))))
+        (old b t)
+
+-- a close only lowers nominations
+close-bound : (o : Opening) (L : Ledger) → TiersSound (L .tiers) → NominatedBound o L → NominatedBound o (effect o L closeTier)
+unfolding effect withTiers afterClose nominatedSum nominatedAt sumAtBase countIf
+close-bound o L k old b t =
+    le-trans (sum-le (o .holders) (λ h l. sum-le (o .paths) (λ p m. lower (endsAt o b p) h p (eqb t (L .tiers .openNow))))) (old b t)
+  where
+    lower : (there : Bool) (h p : ℕ) (d : Bool) → countIf there (cond d (L .tiers .awards h p t) (L .tiers .nominated h p t)) ≤ countIf there (L .tiers .nominated h p t)
+    lower true h p true = k .awardsWithin h p t
+    lower true h p false = le-refl (L .tiers .nominated h p t)
+    lower false h p d = le-refl 0
+
+nominated-effect : (o : Opening) (L : Ledger) (c : Call) → TiersSound (L .tiers) → WithinLimit o L → PostedOnce o L → NominatedBound o L → accepted o L c ≡ true → NominatedBound o (effect o L c)
+unfolding effect withLoads withRights withPriors withPapers withTiers migrated afterOpen awardsAfter nominatedSum nominatedAt
+nominated-effect o L (load h s term contract n blocks) k w one old e = old
+nominated-effect o L (carry h p kw) k w one old e = old
+nominated-effect o L (prior h p a l) k w one old e = old
+nominated-effect o L (verify h s kind capacity right first last) k w one old e = old
+nominated-effect o L (migrate term sink lines) k w one old e = old
+nominated-effect o L (openTier tier) k w one old e = old
+nominated-effect o L (nominate h p kw) k w one old e = nominate-bound o L h p kw k w one old e
+nominated-effect o L (award h p kw) k w one old e = old
+nominated-effect o L closeTier k w one old e = close-bound o L k old
+
+-- per path, the awards of all holders in all tiers
+unfoldable pub awardsSum : Opening → Ledger → ℕ → ℕ
+awardsSum o L p = sumTo 10 (λ t. sumTo (o .holders) (λ h. L .tiers .awards h p t))
+
+-- the awarded holdings are no more than the awards that they came from
+abbrev pub AwardedBound : Opening → Ledger → Type 0
+AwardedBound o L = (p m : ℕ) → awardedSum o p m L ≤ awardsSum o L p
+
+awards-grow : (o : Opening) (L : Ledger) (x q kw p : ℕ) → TiersSound (L .tiers) → accepted o L (award x q kw) ≡ true → awardsSum o (effect o L (award x q kw)) p ≡ awardsSum o L p + countIf (eqb p q) kw
+unfolding awardsSum effect withTiers withRights awardsAfter
+awards-grow o L x q kw p s e =
+    let k = L .tiers .openNow in
+    let f = L .tiers .awards in
+    let last : k ≤ 9 = s .openLast in
+    sum-ext {f = λ t. sumTo (o .holders) (λ h. plusAt3 x q k kw f h p t)} {g = λ t. sumTo (o .holders) (λ h. f h p t) + countIf (eqb t k && eqb p q) kw} 10 (λ t l. in-place o x q k kw f p t (award-facts o L x q kw e .holder) ∙ ap (λ b. sumTo (o .holders) (λ h. f h p t) + countIf b kw) (and-comm (eqb p q) (eqb t k)))
+    ∙ column-plus (λ t. sumTo (o .holders) (λ h. f h p t)) 10 k (eqb p q) kw (omega arith)
+
+award-bound : (o : Opening) (L : Ledger) (x q kw : ℕ) → TiersSound (L .tiers) → AwardedBound o L → accepted o L (award x q kw) ≡ true → AwardedBound o (effect o L (award x q kw))
+unfolding awardedBy
+award-bound o L x q kw k old e p m =
+    let grown = awarded-adds o p m L (award x q kw) e in
+    let more = awards-grow o L x q kw p k e in
+    let before = old p m in
+    let less = part (eqb p q) (hasMonth (termOf (L .tiers .openNow)) m) in
+    omega arith
+  where
+    part : (a b : Bool) → countIf (a && b) kw ≤ countIf a kw
+    part true b = le-trans (count-le b kw) (le-of-eq (sym (count-true kw refl)))
+    part false b = le-refl (countIf false kw)
+
+awarded-effect : (o : Opening) (L : Ledger) (c : Call) → TiersSound (L .tiers) → AwardedBound o L → accepted o L c ≡ true → AwardedBound o (effect o L c)
+unfolding effect withLoads withRights withPriors withPapers withTiers migrated afterOpen afterNominate afterClose awardsSum awardedBy
+awarded-effect o L (load h s term contract n blocks) k old e p m = let a = awarded-adds o p m L (load h s term contract n blocks) e in let b = old p m in omega arith
+awarded-effect o L (carry h q kw) k old e p m = let a = awarded-adds o p m L (carry h q kw) e in let b = old p m in omega arith
+awarded-effect o L (prior h q a l) k old e p m = let a = awarded-adds o p m L (prior h q a l) e in let b = old p m in omega arith
+awarded-effect o L (verify h s kind capacity right first last) k old e p m = let a = awarded-adds o p m L (verify h s kind capacity right first last) e in let b = old p m in omega arith
+awarded-effect o L (migrate term sink lines) k old e p m = let a = awarded-adds o p m L (migrate term sink lines) e in let b = old p m in omega arith
+awarded-effect o L (openTier tier) k old e p m = let a = awarded-adds o p m L (openTier tier) e in let b = old p m in omega arith
+awarded-effect o L (nominate h q kw) k old e p m = let a = awarded-adds o p m L (nominate h q kw) e in let b = old p m in omega arith
+awarded-effect o L (award h q kw) k old e p m = award-bound o L h q kw k old e p m
+awarded-effect o L closeTier k old e p m = let a = awarded-adds o p m L closeTier e in let b = old p m in omega arith
+
+-- all that is known of a ledger that calls lead to, as far as the bounds need it
+pub record Bounded (o : Opening) (L : Ledger) : Type 0 where
+  pub sound : TiersSound (L .tiers)
+  pub within : WithinLimit o L
+  pub once : PostedOnce o L
+  pub nominations : NominatedBound o L
+  pub awards : AwardedBound o L
+
+bounded-step : (o : Opening) (L : Ledger) (c : Call) → Bounded o L → Bounded o (step o L c)
+bounded-step o L c k =
+    record {
+      sound = sound-step o L c (k .sound);
+      within = within-step o L c (k .sound) (k .within);
+      once = once-step o L c (k .once);
+      nominations = step-keeps (NominatedBound o) o L c (k .nominations) (nominated-effect o L c (k .sound) (k .within) (k .once) (k .nominations));
+      awards = step-keeps (AwardedBound o) o L c (k .awards) (awarded-effect o L c (k .sound) (k .awards));
+    }
+
+bounded-empty : (o : Opening) → Bounded o emptyLedger
+unfolding emptyLedger nominatedSum nominatedAt sumAtBase awardedSum
+bounded-empty o =
+    record {
+      sound = sound-empty;
+      within = λ isOpen. absurd (let z : ⊥ = omega arith in z);
+      once = once-empty o;
+      nominations = λ b t. le-trans (le-of-eq (sum-zero (o .holders) (λ h l. sum-zero (o .paths) (λ p i. count-zero (endsAt o b p))))) zero-le;
+      awards = λ p m. le-trans (le-of-eq (sum-zero (o .holders) (λ h l. refl))) zero-le;
+    }
+
+-- it holds after every list of calls
+pub bounded : (o : Opening) (cs : List Call) → Bounded o (after o cs)
+bounded o cs = after-keeps (Bounded o) o (bounded-step o) (bounded-empty o) cs
