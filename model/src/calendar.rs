@@ -1,0 +1,34 @@
+//! The calendar: which term a tier serves and what runs before it opens.
+
+use crate::book::Book;
+
+/// The term of tiers 1 to 9: three for the season, then two for each month.
+pub(crate) fn term_of(tier: u64) -> usize {
+    const TERMS_OF_TIERS: [usize; 9] = [0, 0, 0, 1, 1, 2, 2, 3, 3];
+    TERMS_OF_TIERS[tier as usize - 1]
+}
+
+/// The first tier of a term: 1 for the season, 2k + 2 for month k.
+pub(crate) fn first_tier_of(term: u64) -> u64 {
+    match term {
+        0 => 1,
+        month => 2 * month + 2,
+    }
+}
+
+/// A tier that is still to come: it was never opened. An open tier, whichever
+/// it is, lets no posting and no migration through, so that is no time either.
+pub(crate) fn is_before(book: &Book, tier: u64) -> bool {
+    book.open_tier.is_none() && book.last_closed < tier
+}
+
+/// Posting of load: before the first tier of its term opens.
+pub(crate) fn load_in_time(book: &Book, term: u64) -> bool {
+    is_before(book, first_tier_of(term))
+}
+
+/// Migration: the season's before tier 1 opens; a month's between the close of
+/// tier 3 and the opening of the month's first tier.
+pub(crate) fn migration_in_time(book: &Book, term: u64) -> bool {
+    is_before(book, first_tier_of(term)) && (term == 0 || book.last_closed >= 3)
+}

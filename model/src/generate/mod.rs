@@ -1,0 +1,60 @@
+//! Whole seasons, and damaged ones, from a seed.
+//!
+//! A season is written call by call beside a book of its own, so that
+//! nominations can go right up to the limit and migrations right up to the
+//! load. The same seed always gives the same script.
+
+mod damage;
+mod draft;
+mod faults;
+mod moves;
+mod openings;
+mod posting;
+mod random;
+mod tiers;
+mod writer;
+
+pub use damage::damaged;
+pub use random::Random;
+
+use crate::book::Book;
+use writer::Writer;
+
+/// A whole season: an opening, postings, nine tiers with migrations between
+/// them, queries, and faulty calls here and there.
+///
+/// Now and then the opening breaks the rules or cannot be read, and now and
+/// then the season ends before tier 9.
+pub fn season(seed: u64) -> Vec<u8> {
+    let mut random = Random::new(seed);
+    let opening = openings::opening(&mut random);
+    let mut text = openings::text(&opening);
+    if random.one_in(120) {
+        faults::mangle_one_line(&mut random, &mut text);
+        text.push_str("close\nnet,0,1\n");
+        return text.into_bytes();
+    }
+    match Book::open(&opening) {
+        Ok(book) => write_season(Writer::new(random, book, text)),
+        Err(_) => {
+            // No line after a refused book group is answered.
+            text.push_str("open,1\nclose\n");
+            text.into_bytes()
+        }
+    }
+}
+
+fn write_season(mut writer: Writer) -> Vec<u8> {
+    let last = match writer.random.one_in(12) {
+        true => writer.random.up_to(9),
+        false => 9,
+    };
+    let mut later = posting::plan(&mut writer);
+    for tier in 1..=last {
+        posting::before_tier(&mut writer, tier, &mut later);
+        moves::before_tier(&mut writer, tier);
+        tiers::hold(&mut writer, tier);
+    }
+    faults::tail(&mut writer);
+    writer.text.into_bytes()
+}

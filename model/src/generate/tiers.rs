@@ -1,0 +1,91 @@
+//! Tiers: nominations at the limit, one above it and below, and awards.
+
+use super::draft::Draft;
+use super::faults;
+use super::writer::Writer;
+use crate::sizes::MOST_KW;
+use crate::tiers::{limit_room, prior_room, verified_room};
+
+/// Opens a tier, nominates, awards, asks and closes it.
+pub(crate) fn hold(writer: &mut Writer, tier: u64) {
+    writer.say_surely("open", &[tier]);
+    let mut pairs = writer.fitting_paths();
+    pairs.truncate(4 + writer.random.below(14));
+    for (holder, path) in pairs {
+        while nominate(writer, holder, path, tier) && writer.random.one_in(3) {}
+        if writer.random.one_in(3) {
+            award(writer, holder, path, tier);
+        }
+        if writer.random.one_in(12) {
+            faults::fault(writer);
+        }
+        if writer.random.one_in(6) {
+            query(writer);
+        }
+    }
+    for (holder, path) in writer.fitting_paths() {
+        if writer.random.percent(65) {
+            award(writer, holder, path, tier);
+        }
+    }
+    writer.say_surely("close", &[]);
+}
+
+/// A nomination, most often at one of the bounds it has to keep. Where there
+/// is no room at all most are left out.
+fn nominate(writer: &mut Writer, holder: usize, path: usize, tier: u64) -> bool {
+    let rooms = [
+        verified_room(&writer.book, holder, path, tier),
+        prior_room(&writer.book, holder, path, tier),
+        limit_room(&writer.book, holder, path, tier),
+    ];
+    let room = rooms[0].min(rooms[1]).min(rooms[2]);
+    if room == 0 && writer.random.percent(92) {
+        return false;
+    }
+    let kw = match writer.random.up_to(9) {
+        0..=3 => room,
+        4 => room.saturating_add(1),
+        5 => writer.random.pick(&rooms).saturating_add(1),
+        6 => writer.random.pick(&rooms),
+        _ => writer.random.up_to(room),
+    };
+    let fields = [holder as u64, path as u64, kw.clamp(1, MOST_KW)];
+    writer.say(&Draft::line("nominate", &fields))
+}
+
+/// An award of what is left, of a part of it, or of one more.
+fn award(writer: &mut Writer, holder: usize, path: usize, tier: u64) {
+    let index = tier as usize - 1;
+    let nominated = writer.book.nominated[holder][path][index];
+    let left = nominated - writer.book.tier_awards[holder][path][index];
+    if left == 0 && writer.random.percent(99) {
+        return;
+    }
+    let kw = match writer.random.up_to(9) {
+        0..=4 => left,
+        5 => left + 1,
+        _ => writer.random.up_to(left),
+    };
+    let fields = [holder as u64, path as u64, kw.clamp(1, MOST_KW)];
+    writer.say(&Draft::line("award", &fields));
+}
+
+/// Any of the three queries; the limit mostly while a tier is open.
+pub(crate) fn query(writer: &mut Writer) {
+    let book = &writer.book;
+    if book.holders == 0 || book.paths == 0 {
+        return;
+    }
+    let random = &mut writer.random;
+    let holder = random.below(book.holders) as u64;
+    let sink = random.below(book.sinks) as u64;
+    let path = random.below(book.paths) as u64;
+    let month = random.between(1, 3);
+    let draft = match random.up_to(2) {
+        0 if book.open_tier.is_some() || random.one_in(5) => Draft::line("limit", &[holder, sink]),
+        1 => Draft::line("held", &[holder, path, month]),
+        _ => Draft::line("net", &[path, month]),
+    };
+    writer.say(&draft);
+}

@@ -1,0 +1,37 @@
+//! Reference model of the season book: load, tiers, awards and migration of
+//! congestion revenue rights for one season of three months.
+//!
+//! The model says what the product paper says, one idea a file, and is meant
+//! to be read beside it:
+//!
+//! - [`Opening`] and [`Book::open`]: the book and its sizes;
+//! - [`Book::call`]: the nine calls; [`Book::query`]: the three queries;
+//! - [`refusals`]: the sixteen causes, looked for in ascending number;
+//! - [`run`] and [`answers`]: scripts, groups, answers, and the host's number;
+//! - [`generate`]: whole seasons, and damaged ones, from a seed.
+//!
+//! Numbers are `u64`. Every field is held to its range before it is reckoned
+//! with, so that no value at all can overflow.
+
+mod book;
+mod calendar;
+mod calls;
+mod evidence;
+pub mod generate;
+mod limit;
+mod load;
+mod migration;
+pub mod opening;
+mod queries;
+pub mod refusals;
+mod rights;
+mod run;
+mod script;
+pub mod sizes;
+mod tiers;
+
+pub use book::Book;
+pub use calls::{Answer, Block, Call, ClassLine, Load, Migrate, OnPath, Prior, Query, Verify};
+pub use evidence::{Evidence, Filed};
+pub use opening::Opening;
+pub use run::{answers, run};

@@ -1,0 +1,101 @@
+//! Limits on a holder's nominations at a base, by tier.
+
+use crate::book::Book;
+use crate::calendar::term_of;
+
+/// The limit of a holder at a base in a tier 1 to 9, chosen by tier number.
+pub(crate) fn limit(book: &Book, holder: usize, base: usize, tier: u64) -> u64 {
+    let at = AtBase {
+        book,
+        holder,
+        base,
+        term: term_of(tier),
+    };
+    match tier {
+        1 => at.tier_1(),
+        2..=3 => at.tier_2_or_3(tier),
+        even if even % 2 == 0 => at.month_left(),
+        odd => at.month_left().saturating_sub(at.awards(odd - 1)),
+    }
+}
+
+/// S, what the season gives: three quarters of load A, rounded down.
+fn seasonal(load: u64) -> u64 {
+    3 * load / 4
+}
+
+/// P, what the first two tiers give: two thirds of S, rounded down.
+fn priority(load: u64) -> u64 {
+    2 * seasonal(load) / 3
+}
+
+/// What one holder has at one base, seen from a tier's term.
+struct AtBase<'a> {
+    book: &'a Book,
+    holder: usize,
+    base: usize,
+    term: usize,
+}
+
+impl AtBase<'_> {
+    /// Tier 1: the lesser of P and last year's allocation, each less LT.
+    fn tier_1(&self) -> u64 {
+        let allocated = self.sum(|path| self.book.prior_allocated[self.holder][path]);
+        let most = priority(self.load()).min(allocated);
+        most.saturating_sub(self.long_term())
+    }
+
+    /// Tier 2: P less tier 1's awards and LT. Tier 3: S less both tiers' awards
+    /// and LT.
+    fn tier_2_or_3(&self, tier: u64) -> u64 {
+        let (most, taken) = match tier {
+            2 => (priority(self.load()), self.awards(1)),
+            _ => (seasonal(self.load()), self.awards(1) + self.awards(2)),
+        };
+        most.saturating_sub(taken + self.long_term())
+    }
+
+    /// A month's first tier: A less the season's awards and the month's LT.
+    fn month_left(&self) -> u64 {
+        let season = self.awards(1) + self.awards(2) + self.awards(3);
+        self.load().saturating_sub(season + self.long_term())
+    }
+
+    /// A: the load at the base in the tier's term.
+    fn load(&self) -> u64 {
+        self.book.load[self.holder][self.base][self.term]
+    }
+
+    /// LT: the carried holding at the base; the season looks at month 1's.
+    fn long_term(&self) -> u64 {
+        let month = self.term.max(1);
+        self.sum(|path| self.book.carried[self.holder][path][month - 1])
+    }
+
+    /// Tn: the holder's own awards in tier n at the base, wherever migration
+    /// has taken them since.
+    fn awards(&self, tier: u64) -> u64 {
+        self.sum(|path| self.book.tier_awards[self.holder][path][tier as usize - 1])
+    }
+
+    fn sum(&self, on_path: impl Fn(usize) -> u64) -> u64 {
+        self.book.paths_with_base(self.base).map(on_path).sum()
+    }
+}
+
+#[cfg(test)]
+mod tests {
+    use super::*;
+
+    /// Limits: S and P are rounded down one after the other (marked case 5).
+    #[test]
+    fn s_and_p_are_rounded_down_in_turn() {
+        assert_eq!((seasonal(3), priority(3)), (2, 1));
+        assert_eq!((seasonal(0), priority(0)), (0, 0));
+        assert_eq!((seasonal(1_000), priority(1_000)), (750, 500));
+        assert_eq!((seasonal(7), priority(7)), (5, 3));
+        // Half of A would be 1 and 3 here.
+        assert_eq!((seasonal(2), priority(2)), (1, 0));
+        assert_eq!((seasonal(6), priority(6)), (4, 2));
+    }
+}

@@ -1,0 +1,44 @@
+//! The sixteen numbers a refusal can have, one for each cause.
+
+/// Script writer: a line, or a line its head counts, cannot be read.
+pub const UNREADABLE: u64 = 1;
+/// Script writer: a holder, source, sink or path that the book does not have.
+pub const NOT_IN_BOOK: u64 = 2;
+/// Script writer: any other field outside its range.
+pub const OUT_OF_RANGE: u64 = 3;
+/// Calendar: the call does not run at this time.
+pub const NOT_NOW: u64 = 4;
+/// Calendar: the same thing was posted before.
+pub const POSTED_BEFORE: u64 = 5;
+/// Meter feed: no block, or blocks that break their order or their end.
+pub const BLOCKS_BROKEN: u64 = 6;
+/// Meter feed: more than one hour in fifty is missing.
+pub const HOURS_MISSING: u64 = 7;
+/// Distribution company: customers moved to their own holder, or a kind 2 holder.
+pub const WRONG_PARTY: u64 = 8;
+/// Distribution company: a holder loses more than its load.
+pub const BEYOND_LOAD: u64 = 9;
+/// Holder: the sink is not for it.
+pub const SINK_NOT_FOR_HOLDER: u64 = 10;
+/// Holder: above the verified kW.
+pub const ABOVE_VERIFIED: u64 = 11;
+/// Holder: above last year's allocation left on the path, in tier 1.
+pub const ABOVE_PRIOR: u64 = 12;
+/// Holder: above the limit.
+pub const ABOVE_LIMIT: u64 = 13;
+/// Feasibility run: an award of more kW than are nominated and still open.
+pub const ABOVE_NOMINATED: u64 = 14;
+/// Host: the output buffer is too short.
+pub const OUTPUT_SHORT: u64 = 15;
+/// Whoever draws up the book: an opening that no book can be made from.
+pub const OPENING_BROKEN: u64 = 16;
+
+/// One cause, looked for: the calls list these in ascending number, so the
+/// first cause met is the one returned.
+pub(crate) fn refuse_if(met: bool, cause: u64) -> Result<(), u64> {
+    if met {
+        Err(cause)
+    } else {
+        Ok(())
+    }
+}

@@ -1,0 +1,131 @@
+//! Replays a generated season call by call, with a tally of its own kept from
+//! the accepted calls alone.
+#![allow(dead_code)]
+
+mod reader;
+mod tally;
+
+use model::{Answer, Book, Call, Migrate};
+pub use reader::{groups, Group};
+use tally::Tally;
+
+/// What was drawn in the seasons replayed so far.
+#[derive(Default, Debug)]
+pub struct Drawn {
+    pub seasons: u64,
+    /// How often each number was answered.
+    pub numbers: [u64; 17],
+    /// Seasons in which tier 9 was opened and closed.
+    pub whole: u64,
+    /// Seasons in which a migration moved load, by term.
+    pub load_moved: [u64; 4],
+    /// Seasons in which a migration moved a carried or awarded holding, by term.
+    pub rights_moved: [u64; 4],
+    /// Nominations and awards that were accepted.
+    pub nominated: u64,
+    pub awarded: u64,
+    /// Nominations that came exactly to the limit.
+    pub at_the_limit: u64,
+}
+
+/// One season on its way.
+struct Replay<'a> {
+    seed: u64,
+    book: Book,
+    tally: Tally,
+    answers: Vec<u8>,
+    drawn: &'a mut Drawn,
+    load_moved: [bool; 4],
+    rights_moved: [bool; 4],
+}
+
+/// Replays the season of a seed: every sum is checked after every accepted
+/// call, and the answers are those that the script gets when it is run.
+pub fn replay(seed: u64, drawn: &mut Drawn) {
+    let script = model::generate::season(seed);
+    let expected = model::answers(&script).expect("a season is within its limits");
+    drawn.seasons += 1;
+    let text = String::from_utf8(script).expect("a season is ASCII");
+    let (opening, groups) = groups(&text);
+    let opened = opening.ok_or(1).and_then(|opening| Book::open(&opening));
+    let book = match opened {
+        Ok(book) => book,
+        Err(number) => {
+            drawn.numbers[number as usize] += 1;
+            let refused = format!("no,{number:02}\n");
+            assert_eq!(expected, refused.as_bytes(), "seed {seed}");
+            return;
+        }
+    };
+    let mut replay = Replay {
+        seed,
+        book,
+        tally: Tally::default(),
+        answers: b"ok\n".to_vec(),
+        drawn,
+        load_moved: [false; 4],
+        rights_moved: [false; 4],
+    };
+    groups.iter().for_each(|group| replay.answer(group));
+    replay.finish(&expected);
+}
+
+impl Replay<'_> {
+    fn answer(&mut self, group: &Group) {
+        let answer = match group {
+            Group::Unreadable => Answer::No(1),
+            Group::Query(query) => Answer::from_query(self.book.query(query)),
+            Group::Call(call) => Answer::from_call(self.call(&call.lend())),
+        };
+        if let Answer::No(number) = answer {
+            self.drawn.numbers[number as usize] += 1;
+        }
+        answer.write(&mut self.answers);
+    }
+
+    /// Runs a call; what is accepted goes into the tally and is checked.
+    fn call(&mut self, call: &Call) -> Result<(), u64> {
+        let before = match call {
+            Call::Migrate(_) => Some(self.book.clone()),
+            _ => None,
+        };
+        self.book.call(call)?;
+        if let (Call::Migrate(migrate), Some(before)) = (call, before) {
+            self.check_migration(migrate, &before);
+        }
+        self.tally.accept(call, &self.book, self.seed);
+        self.tally.check(&self.book, self.seed);
+        self.count(call);
+        Ok(())
+    }
+
+    fn check_migration(&mut self, migrate: &Migrate, before: &Book) {
+        let term = migrate.term as usize;
+        let moved = tally::check_migration(migrate, before, &self.book, self.seed);
+        tally::check_other_loads(migrate, before, &self.book, self.seed);
+        self.load_moved[term] |= moved.load;
+        self.rights_moved[term] |= moved.rights;
+    }
+
+    fn count(&mut self, call: &Call) {
+        match call {
+            Call::Nominate(nominate) => {
+                self.drawn.nominated += 1;
+                let at = self.tally.at_the_limit(nominate, &self.book);
+                self.drawn.at_the_limit += u64::from(at);
+            }
+            Call::Award(_) => self.drawn.awarded += 1,
+            _ => {}
+        }
+    }
+
+    fn finish(&mut self, expected: &[u8]) {
+        assert_eq!(self.answers, expected, "seed {}", self.seed);
+        self.tally.check(&self.book, self.seed);
+        self.drawn.whole += u64::from(self.book.last_closed() == 9);
+        for term in 0..4 {
+            self.drawn.load_moved[term] += u64::from(self.load_moved[term]);
+            self.drawn.rights_moved[term] += u64::from(self.rights_moved[term]);
+        }
+    }
+}

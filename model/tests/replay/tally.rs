@@ -1,0 +1,308 @@
+//! What the accepted calls come to, and the sums the book has to keep.
+
+use model::{Block, Book, Call, Load, Migrate, OnPath, Query};
+
+/// Sums over the accepted calls. No figure here is taken from the book but
+/// the limits, which are reckoned when a tier opens.
+#[derive(Default)]
+pub struct Tally {
+    /// kW of the accepted carries, by path.
+    carried_in: [u64; 16],
+    /// kW of the accepted awards, by path and month.
+    awarded: [[u64; 3]; 16],
+    /// Loads posted, by sink and term.
+    posted: [[u64; 4]; 16],
+    /// Prior's a and a - l, by path.
+    prior: [[u64; 2]; 16],
+    /// kW of the nominations accepted since the tier opened, by holder and path.
+    nominated: [[u64; 16]; 8],
+    /// kW of the awards accepted since the tier opened, by holder and path.
+    tier_awards: [[u64; 16]; 8],
+    /// Limits when the tier opened, by holder and base.
+    limits: [[u64; 16]; 8],
+    /// kW awarded in each tier, by holder and path.
+    past_awards: [[[u64; 9]; 16]; 8],
+    open: Option<u64>,
+}
+
+impl Tally {
+    /// Takes in a call that the book has accepted.
+    pub fn accept(&mut self, call: &Call, book: &Book, seed: u64) {
+        match call {
+            Call::Load(load) => {
+                self.posted[load.sink as usize][load.term as usize] += load_posted(load);
+            }
+            Call::Carry(carry) => self.carried_in[carry.path as usize] += carry.kw,
+            Call::Prior(prior) => {
+                self.prior[prior.path as usize][0] += prior.allocated;
+                self.prior[prior.path as usize][1] += prior.allocated - prior.long_term;
+            }
+            Call::Open { tier } => self.accept_open(*tier, book, seed),
+            Call::Nominate(one) => {
+                self.nominated[one.holder as usize][one.path as usize] += one.kw;
+            }
+            Call::Award(award) => self.accept_award(award),
+            Call::Close => self.open = None,
+            Call::Verify(_) | Call::Migrate(_) => {}
+        }
+    }
+
+    /// A new tier: nominations start again, limits are reckoned once.
+    fn accept_open(&mut self, tier: u64, book: &Book, seed: u64) {
+        self.open = Some(tier);
+        self.nominated = [[0; 16]; 8];
+        self.tier_awards = [[0; 16]; 8];
+        for holder in 0..book.holders() {
+            for sink in 0..book.sinks() {
+                let limit = self.limit(book, holder, book.base(sink), tier);
+                self.limits[holder][sink] = limit;
+                let (holder, sink) = (holder as u64, sink as u64);
+                let answered = book.query(&Query::Limit { holder, sink });
+                assert_eq!(answered, Ok(limit), "seed {seed}");
+            }
+        }
+    }
+
+    fn accept_award(&mut self, award: &OnPath) {
+        let (holder, path) = (award.holder as usize, award.path as usize);
+        let tier = self.open.expect("awards run in an open tier") as usize;
+        self.tier_awards[holder][path] += award.kw;
+        self.past_awards[holder][path][tier - 1] += award.kw;
+        let months = if tier <= 3 {
+            0..3
+        } else {
+            tier / 2 - 2..tier / 2 - 1
+        };
+        for month in months {
+            self.awarded[path][month] += award.kw;
+        }
+    }
+
+    /// Limits, said once more: signed, cut off at 0 in the end.
+    fn limit(&self, book: &Book, holder: usize, base: usize, tier: u64) -> u64 {
+        let term = [0, 0, 0, 1, 1, 2, 2, 3, 3][tier as usize - 1];
+        let paths: Vec<usize> = (0..book.paths())
+            .filter(|&path| book.base(book.path_sink(path)) == base)
+            .collect();
+        let sum = |of: &dyn Fn(usize) -> u64| paths.iter().map(|&p| of(p) as i64).sum::<i64>();
+        let t = |n: usize| sum(&|path| self.past_awards[holder][path][n - 1]);
+        let a = book.load(holder, base, term) as i64;
+        let lt = sum(&|path| book.carried(holder, path, term.max(1)));
+        let s = a * 3 / 4;
+        let p = s * 2 / 3;
+        let month = a - t(1) - t(2) - t(3) - lt;
+        let limit = match tier {
+            1 => (p - lt).min(sum(&|path| book.prior_allocated(holder, path)) - lt),
+            2 => p - t(1) - lt,
+            3 => s - t(1) - t(2) - lt,
+            4 | 6 | 8 => month,
+            _ => month - t(tier as usize - 1),
+        };
+        limit.max(0) as u64
+    }
+
+    /// Whether a nomination that was just accepted came exactly to the limit.
+    pub fn at_the_limit(&self, nominate: &OnPath, book: &Book) -> bool {
+        let holder = nominate.holder as usize;
+        let base = book.base(book.path_sink(nominate.path as usize));
+        self.nominated_at(book, holder, base) == self.limits[holder][base]
+    }
+
+    fn nominated_at(&self, book: &Book, holder: usize, base: usize) -> u64 {
+        (0..book.paths())
+            .filter(|&path| book.base(book.path_sink(path)) == base)
+            .map(|path| self.nominated[holder][path])
+            .sum()
+    }
+
+    /// The sums, all of them.
+    pub fn check(&self, book: &Book, seed: u64) {
+        self.check_holdings(book, seed);
+        self.check_loads(book, seed);
+        if self.open.is_some() {
+            self.check_tier(book, seed);
+        }
+    }
+
+    /// Holdings summed over holders are what was carried in and awarded.
+    fn check_holdings(&self, book: &Book, seed: u64) {
+        for path in 0..book.paths() {
+            for month in 1..=3 {
+                let over = |of: &dyn Fn(usize) -> u64| (0..book.holders()).map(of).sum::<u64>();
+                let carried = over(&|holder| book.carried(holder, path, month));
+                let awarded = over(&|holder| book.awarded(holder, path, month));
+                assert_eq!(carried, self.carried_in[path], "seed {seed}");
+                assert_eq!(awarded, self.awarded[path][month - 1], "seed {seed}");
+                let (path, month) = (path as u64, month as u64);
+                let net = book.query(&Query::Net { path, month });
+                assert_eq!(net, Ok(carried + awarded), "seed {seed}");
+            }
+            let prior = (0..book.holders()).fold([0, 0], |[a, rest], holder| {
+                let more = book.prior_allocated(holder, path);
+                [a + more, rest + book.prior_rest(holder, path)]
+            });
+            assert_eq!(prior, self.prior[path], "seed {seed}");
+        }
+    }
+
+    /// Loads summed over holders are what was posted.
+    fn check_loads(&self, book: &Book, seed: u64) {
+        for sink in 0..book.sinks() {
+            for term in 0..4 {
+                let holders = 0..book.holders();
+                let load: u64 = holders.map(|holder| book.load(holder, sink, term)).sum();
+                assert_eq!(load, self.posted[sink][term], "seed {seed}");
+            }
+        }
+    }
+
+    /// Nominations are within the limit at the tier's opening, awards within
+    /// nominations.
+    fn check_tier(&self, book: &Book, seed: u64) {
+        let tier = self.open.expect("a tier is open") as usize;
+        for holder in 0..book.holders() {
+            for path in 0..book.paths() {
+                let base = book.base(book.path_sink(path));
+                let nominated = self.nominated_at(book, holder, base);
+                assert!(nominated <= self.limits[holder][base], "seed {seed}");
+                let nominated = self.nominated[holder][path];
+                let awarded = self.tier_awards[holder][path];
+                assert!(awarded <= nominated, "seed {seed}");
+                assert_eq!(book.nominated(holder, path, tier), nominated, "seed {seed}");
+                assert_eq!(book.tier_awards(holder, path, tier), awarded, "seed {seed}");
+            }
+        }
+    }
+}
+
+/// The load posted, from the hours themselves: with the hours from the highest
+/// kW down, the metric is the first that the 0.5% do not reach.
+fn load_posted(load: &Load) -> u64 {
+    let hours_of = |block: &Block| std::iter::repeat_n(block.kw, block.length as usize);
+    let mut hours: Vec<u64> = load.blocks.iter().flat_map(hours_of).collect();
+    hours.sort_unstable();
+    hours.reverse();
+    let metric = hours[hours.len() / 200];
+    metric - metric.min(load.contract)
+}
+
+/// Whether a migration moved anything.
+pub struct Moved {
+    pub load: bool,
+    pub rights: bool,
+}
+
+/// Reads a figure of a holder on a path.
+type Read = Box<dyn Fn(&Book, usize, usize) -> u64>;
+
+/// One record of a holder on a path, read from a book.
+struct Record {
+    /// Whether the term's migration shares it out; otherwise it stays.
+    moves: bool,
+    /// Whether it is a holding.
+    held: bool,
+    read: Read,
+}
+
+/// Migration, said once more: m by pair, what each holder loses and gains of
+/// its load and of every record, and that no one loses more than it had.
+pub fn check_migration(migrate: &Migrate, before: &Book, after: &Book, seed: u64) -> Moved {
+    let (sink, term) = (migrate.sink as usize, migrate.term as usize);
+    let m = m_by_pair(migrate);
+    let load: Vec<u64> = (0..before.holders())
+        .map(|holder| before.load(holder, sink, term))
+        .collect();
+    let now = |holder| after.load(holder, sink, term);
+    let mut moved = Moved {
+        load: check_record(&load, now, |loser, gainer| m[loser][gainer], seed),
+        rights: false,
+    };
+    for path in 0..before.paths() {
+        let takes_part = before.base(before.path_sink(path)) == sink;
+        for Record { moves, held, read } in records(term) {
+            let values: Vec<u64> = (0..before.holders())
+                .map(|holder| read(before, holder, path))
+                .collect();
+            let share = |loser: usize, gainer: usize| match m[loser][gainer] {
+                kw if kw > 0 && takes_part && moves => {
+                    let product = u128::from(values[loser]) * u128::from(kw);
+                    (product / u128::from(load[loser])) as u64
+                }
+                _ => 0,
+            };
+            let now = |holder| read(after, holder, path);
+            moved.rights |= check_record(&values, now, share, seed) && held;
+        }
+    }
+    moved
+}
+
+/// One record of all holders: each loses its shares together, at most what it
+/// had, and gains those of others. True if anything moved.
+fn check_record(
+    values: &[u64],
+    now: impl Fn(usize) -> u64,
+    share: impl Fn(usize, usize) -> u64,
+    seed: u64,
+) -> bool {
+    let mut moved = false;
+    for (holder, &value) in values.iter().enumerate() {
+        let lost: u64 = (0..values.len()).map(|other| share(holder, other)).sum();
+        let gained: u64 = (0..values.len()).map(|other| share(other, holder)).sum();
+        assert!(lost <= value, "seed {seed}");
+        assert_eq!(now(holder), value - lost + gained, "seed {seed}");
+        moved |= lost + gained > 0;
+    }
+    moved
+}
+
+/// kW from the first holder to the second, by pair: signed watts, netted, then
+/// rounded.
+fn m_by_pair(migrate: &Migrate) -> [[u64; 8]; 8] {
+    let mut watts = [[0i64; 8]; 8];
+    for line in migrate.lines {
+        let product = (line.customers * line.watts) as i64;
+        let (from, to) = (line.from as usize, line.to as usize);
+        watts[from][to] += product;
+        watts[to][from] -= product;
+    }
+    watts.map(|row| row.map(|net| net.max(0) as u64 / 1_000))
+}
+
+/// All records on a path: which of them a term's migration shares out.
+fn records(term: usize) -> Vec<Record> {
+    let mut records = Vec::new();
+    for month in 1..=3 {
+        records.push(Record {
+            moves: term == 0 || term == month,
+            held: true,
+            read: Box::new(move |book, holder, path| book.carried(holder, path, month)),
+        });
+        records.push(Record {
+            moves: term == month,
+            held: true,
+            read: Box::new(move |book, holder, path| book.awarded(holder, path, month)),
+        });
+    }
+    for read in [Book::prior_allocated, Book::prior_rest] {
+        records.push(Record {
+            moves: term == 0,
+            held: false,
+            read: Box::new(read),
+        });
+    }
+    records
+}
+
+/// No other sink's load, and no other term's, is touched by a migration.
+pub fn check_other_loads(migrate: &Migrate, before: &Book, after: &Book, seed: u64) {
+    for holder in 0..before.holders() {
+        for sink in 0..before.sinks() {
+            for term in 0..4 {
+                let own = (sink as u64, term as u64) == (migrate.sink, migrate.term);
+                let loads = [before, after].map(|book| book.load(holder, sink, term));
+                assert!(own || loads[0] == loads[1], "seed {seed}");
+            }
+        }
+    }
+}
