@@ -6,7 +6,7 @@ use mathlib.Core.List.{List}
 use native.Mathlib.Nat.{add-zero}
 use native.Mathlib.Omega.{arith}
 use lib.Dec.{eqb}
-use Rattle.tariff.specs.declared.ClassLine.{ClassLine}
+use Rattle.tariff.specs.declared.migration.ClassLine.{ClassLine}
 use Rattle.tariff.specs.Sum.{countIf, sumTo}
 use Rattle.tariff.specs.Migration.{netted, lostBy, shares, shifted}
 use Rattle.tariff.proofs.Sums.{count-true, count-false, sum-ext, sum-add, sum-zero, sum-one, sum-plus}

@@ -7,7 +7,7 @@ use native.Mathlib.Nat.{add-zero}
 use native.Mathlib.Omega.{arith}
 use lib.Dec.{eqb}
 use borrow.Author.Tests.{eqb-true}
-use Rattle.tariff.specs.declared.ClassLine.{ClassLine}
+use Rattle.tariff.specs.declared.migration.ClassLine.{ClassLine}
 use Rattle.tariff.specs.Sum.{countIf, sumTo}
 use Rattle.tariff.specs.Load.{loadPosted}
 use Rattle.tariff.specs.Terms.{termOf, isMonth, hasMonth}

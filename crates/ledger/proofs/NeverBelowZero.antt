@@ -3,7 +3,7 @@ use Prim.Native.Nat.{ℕ, _+_, _≤_, _<_}
 use mathlib.Core.Path.{_≡_}
 use mathlib.Core.Bool.{true}
 use mathlib.Core.List.{List}
-use Rattle.tariff.specs.declared.ClassLine.{ClassLine}
+use Rattle.tariff.specs.declared.migration.ClassLine.{ClassLine}
 use Rattle.tariff.specs.Sum.{sumTo}
 use Rattle.tariff.specs.Migration.{netted, lostBy, shares, shifted}
 use Rattle.tariff.proofs.Shifts.{shift-entry}

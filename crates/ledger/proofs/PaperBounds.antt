@@ -3,7 +3,7 @@ use Prim.Native.Nat.{ℕ}
 use mathlib.Core.Path.{_≡_}
 use mathlib.Core.Bool.{Bool, true, false, cond}
 use mathlib.Core.List.{List}
-use Rattle.tariff.specs.declared.Entry.{Entry}
+use Rattle.tariff.specs.declared.evidence.Entry.{Entry}
 use Rattle.tariff.specs.Evidence.{noEntry, evidenceOf}
 use Rattle.tariff.proofs.EvidenceBounds.{InRange, filed-in-range}
 use Rattle.ledger.specs.Opening.{Opening}

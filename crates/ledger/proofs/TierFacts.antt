@@ -7,7 +7,7 @@ use mathlib.Core.Logic.{_⊎_, inl, inr}
 use lib.ListN.{length}
 use lib.Dec.{leb, eqb}
 use borrow.Author.Tests.{ltb-false, leb-true, leb-false, eqb-true, not-true, not-false}
-use Rattle.tariff.specs.declared.ClassLine.{ClassLine}
+use Rattle.tariff.specs.declared.migration.ClassLine.{ClassLine}
 use Rattle.tariff.specs.Sum.{anyOf}
 use Rattle.tariff.specs.Terms.{firstTierOf}
 use Rattle.tariff.specs.Migration.{netted, lostBy}

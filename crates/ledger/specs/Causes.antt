@@ -3,7 +3,7 @@ use Prim.Native.Nat.{ℕ, _+_}
 use mathlib.Core.Bool.{Bool, cond, not, _&&_, _||_}
 use mathlib.Core.List.{List, [], _∷_}
 use lib.Dec.{ltb, eqb}
-use Rattle.tariff.specs.declared.ClassLine.{ClassLine}
+use Rattle.tariff.specs.declared.migration.ClassLine.{ClassLine}
 use Rattle.tariff.specs.Sum.{anyOf, anyBelow}
 use Rattle.tariff.specs.Load.{Block, blocksBroken, tooManyMissing}
 use Rattle.tariff.specs.Terms.{termOf}

@@ -1,7 +1,7 @@
 -- The plain ledger's figures (01, The plain ledger), as functions of the holder and of what the figure is kept for.
 use Prim.Native.Nat.{ℕ}
 use mathlib.Core.Bool.{Bool, false}
-use Rattle.tariff.specs.declared.Entry.{Entry}
+use Rattle.tariff.specs.declared.evidence.Entry.{Entry}
 use Rattle.tariff.specs.Evidence.{noEntry}
 
 -- by holder, sink and term: the load, and whether one was posted

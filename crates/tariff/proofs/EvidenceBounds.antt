@@ -4,9 +4,9 @@ use mathlib.Core.Path.{_≡_, refl}
 use mathlib.Core.Bool.{Bool, true, false, cond}
 use native.Mathlib.Nat.{le-refl, le-trans, div-le-of-le-mul, mul-le-mul, mul-comm, le-of-eq}
 use lib.Dec.{eqb}
-use Rattle.tariff.specs.declared.Evidence.{Evidence}
-use Rattle.tariff.specs.declared.Evidence.the-variants.{Empty, Ownership, Contract}
-use Rattle.tariff.specs.declared.Entry.{Entry}
+use Rattle.tariff.specs.declared.evidence.Evidence.{Evidence}
+use Rattle.tariff.specs.declared.evidence.Evidence.the-variants.{Empty, Ownership, Contract}
+use Rattle.tariff.specs.declared.evidence.Entry.{Entry}
 use Rattle.tariff.specs.Evidence.{evidenceOf, highestRight, evidenceKw, countsFor, entryKw}
 use Rattle.tariff.proofs.Sums.{count-le}
 

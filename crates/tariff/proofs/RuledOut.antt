@@ -5,7 +5,7 @@ use mathlib.Core.Path.{_≡_, refl}
 use mathlib.Core.Bool.{Bool, cond, _&&_}
 use mathlib.Core.List.{List, [], _∷_, map}
 use lib.Dec.{leb, ltb, eqb}
-use Rattle.tariff.specs.declared.ClassLine.{ClassLine}
+use Rattle.tariff.specs.declared.migration.ClassLine.{ClassLine}
 use Rattle.tariff.specs.Sum.{countIf, sumTo, sumOver, only}
 use Rattle.tariff.specs.Load.{Block, presentHours, hoursAbove, mayExceed, seldomExceeded, smallest, metric}
 use Rattle.tariff.specs.Migration.{wattsOneWay, netted, share, shares, shifted}

@@ -2,9 +2,9 @@
 use Prim.Native.Nat.{ℕ, _*_, _/_}
 use mathlib.Core.Bool.{Bool, cond, _&&_}
 use lib.Dec.{leb, eqb}
-use Rattle.tariff.specs.declared.Evidence.{Evidence}
-use Rattle.tariff.specs.declared.Evidence.the-variants.{Empty, Ownership, Contract}
-use Rattle.tariff.specs.declared.Entry.{Entry}
+use Rattle.tariff.specs.declared.evidence.Evidence.{Evidence}
+use Rattle.tariff.specs.declared.evidence.Evidence.the-variants.{Empty, Ownership, Contract}
+use Rattle.tariff.specs.declared.evidence.Entry.{Entry}
 use Rattle.tariff.specs.Sum.{countIf}
 
 -- an entry that nothing was filed in
