@@ -16,7 +16,7 @@ use Rattle.ledger.specs.Opening.{Opening, countsFit, listsFit, legal, en
 use Rattle.ledger.specs.Ledger.{Ledger}
 use Rattle.ledger.specs.Call.{Call}
 use Rattle.ledger.specs.Limits.{sumAtBase, nominatedAt}
-use Rattle.ledger.specs.Ranges.{mostKw}
+use Rattle.tariff.specs.Ranges.{mostKw}
 use Rattle.ledger.specs.Season.{after}
 use Rattle.ledger.proofs.Conserved.{carriedSum, awardedSum, loadSum}
 use Rattle.ledger.proofs.Once.{once-bound}

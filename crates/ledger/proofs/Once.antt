@@ -10,7 +10,7 @@ use borrow.Author.Tests.{eqb-true}
 use Rattle.tariff.specs.Sum.{countIf, sumTo}
 use Rattle.tariff.proofs.Sums.{count-true, count-false, count-le, sum-ext, sum-bound}
 use Rattle.tariff.proofs.Tests.{and-both, decided}
-use Rattle.ledger.specs.Ranges.{mostKw}
+use Rattle.tariff.specs.Ranges.{mostKw}
 use Rattle.ledger.proofs.Columns.{column-plus}
 
 -- a column v of n holders is no more than the most kW for each of those marked

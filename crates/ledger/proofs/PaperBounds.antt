@@ -4,13 +4,13 @@ use mathlib.Core.Path.{_≡_}
 use mathlib.Core.Bool.{Bool, true, false, cond}
 use mathlib.Core.List.{List}
 use Rattle.tariff.specs.declared.evidence.Entry.{Entry}
-use Rattle.tariff.specs.Evidence.{noEntry, evidenceOf}
+use Rattle.tariff.specs.Evidence.{noEntry, entryOf}
 use Rattle.tariff.proofs.EvidenceBounds.{InRange, filed-in-range}
 use Rattle.ledger.specs.Opening.{Opening}
 use Rattle.ledger.specs.Ledger.{Ledger, Papers, emptyLedger, withLoads, withRights, withPriors, withPapers, withTiers}
 use Rattle.ledger.specs.Call.{Call, load, carry, prior, verify, migrate, openTier, nominate, award, closeTier}
 use Rattle.ledger.specs.Moves.{migrated}
-use Rattle.ledger.specs.Ranges.{mostKw}
+use Rattle.tariff.specs.Ranges.{mostKw}
 use Rattle.ledger.specs.Effects.{same3, afterVerify, effect}
 use Rattle.ledger.specs.Season.{accepted, step, after}
 use Rattle.ledger.proofs.Steps.{step-keeps, after-keeps}
@@ -20,14 +20,14 @@ abbrev pub PapersInRange : Papers → Type 0
 PapersInRange P = (h s kind : ℕ) → InRange mostKw (P .entry h s kind .evidence)
 
 papers-effect : (o : Opening) (L : Ledger) (c : Call) → PapersInRange (L .papers) → accepted o L c ≡ true → PapersInRange (effect o L c .papers)
-unfolding effect withLoads withRights withPriors withPapers withTiers migrated afterVerify
+unfolding effect withLoads withRights withPriors withPapers withTiers migrated afterVerify entryOf
 papers-effect o L (load h s term contract n blocks) k e = k
 papers-effect o L (carry h p kw) k e = k
 papers-effect o L (prior h p a l) k e = k
 papers-effect o L (verify x q kind capacity right first last) k e = λ h s j. go h s j (same3 x q kind h s j)
   where
     filed : Entry
-    filed = record { evidence = evidenceOf kind capacity right; first = first; last = last }
+    filed = entryOf kind capacity right first last
 
     go : (h s j : ℕ) (here : Bool) → InRange mostKw (cond here filed (L .papers .entry h s j) .evidence)
     go h s j true = let f = verify-facts o L x q kind capacity right first last e in filed-in-range mostKw kind capacity right (f .high) (f .rights .1)

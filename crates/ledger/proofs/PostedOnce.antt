@@ -17,7 +17,7 @@ use Rattle.ledger.specs.Opening.{Opening, endsAt}
 use Rattle.ledger.specs.Ledger.{Ledger, Loads, Rights, Priors, emptyLedger, withLoads, withRights, withPriors, withPapers, withTiers}
 use Rattle.ledger.specs.Call.{Call, load, carry, prior, verify, migrate, openTier, nominate, award, closeTier}
 use Rattle.ledger.specs.Moves.{loadBefore, loadsAfter, rightsAfter, priorsAfter, migrated}
-use Rattle.ledger.specs.Ranges.{mostKw}
+use Rattle.tariff.specs.Ranges.{mostKw}
 use Rattle.ledger.specs.Effects.{same2, same3, plusAt2, plusAt3, plusInTerm, afterLoad, afterCarry, afterPrior, holdingsAfter, effect}
 use Rattle.ledger.specs.Season.{accepted, step, after}
 use Rattle.ledger.proofs.Steps.{step-keeps, after-keeps}

@@ -14,7 +14,8 @@ use Rattle.tariff.proofs.Tests.{or-unmet}
 use Rattle.ledger.specs.Opening.{Opening, pathSink}
 use Rattle.ledger.specs.Ledger.{Ledger}
 use Rattle.ledger.specs.Call.{load, carry, prior, verify}
-use Rattle.ledger.specs.Ranges.{noHolder, noSource, noSink, noPath, wrongTerm, mostKw, wrongLoad, wrongPrior, wrongEvidence}
+use Rattle.tariff.specs.Ranges.{wrongTerm, mostKw, wrongEvidence}
+use Rattle.ledger.specs.Ranges.{noHolder, noSource, noSink, noPath, wrongLoad, wrongPrior}
 use Rattle.ledger.specs.Calendar.{loadInTime}
 use Rattle.ledger.specs.Causes.{callCauses, loadCauses, carryCauses, priorCauses, verifyCauses, sinkNotFor, isSubLap}
 use Rattle.ledger.specs.Season.{accepted}

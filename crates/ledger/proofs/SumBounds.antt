@@ -20,7 +20,7 @@ use Rattle.ledger.specs.Ledger.{Ledger}
 use Rattle.ledger.specs.Call.{Call}
 use Rattle.ledger.specs.Limits.{sumAtBase, longTermAt, priorYearAt, awardsAt, nominatedAt}
 use Rattle.ledger.specs.Verification.{sumFromSource, verifiedKw, drawsOnSame, drawnBefore, drawn}
-use Rattle.ledger.specs.Ranges.{mostKw, within, wrongClassLine}
+use Rattle.tariff.specs.Ranges.{mostKw, within, wrongClassLine}
 use Rattle.ledger.specs.Season.{after, held, net}
 use Rattle.ledger.proofs.Conserved.{carriedSum, awardedSum, loadSum}
 use Rattle.ledger.proofs.TierBounds.{nominatedSum}

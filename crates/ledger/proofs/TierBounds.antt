@@ -17,7 +17,7 @@ use Rattle.ledger.specs.Ledger.{Ledger, emptyLedger, withLoads, withRigh
 use Rattle.ledger.specs.Call.{Call, load, carry, prior, verify, migrate, openTier, nominate, award, closeTier}
 use Rattle.ledger.specs.Limits.{sumAtBase, nominatedAt, limitSums, tierLimit}
 use Rattle.ledger.specs.Moves.{migrated}
-use Rattle.ledger.specs.Ranges.{mostKw}
+use Rattle.tariff.specs.Ranges.{mostKw}
 use Rattle.ledger.specs.Effects.{plusAt3, afterOpen, afterNominate, awardsAfter, afterClose, effect}
 use Rattle.ledger.specs.Season.{accepted, step, after}
 use Rattle.ledger.specs.Totals.{awardedBy}

@@ -15,7 +15,8 @@ use Rattle.tariff.proofs.Tests.{or-unmet, and-both, none-below}
 use Rattle.ledger.specs.Opening.{Opening, pathSink, pathBase}
 use Rattle.ledger.specs.Ledger.{Ledger}
 use Rattle.ledger.specs.Call.{migrate, openTier, nominate, award, closeTier}
-use Rattle.ledger.specs.Ranges.{noHolder, noSink, noPath, strangerIn, wrongTerm, mostKw, wrongMigration, wrongClassLine, wrongTier}
+use Rattle.tariff.specs.Ranges.{wrongTerm, mostKw, wrongClassLine}
+use Rattle.ledger.specs.Ranges.{noHolder, noSink, noPath, strangerIn, wrongMigration, wrongTier}
 use Rattle.ledger.specs.Calendar.{beforeTier, migrationInTime, tierInTurn}
 use Rattle.ledger.specs.Limits.{nominatedAt, tierLimit}
 use Rattle.ledger.specs.Moves.{loadBefore}

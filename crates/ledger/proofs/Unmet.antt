@@ -12,7 +12,7 @@ use Rattle.ledger.specs.Opening.{Opening}
 use Rattle.ledger.specs.Ledger.{Ledger}
 use Rattle.ledger.specs.Call.{Call}
 use Rattle.ledger.specs.Numbers.{Cause, cause, firstMet}
-use Rattle.ledger.specs.Ranges.{within, wrongKw, wrongMonth, mostKw}
+use Rattle.tariff.specs.Ranges.{within, wrongKw, wrongMonth, mostKw}
 use Rattle.ledger.specs.Calendar.{tierIsOpen, beforeTier}
 use Rattle.ledger.specs.Causes.{refusal, callCauses}
 use Rattle.ledger.specs.Season.{accepted}

@@ -16,7 +16,8 @@ use Rattle.ledger.specs.Limits.{nominatedAt, tierLimit}
 use Rattle.ledger.specs.Verification.{verifiedKw, drawn}
 use Rattle.ledger.specs.Moves.{loadBefore}
 use Rattle.ledger.specs.Numbers.{notInBook, outOfRange, notAtThisTime, postedBefore, brokenBlocks, hoursMissing, notSuppliers, lossAboveLoad, sinkNotForIt, aboveVerified, aboveRenewable, aboveLimit, aboveNominated, Cause, cause, firstMet}
-use Rattle.ledger.specs.Ranges.{noHolder, noSource, noSink, noPath, strangerIn, wrongKw, wrongMonth, wrongLoad, wrongPrior, wrongEvidence, wrongMigration, wrongTier}
+use Rattle.tariff.specs.Ranges.{wrongKw, wrongMonth, wrongEvidence}
+use Rattle.ledger.specs.Ranges.{noHolder, noSource, noSink, noPath, strangerIn, wrongLoad, wrongPrior, wrongMigration, wrongTier}
 
 -- cause 8: a class line from a holder to itself, or with a holder outside the balancing area
 unfoldable pub notBetweenSuppliers : Opening → ClassLine → Bool

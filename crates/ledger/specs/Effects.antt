@@ -7,7 +7,7 @@ use Rattle.tariff.specs.declared.evidence.Entry.{Entry}
 use Rattle.tariff.specs.Sum.{countIf}
 use Rattle.tariff.specs.Load.{loadPosted}
 use Rattle.tariff.specs.Terms.{termOf, hasMonth}
-use Rattle.tariff.specs.Evidence.{evidenceOf}
+use Rattle.tariff.specs.Evidence.{entryOf}
 use Rattle.ledger.specs.Opening.{Opening}
 use Rattle.ledger.specs.Call.{Call, load, carry, prior, verify, migrate, openTier, nominate, award, closeTier}
 use Rattle.ledger.specs.Ledger.{Ledger, Loads, Rights, Priors, Papers, Tiers, withLoads, withRights, withPriors, withPapers, withTiers}
@@ -121,7 +121,7 @@ effect o L (load h s term contract n blocks) = withLoads L (afterLoad L h s term
 effect o L (carry h p kw) = withRights L (afterCarry L h p kw)
 effect o L (prior h p a l) = withPriors L (afterPrior L h p a l)
 effect o L (verify h s kind capacity right first last) =
-    withPapers L (afterVerify L h s kind (record { evidence = evidenceOf kind capacity right; first = first; last = last }))
+    withPapers L (afterVerify L h s kind (entryOf kind capacity right first last))
 effect o L (migrate term sink lines) = migrated o L term sink lines
 effect o L (openTier tier) = withTiers L (afterOpen L tier)
 effect o L (nominate h p kw) = withTiers L (afterNominate L h p kw)

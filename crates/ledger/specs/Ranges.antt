@@ -7,8 +7,7 @@ use lib.Dec.{leb, ltb, eqb}
 use Rattle.tariff.specs.declared.migration.ClassLine.{ClassLine}
 use Rattle.tariff.specs.Sum.{anyOf}
 use Rattle.tariff.specs.Load.{Block}
-use Rattle.tariff.specs.Terms.{isMonth}
-use Rattle.tariff.specs.Evidence.{highestRight}
+use Rattle.tariff.specs.Ranges.{mostKw, within, wrongKw, wrongTerm, wrongClassLine}
 use Rattle.ledger.specs.Opening.{Opening}
 
 -- cause 2: a number that is not below its count
@@ -29,23 +28,7 @@ noPath o p = leb (o .paths) p
 unfoldable pub strangerIn : Opening → List ClassLine → Bool
 strangerIn o lines = anyOf lines (λ l. noHolder o (l .from) || noHolder o (l .to))
 
--- cause 3
-
--- no kW is above this one, and that of carry, prior's a, capacity, nominate and award is 1 or more
-abbrev pub mostKw : ℕ
-mostKw = 99999999
-
-unfoldable pub within : ℕ → ℕ → ℕ → Bool
-within low high x = leb low x && leb x high
-
-unfoldable pub wrongKw : ℕ → Bool
-wrongKw kw = not (within 1 mostKw kw)
-
-unfoldable pub wrongTerm : ℕ → Bool
-wrongTerm term = ltb 3 term
-
-unfoldable pub wrongMonth : ℕ → Bool
-wrongMonth m = not (isMonth m)
+-- cause 3, beside the ranges of the tariff's own numbers
 
 -- load: contract load 0 to the most kW, hours 1 to 2,208, at most 2,208 blocks, none above the most kW
 unfoldable pub wrongLoad : ℕ → ℕ → ℕ → List Block → Bool
@@ -59,20 +42,6 @@ wrongLoad term contract n blocks =
 -- prior: of a kW allocated, l went to Long Term, 0 ≤ l ≤ a
 unfoldable pub wrongPrior : ℕ → ℕ → Bool
 wrongPrior a l = wrongKw a || ltb a l
-
--- verify: kind 1 or 2, the right from 1 to the highest of its kind, months 1 to 3 in order
-unfoldable pub wrongEvidence : ℕ → ℕ → ℕ → ℕ → ℕ → Bool
-wrongEvidence kind capacity right first last =
-    not (within 1 2 kind)
-    || wrongKw capacity
-    || not (within 1 (highestRight kind capacity) right)
-    || wrongMonth first
-    || wrongMonth last
-    || ltb last first
-
--- a class line: class 1 to 8, customers and average watts up to 9,999,999
-unfoldable pub wrongClassLine : ClassLine → Bool
-wrongClassLine l = not (within 1 8 (l .class)) || ltb 9999999 (l .customers) || ltb 9999999 (l .watts)
 
 -- migrate: at most 64 class lines
 unfoldable pub wrongMigration : ℕ → List ClassLine → Bool

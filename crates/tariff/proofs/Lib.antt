@@ -5,3 +5,5 @@ pub mod Tests
 pub mod Limits
 pub mod Metric
 pub mod EvidenceBounds
+pub mod Products
+pub mod EvidenceRange

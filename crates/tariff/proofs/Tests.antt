@@ -7,6 +7,8 @@ use mathlib.Core.Logic.{_⊎_, inl, inr}
 use native.Mathlib.Nat.{not-suc-le-zero, le-refl}
 use native.Mathlib.Omega.{arith}
 use Prim.Native.Nat.{zero, suc}
+use lib.Dec.{leb, ltb}
+use borrow.Author.Tests.{ltb-true, ltb-false, le-leb, lt-leb}
 use Rattle.tariff.specs.Sum.{allBelow, anyBelow, anyOf}
 use Rattle.tariff.proofs.Sums.{below-suc}
 
@@ -64,3 +66,19 @@ none-below (suc n) test e i h = go (below-suc h) (none-below n test (or-unmet (a
     go : (i < n) ⊎ (i ≡ n) → (i < n → test i ≡ false) → test i ≡ false
     go (inl l) ih = ih l
     go (inr q) ih = ap test q ∙ or-unmet (anyBelow n test) (test n) e .1
+
+-- a test and its opposite
+pub not-or : (a b : Bool) → not (a || b) ≡ (not a && not b)
+not-or true b = refl
+not-or false b = refl
+
+pub not-not : (a : Bool) → not (not a) ≡ a
+not-not true = refl
+not-not false = refl
+
+pub not-ltb : (a b : ℕ) → not (ltb a b) ≡ leb b a
+not-ltb a b = go (ltb a b) refl
+  where
+    go : (t : Bool) → ltb a b ≡ t → not t ≡ leb b a
+    go true e = sym (lt-leb b a (ltb-true a b e))
+    go false e = sym (le-leb b a (ltb-false a b e))

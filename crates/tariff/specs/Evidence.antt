@@ -15,6 +15,10 @@ noEntry = record { evidence = Empty; first = 0; last = 0 }
 unfoldable pub evidenceOf : ℕ → ℕ → ℕ → Evidence
 evidenceOf kind capacity right = cond (eqb kind 1) (Ownership capacity right) (Contract right)
 
+-- the entry that verify files
+unfoldable pub entryOf : ℕ → ℕ → ℕ → ℕ → ℕ → Entry
+entryOf kind capacity right first last = record { evidence = evidenceOf kind capacity right; first = first; last = last }
+
 -- the highest right of a kind: 10,000 ten-thousandths of a plant, or the capacity under contract
 unfoldable pub highestRight : ℕ → ℕ → ℕ
 highestRight kind capacity = cond (eqb kind 1) 10000 capacity

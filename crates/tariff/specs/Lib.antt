@@ -6,3 +6,5 @@ pub mod Terms
 pub mod Limit
 pub mod Evidence
 pub mod Migration
+pub mod Ranges
+pub mod Filing

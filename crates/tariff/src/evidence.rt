@@ -1,4 +1,9 @@
 // Evidence of a right to a source, and what it gives (01, Posting, Verify).
+ghost use mathlib.Core.Path.{_≡_};
+ghost use mathlib.Core.Bool.{not};
+ghost use Rattle.tariff.specs.Evidence.{evidenceKw, countsFor, entryKw, highestRight};
+ghost use Rattle.tariff.specs.Ranges.{wrongEvidence, within};
+ghost use Rattle.tariff.specs.Filing.{filingOf};
 
 // What a holder has shown: nothing, a part of a plant, or a contract.
 pub enum Evidence {
@@ -14,4 +19,99 @@ pub struct Entry {
     pub evidence: Evidence,
     pub first: u8,
     pub last: u8,
+}
+
+// What a caller's numbers come to: an entry, or a field outside its range.
+pub enum Filing {
+    OutOfRange,
+    Filed(Entry),
+}
+
+// A number from low to high.
+fn is_within(low: u64, high: u64, x: u64) -> bool
+    ensures { λ r. ⌜ r ≡ within low high x ⌝ }
+{
+    (low <= x) & (x <= high)
+}
+
+// The highest right that a kind of evidence can have.
+fn highest_right(kind: u64, capacity: u64) -> u64
+    ensures { λ r. ⌜ r ≡ highestRight kind capacity ⌝ }
+{
+    if kind == 1 { 10_000 } else { capacity }
+}
+
+// Whether a caller's numbers are those of an evidence.
+pub fn evidence_in_range(kind: u64, capacity: u64, right: u64, first: u64, last: u64) -> bool
+    ensures { λ r. ⌜ r ≡ not (wrongEvidence kind capacity right first last) ⌝ }
+{
+    let kind_fits = is_within(1, 2, kind);
+    let capacity_fits = is_within(1, 99_999_999, capacity);
+    let right_fits = is_within(1, highest_right(kind, capacity), right);
+    let first_fits = is_within(1, 3, first);
+    let last_fits = is_within(1, 3, last);
+    let ordered = first <= last;
+    kind_fits & capacity_fits & right_fits & first_fits & last_fits & ordered
+}
+
+// The entry that a caller's numbers file.
+pub fn file_evidence(kind: u64, capacity: u64, right: u64, first: u64, last: u64) -> Filing
+    ensures { λ r. ⌜ r ≡ filingOf kind capacity right first last ⌝ }
+{
+    if !evidence_in_range(kind, capacity, right, first, last) {
+        return Filing::OutOfRange;
+    }
+    if kind == 1 {
+        let evidence = Evidence::Ownership {
+            capacity: capacity as u32,
+            right: right as u16,
+        };
+        return Filing::Filed(Entry {
+            evidence,
+            first: first as u8,
+            last: last as u8,
+        });
+    }
+    let evidence = Evidence::Contract {
+        right: right as u32,
+    };
+    Filing::Filed(Entry {
+        evidence,
+        first: first as u8,
+        last: last as u8,
+    })
+}
+
+// The kW that evidence gives.
+pub fn evidence_kw(e: Evidence) -> u64
+    ensures { λ r. ⌜ r ≡ evidenceKw e ⌝ }
+{
+    match e {
+        Evidence::Empty => 0,
+        Evidence::Ownership { capacity, right } => (capacity as u64) * (right as u64) / 10_000,
+        Evidence::Contract { right } => right as u64,
+    }
+}
+
+// Whether an entry counts for a term.
+pub fn counts_for(e: Entry, term: u64) -> bool
+    ensures { λ r. ⌜ r ≡ countsFor term e ⌝ }
+{
+    let first = e.first as u64;
+    let last = e.last as u64;
+    if term == 0 {
+        return (first == 1) & (last == 3);
+    }
+    (first <= term) & (term <= last)
+}
+
+// The kW of an entry for a term.
+pub fn entry_kw(e: Entry, term: u64) -> u64
+    ensures { λ r. ⌜ r ≡ entryKw term e ⌝ }
+{
+    if counts_for(e, term) {
+        let evidence = e.evidence;
+        return evidence_kw(evidence);
+    }
+    0
 }

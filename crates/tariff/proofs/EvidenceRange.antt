@@ -1,0 +1,62 @@
+-- What is known of numbers that are those of an evidence. Assumes nothing.
+use Prim.Native.Nat.{ℕ, _≤_, _<_, _^_}
+use mathlib.Core.Path.{_≡_, refl, sym, ap, _∙_}
+use mathlib.Core.Bool.{Bool, true, false, cond, not, _&&_, _||_}
+use native.Mathlib.Nat.{le-trans}
+use native.Mathlib.Omega.{arith}
+use lib.Dec.{leb, ltb, eqb}
+use borrow.Author.Tests.{leb-true, ltb-false, eq-eqb, ne-eqb, not-false}
+use Rattle.tariff.specs.Terms.{isMonth}
+use Rattle.tariff.specs.declared.evidence.Evidence.the-variants.{Ownership, Contract}
+use Rattle.tariff.specs.declared.evidence.Filing.the-variants.{OutOfRange, Filed}
+use Rattle.tariff.specs.Evidence.{evidenceOf, entryOf, highestRight}
+use Rattle.tariff.specs.Filing.{filingOf}
+use Rattle.tariff.specs.Ranges.{mostKw, within, wrongKw, wrongMonth, wrongEvidence}
+use Rattle.tariff.proofs.Tests.{or-unmet, and-both, not-or, not-not, not-ltb}
+
+pub within-bounds : (low high x : ℕ) → within low high x ≡ true → (low ≤ x) × (x ≤ high)
+unfolding within
+within-bounds low high x e = let both = and-both (leb low x) (leb x high) e in (leb-true low x (both .0), leb-true x high (both .1))
+
+pub is-month : (m : ℕ) → wrongMonth m ≡ false → (1 ≤ m) × (m ≤ 3)
+unfolding wrongMonth isMonth
+is-month m e = let both = and-both (leb 1 m) (leb m 3) (not-false (leb 1 m && leb m 3) e) in (leb-true 1 m (both .0), leb-true m 3 (both .1))
+
+-- the six tests, as the code joins them, are those of the definition
+pub all-six : (kind capacity right first last : ℕ) → (within 1 2 kind && within 1 mostKw capacity && within 1 (highestRight kind capacity) right && within 1 3 first && within 1 3 last && leb first last) ≡ not (wrongEvidence kind capacity right first last)
+unfolding wrongEvidence wrongKw wrongMonth isMonth within
+all-six kind capacity right first last = sym (simp (not-or, not-not, not-ltb))
+
+pub record EvidenceFacts (kind capacity right first last : ℕ) : Type 0 where
+  pub kinds : (1 ≤ kind) × (kind ≤ 2)
+  pub capacities : (1 ≤ capacity) × (capacity ≤ mostKw)
+  pub rights : (1 ≤ right) × (right ≤ highestRight kind capacity)
+  pub months : (1 ≤ first) × (first ≤ last) × (last ≤ 3)
+
+pub evidence-facts : (kind capacity right first last : ℕ) → wrongEvidence kind capacity right first last ≡ false → EvidenceFacts kind capacity right first last
+unfolding wrongEvidence wrongKw
+evidence-facts kind capacity right first last e =
+    let order = or-unmet _ _ e in
+    let lastMonth = or-unmet _ _ (order .0) in
+    let firstMonth = or-unmet _ _ (lastMonth .0) in
+    let rightRange = or-unmet _ _ (firstMonth .0) in
+    let kindRange = or-unmet _ _ (rightRange .0) in
+    record {
+      kinds = within-bounds 1 2 kind (not-false _ (kindRange .0));
+      capacities = within-bounds 1 mostKw capacity (not-false _ (kindRange .1));
+      rights = within-bounds 1 (highestRight kind capacity) right (not-false _ (rightRange .1));
+      months = (is-month first (firstMonth .1) .0, ltb-false _ _ (order .1), is-month last (lastMonth .1) .1)
+    }
+
+-- what a filing comes to
+pub filing-wrong : (kind capacity right first last : ℕ) → wrongEvidence kind capacity right first last ≡ true → filingOf kind capacity right first last ≡ OutOfRange
+unfolding filingOf
+filing-wrong kind capacity right first last w = rw w
+
+pub filing-owned : (kind capacity right first last : ℕ) → wrongEvidence kind capacity right first last ≡ false → kind ≡ 1 → filingOf kind capacity right first last ≡ Filed (record { evidence = Ownership capacity right; first = first; last = last })
+unfolding filingOf entryOf evidenceOf
+filing-owned kind capacity right first last w k = rw (w, eq-eqb kind 1 k)
+
+pub filing-contract : (kind capacity right first last : ℕ) → wrongEvidence kind capacity right first last ≡ false → (kind ≡ 1 → ⊥) → filingOf kind capacity right first last ≡ Filed (record { evidence = Contract right; first = first; last = last })
+unfolding filingOf entryOf evidenceOf
+filing-contract kind capacity right first last w k = rw (w, ne-eqb kind 1 k)

@@ -1,0 +1,37 @@
+-- Ranges of the numbers that the rules take (cause 3).
+use Prim.Native.Nat.{ℕ}
+use mathlib.Core.Bool.{Bool, not, _&&_, _||_}
+use lib.Dec.{leb, ltb}
+use Rattle.tariff.specs.declared.migration.ClassLine.{ClassLine}
+use Rattle.tariff.specs.Terms.{isMonth}
+use Rattle.tariff.specs.Evidence.{highestRight}
+
+-- no kW is above this one, and that of carry, prior's a, capacity, nominate and award is 1 or more
+abbrev pub mostKw : ℕ
+mostKw = 99999999
+
+unfoldable pub within : ℕ → ℕ → ℕ → Bool
+within low high x = leb low x && leb x high
+
+unfoldable pub wrongKw : ℕ → Bool
+wrongKw kw = not (within 1 mostKw kw)
+
+unfoldable pub wrongTerm : ℕ → Bool
+wrongTerm term = ltb 3 term
+
+unfoldable pub wrongMonth : ℕ → Bool
+wrongMonth m = not (isMonth m)
+
+-- verify: kind 1 or 2, the right from 1 to the highest of its kind, months 1 to 3 in order
+unfoldable pub wrongEvidence : ℕ → ℕ → ℕ → ℕ → ℕ → Bool
+wrongEvidence kind capacity right first last =
+    not (within 1 2 kind)
+    || wrongKw capacity
+    || not (within 1 (highestRight kind capacity) right)
+    || wrongMonth first
+    || wrongMonth last
+    || ltb last first
+
+-- a class line: class 1 to 8, customers and average watts up to 9,999,999
+unfoldable pub wrongClassLine : ClassLine → Bool
+wrongClassLine l = not (within 1 8 (l .class)) || ltb 9999999 (l .customers) || ltb 9999999 (l .watts)
