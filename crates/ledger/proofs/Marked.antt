@@ -7,7 +7,7 @@ use Rattle.tariff.specs.Sum.{countIf, sumTo, allBelow, anyBelow, sumOver, anyOf
 use Rattle.tariff.specs.Load.{inOrder, isEmpty, blocksBroken, presentHours, missingHours, tooManyMissing, hoursAbove, mayExceed, seldomExceeded, smallest, metric, loadPosted}
 use Rattle.tariff.specs.Eligible.{seasonalEligible, priorityEligible}
 use Rattle.tariff.specs.Terms.{termTable, termOf, firstTierOf, isMonth, hasMonth, carriedMonth}
-use Rattle.tariff.specs.Limit.{limitTier1, limitTier2, limitTier3, limitEvenTier, limitOddTier, limit}
+use Rattle.tariff.specs.Limit.{limitTier1, limitTier2, limitTier3, limitEvenTier, limitOddTier, limitBy, formulaOf, limit}
 use Rattle.tariff.specs.Evidence.{noEntry, evidenceOf, entryOf, highestRight, evidenceKw, countsFor, entryKw}
 use Rattle.tariff.specs.Migration.{wattsOneWay, netted, lostBy, share, shares, shifted}
 use Rattle.ledger.specs.Opening.{holderKind, sinkKind, base, pathSource, pathSink, pathBase, endsAt, comesFrom, countsFit, listsFit, holderLegal, parentLegal, sinkLegal, pathLegal, pathsAlike, pathNew, legal, openingRefusal}
@@ -26,5 +26,5 @@ use Rattle.ledger.specs.Marked.{upTo, oneSink, block, classLine, steadyL
 
 -- what the definitions give in each case is what 01 marks
 pub marked-cases : map (λ c. c .given) markedCases ≡ map (λ c. c .marked) markedCases
-unfolding countIf sumTo allBelow anyBelow sumOver anyOf only inOrder isEmpty blocksBroken presentHours missingHours tooManyMissing hoursAbove mayExceed seldomExceeded smallest metric loadPosted seasonalEligible priorityEligible termTable termOf firstTierOf isMonth hasMonth carriedMonth limitTier1 limitTier2 limitTier3 limitEvenTier limitOddTier limit noEntry evidenceOf entryOf highestRight evidenceKw countsFor entryKw wattsOneWay netted lostBy share shares shifted holderKind sinkKind base pathSource pathSink pathBase endsAt comesFrom countsFit listsFit holderLegal parentLegal sinkLegal pathLegal pathsAlike pathNew legal openingRefusal emptyLedger withLoads withRights withPriors withPapers withTiers tierIsOpen beforeTier loadInTime migrationInTime tierInTurn sumAtBase longTermAt priorYearAt awardsAt nominatedAt limitSums tierLimit sumFromSource verifiedKw drawsOnSame drawnBefore drawn loadBefore loadsAfter columnAfter rightsAfter priorsAfter migrated firstMet noHolder noSource noSink noPath strangerIn within wrongKw wrongTerm wrongMonth wrongLoad wrongPrior wrongEvidence wrongClassLine wrongMigration wrongTier notBetweenSuppliers losesTooMuch sinkNotFor isSubLap beyondVerified beyondRenewable beyondLimit beyondNominated loadCauses carryCauses priorCauses verifyCauses migrateCauses openCauses nominateCauses awardCauses closeCauses callCauses refusal limitCauses heldCauses netCauses queryCauses queryRefusal same2 same3 plusAt2 plusAt3 plusInTerm afterLoad afterCarry afterPrior afterVerify afterOpen afterNominate awardsAfter holdingsAfter afterClose effect accepted step held net figure answer stepAsk answers season upTo oneSink block classLine steadyLoad passTier fullTier opening1 asks1 rest1 answers1 case1 blocks2 case2 case3 case4 case5 case6 case7 case8 case9 lines10 case10 case11 case12 markedCases
+unfolding countIf sumTo allBelow anyBelow sumOver anyOf only inOrder isEmpty blocksBroken presentHours missingHours tooManyMissing hoursAbove mayExceed seldomExceeded smallest metric loadPosted seasonalEligible priorityEligible termTable termOf firstTierOf isMonth hasMonth carriedMonth limitTier1 limitTier2 limitTier3 limitEvenTier limitOddTier limitBy formulaOf limit noEntry evidenceOf entryOf highestRight evidenceKw countsFor entryKw wattsOneWay netted lostBy share shares shifted holderKind sinkKind base pathSource pathSink pathBase endsAt comesFrom countsFit listsFit holderLegal parentLegal sinkLegal pathLegal pathsAlike pathNew legal openingRefusal emptyLedger withLoads withRights withPriors withPapers withTiers tierIsOpen beforeTier loadInTime migrationInTime tierInTurn sumAtBase longTermAt priorYearAt awardsAt nominatedAt limitSums tierLimit sumFromSource verifiedKw drawsOnSame drawnBefore drawn loadBefore loadsAfter columnAfter rightsAfter priorsAfter migrated firstMet noHolder noSource noSink noPath strangerIn within wrongKw wrongTerm wrongMonth wrongLoad wrongPrior wrongEvidence wrongClassLine wrongMigration wrongTier notBetweenSuppliers losesTooMuch sinkNotFor isSubLap beyondVerified beyondRenewable beyondLimit beyondNominated loadCauses carryCauses priorCauses verifyCauses migrateCauses openCauses nominateCauses awardCauses closeCauses callCauses refusal limitCauses heldCauses netCauses queryCauses queryRefusal same2 same3 plusAt2 plusAt3 plusInTerm afterLoad afterCarry afterPrior afterVerify afterOpen afterNominate awardsAfter holdingsAfter afterClose effect accepted step held net figure answer stepAsk answers season upTo oneSink block classLine steadyLoad passTier fullTier opening1 asks1 rest1 answers1 case1 blocks2 case2 case3 case4 case5 case6 case7 case8 case9 lines10 case10 case11 case12 markedCases
 marked-cases = refl

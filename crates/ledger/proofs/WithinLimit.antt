@@ -46,8 +46,8 @@ limit-steady o L (award x q kw) h b e isOpen =
     limit-reads-before (L .tiers .openNow) (limitSums o (effect o L (award x q kw)) (L .tiers .openNow) h b) (limitSums o L (L .tiers .openNow) h b) isOpen
     (record {
       load = refl;
-      longTerm = refl;
-      priorYear = refl;
+      carried = refl;
+      prior = refl;
       tier1 = λ l. base-other o b x q (L .tiers .openNow) kw h 1 (L .tiers .awards) (λ q. omega (arith, q));
       tier2 = λ l. base-other o b x q (L .tiers .openNow) kw h 2 (L .tiers .awards) (λ q. omega (arith, q));
       tier3 = λ l. base-other o b x q (L .tiers .openNow) kw h 3 (L .tiers .awards) (λ q. omega (arith, q));

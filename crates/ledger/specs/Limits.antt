@@ -2,7 +2,8 @@
 use Prim.Native.Nat.{ℕ, _-_}
 use Rattle.tariff.specs.Sum.{countIf, sumTo}
 use Rattle.tariff.specs.Terms.{termOf, carriedMonth}
-use Rattle.tariff.specs.Limit.{Sums, limit}
+use Rattle.tariff.specs.declared.limit.Sums.{Sums}
+use Rattle.tariff.specs.Limit.{limit}
 use Rattle.ledger.specs.Opening.{Opening, endsAt}
 use Rattle.ledger.specs.Ledger.{Ledger}
 
@@ -30,8 +31,8 @@ unfoldable pub limitSums : Opening → Ledger → ℕ → ℕ → ℕ → Sums
 limitSums o L tier h b =
     record {
       load = L .loads .kw h b (termOf tier);
-      longTerm = longTermAt o L h b (carriedMonth (termOf tier));
-      priorYear = priorYearAt o L h b;
+      carried = longTermAt o L h b (carriedMonth (termOf tier));
+      prior = priorYearAt o L h b;
       tier1 = awardsAt o L h b 1;
       tier2 = awardsAt o L h b 2;
       tier3 = awardsAt o L h b 3;

@@ -45,7 +45,7 @@ evidence-facts kind capacity right first last e =
       kinds = within-bounds 1 2 kind (not-false _ (kindRange .0));
       capacities = within-bounds 1 mostKw capacity (not-false _ (kindRange .1));
       rights = within-bounds 1 (highestRight kind capacity) right (not-false _ (rightRange .1));
-      months = (is-month first (firstMonth .1) .0, ltb-false _ _ (order .1), is-month last (lastMonth .1) .1)
+      months = (is-month first (firstMonth .1) .0, ltb-false _ _ (order .1), is-month last (lastMonth .1) .1);
     }
 
 -- what a filing comes to

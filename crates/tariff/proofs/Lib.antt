@@ -7,3 +7,4 @@ pub mod Metric
 pub mod EvidenceBounds
 pub mod Products
 pub mod EvidenceRange
+pub mod Formulas

@@ -5,9 +5,11 @@ use mathlib.Core.Bool.{Bool, true, false, cond}
 use native.Mathlib.Nat.{le-trans, min-le-left, sub-le}
 use native.Mathlib.Omega.{arith}
 use lib.Dec.{leb, eqb}
-use borrow.Author.Tests.{eqb-true, eqb-false, ne-eqb, leb-true, leb-false, lt-leb}
+use borrow.Author.Tests.{eqb-true, eqb-false, ne-eqb, leb-true, leb-false, le-leb, lt-leb}
+use Rattle.tariff.specs.declared.limit.Sums.{Sums}
+use Rattle.tariff.specs.Ranges.{within}
 use Rattle.tariff.specs.Eligible.{seasonalEligible, priorityEligible}
-use Rattle.tariff.specs.Limit.{Sums, limitTier1, limitTier2, limitTier3, limitEvenTier, limitOddTier, limit}
+use Rattle.tariff.specs.Limit.{limitTier1, limitTier2, limitTier3, limitEvenTier, limitOddTier, limitBy, formulaOf, limit}
 
 pub seasonal-le : (load : ℕ) → seasonalEligible load ≤ load
 unfolding seasonalEligible
@@ -24,24 +26,24 @@ half-load-never-tighter load = omega arith
 
 -- the limit by the tier's number, one law to a formula
 pub limit-one : (s : Sums) → limit 1 s ≡ limitTier1 s
-unfolding limit
+unfolding limit limitBy formulaOf within
 limit-one s = refl
 
 pub limit-two : (s : Sums) → limit 2 s ≡ limitTier2 s
-unfolding limit
+unfolding limit limitBy formulaOf within
 limit-two s = refl
 
 pub limit-three : (s : Sums) → limit 3 s ≡ limitTier3 s
-unfolding limit
+unfolding limit limitBy formulaOf within
 limit-three s = refl
 
 pub limit-even : (tier : ℕ) (s : Sums) → 3 < tier → eqb (tier % 2) 0 ≡ true → limit tier s ≡ limitEvenTier s
-unfolding limit
-limit-even tier s l e = rw (ne-eqb tier 1 (λ q. omega (arith, q)), lt-leb tier 3 l, e)
+unfolding limit limitBy formulaOf within
+limit-even tier s l e = rw (ne-eqb tier 1 (λ q. omega (arith, q)), le-leb 2 tier (omega arith), lt-leb tier 3 l, e)
 
 pub limit-odd : (tier : ℕ) (s : Sums) → 3 < tier → eqb (tier % 2) 0 ≡ false → limit tier s ≡ limitOddTier s
-unfolding limit
-limit-odd tier s l e = rw (ne-eqb tier 1 (λ q. omega (arith, q)), lt-leb tier 3 l, e)
+unfolding limit limitBy formulaOf within
+limit-odd tier s l e = rw (ne-eqb tier 1 (λ q. omega (arith, q)), le-leb 2 tier (omega arith), lt-leb tier 3 l, e)
 
 -- which formula a tier has
 pub data TierCase : ℕ → Type 0 where
@@ -85,8 +87,8 @@ limit-le-load tier s low = let seasonal = seasonal-le (s .load) in let priority 
 -- the same sums, as far as a tier's limit reads them: awards of earlier tiers only
 pub record SameBefore (tier : ℕ) (s u : Sums) : Type 0 where
   pub load : s .load ≡ u .load
-  pub longTerm : s .longTerm ≡ u .longTerm
-  pub priorYear : s .priorYear ≡ u .priorYear
+  pub carried : s .carried ≡ u .carried
+  pub prior : s .prior ≡ u .prior
   pub tier1 : 1 < tier → s .tier1 ≡ u .tier1
   pub tier2 : 2 < tier → s .tier2 ≡ u .tier2
   pub tier3 : 3 < tier → s .tier3 ≡ u .tier3

@@ -1,47 +1,49 @@
 -- The limit on a holder's nominations at a base in a tier (01, Limits). Differences end at 0.
 use Prim.Native.Nat.{ℕ, _+_, _-_, _%_, min}
 use mathlib.Core.Bool.{Bool, cond}
-use lib.Dec.{leb, eqb}
+use lib.Dec.{eqb}
+use Rattle.tariff.specs.declared.limit.Sums.{Sums}
+use Rattle.tariff.specs.declared.limit.Formula.{Formula}
+use Rattle.tariff.specs.declared.limit.Formula.the-variants.{First, Second, Third, Even, Odd}
+use Rattle.tariff.specs.declared.limit.TierRule.{TierRule}
 use Rattle.tariff.specs.Eligible.{seasonalEligible, priorityEligible}
-
--- what a limit is made of, for one holder, base and tier
-pub record Sums : Type 0 where
-  -- A: the load at the tier's term
-  pub load : ℕ
-  -- LT: the carried holding, of the month, or of month 1 in tiers 1 to 3
-  pub longTerm : ℕ
-  -- the sum of prior's a
-  pub priorYear : ℕ
-  -- T1, T2, T3: the awards in tiers 1 to 3
-  pub tier1 : ℕ
-  pub tier2 : ℕ
-  pub tier3 : ℕ
-  -- the awards in the tier just before
-  pub before : ℕ
+use Rattle.tariff.specs.Terms.{termOf}
+use Rattle.tariff.specs.Ranges.{within}
 
 -- tier 1: the lesser of P − LT and last year's allocation − LT
 unfoldable pub limitTier1 : Sums → ℕ
-limitTier1 s = min (priorityEligible (s .load) - s .longTerm) (s .priorYear - s .longTerm)
+limitTier1 s = min (priorityEligible (s .load) - s .carried) (s .prior - s .carried)
 
 -- tier 2: P − T1 − LT
 unfoldable pub limitTier2 : Sums → ℕ
-limitTier2 s = priorityEligible (s .load) - s .tier1 - s .longTerm
+limitTier2 s = priorityEligible (s .load) - s .tier1 - s .carried
 
 -- tier 3: S − T1 − T2 − LT
 unfoldable pub limitTier3 : Sums → ℕ
-limitTier3 s = seasonalEligible (s .load) - s .tier1 - s .tier2 - s .longTerm
+limitTier3 s = seasonalEligible (s .load) - s .tier1 - s .tier2 - s .carried
 
 -- tiers 4, 6 and 8: A − (T1 + T2 + T3) − LT of the month
 unfoldable pub limitEvenTier : Sums → ℕ
-limitEvenTier s = s .load - (s .tier1 + s .tier2 + s .tier3) - s .longTerm
+limitEvenTier s = s .load - (s .tier1 + s .tier2 + s .tier3) - s .carried
 
 -- tiers 5, 7 and 9: the same less the awards of the tier just before
 unfoldable pub limitOddTier : Sums → ℕ
 limitOddTier s = limitEvenTier s - s .before
 
--- the limit is chosen by the tier's number: 1; 2 and 3; even; odd
+unfoldable pub limitBy : Formula → Sums → ℕ
+limitBy First s = limitTier1 s
+limitBy Second s = limitTier2 s
+limitBy Third s = limitTier3 s
+limitBy Even s = limitEvenTier s
+limitBy Odd s = limitOddTier s
+
+-- the formula is chosen by the tier's number: 1; 2 and 3; an even tier; an odd one
+unfoldable pub formulaOf : ℕ → Formula
+formulaOf tier = cond (eqb tier 1) First (cond (within 2 3 tier) (cond (eqb tier 2) Second Third) (cond (eqb (tier % 2) 0) Even Odd))
+
+-- and so is the term whose load it takes
+unfoldable pub ruleOf : ℕ → TierRule
+ruleOf tier = record { formula = formulaOf tier; term = termOf tier }
+
 unfoldable pub limit : ℕ → Sums → ℕ
-limit tier s =
-    cond (eqb tier 1) (limitTier1 s)
-    (cond (leb tier 3) (cond (eqb tier 2) (limitTier2 s) (limitTier3 s))
-    (cond (eqb (tier % 2) 0) (limitEvenTier s) (limitOddTier s)))
+limit tier s = limitBy (formulaOf tier) s

@@ -1,0 +1,68 @@
+-- Laws of the formula and the term that a tier's number selects. Assumes nothing.
+use Prim.Native.Nat.{ℕ, _+_, _-_, _/_, _%_, _≤_, _<_}
+use mathlib.Core.Path.{_≡_, refl, sym, ap, _∙_}
+use mathlib.Core.Bool.{Bool, true, false, cond, _&&_}
+use native.Mathlib.Omega.{arith}
+use lib.ListN.{getD, List·getD-eq-default}
+use lib.Dec.{leb, eqb}
+use borrow.Author.Tests.{eq-eqb, ne-eqb, le-leb, lt-leb, eqb-true}
+use Rattle.tariff.specs.declared.limit.Sums.{Sums}
+use Rattle.tariff.specs.declared.limit.Formula.{Formula}
+use Rattle.tariff.specs.declared.limit.Formula.the-variants.{First, Second, Third, Even, Odd}
+use Rattle.tariff.specs.declared.limit.TierRule.{TierRule}
+use Rattle.tariff.specs.Sum.{allBelow}
+use Rattle.tariff.specs.Terms.{termTable, termOf}
+use Rattle.tariff.specs.Ranges.{within}
+use Rattle.tariff.specs.Limit.{limitTier1, limitTier2, limitTier3, limitEvenTier, limitOddTier, limitBy, formulaOf, ruleOf, limit}
+use Rattle.tariff.proofs.Tests.{all-below, and-right-false, and-left-false}
+
+pub formula-first : (tier : ℕ) → tier ≡ 1 → formulaOf tier ≡ First
+unfolding formulaOf
+formula-first tier e = rw (eq-eqb tier 1 e)
+
+pub formula-second : (tier : ℕ) → tier ≡ 2 → formulaOf tier ≡ Second
+unfolding formulaOf within
+formula-second tier e = ap formulaOf e
+
+pub formula-third : (tier : ℕ) → 1 ≤ tier → (tier ≡ 1 → ⊥) → tier < 4 → (tier ≡ 2 → ⊥) → formulaOf tier ≡ Third
+unfolding formulaOf within
+formula-third tier low one high two = ap formulaOf (let e : tier ≡ 3 = omega (arith, one, two) in e)
+
+-- outside tiers 2 and 3
+pub below-one : (tier : ℕ) → tier < 1 → within 2 3 tier ≡ false
+unfolding within
+below-one tier l = and-left-false (leb tier 3) (lt-leb 2 tier (omega arith))
+
+pub above-three : (tier : ℕ) → 4 ≤ tier → within 2 3 tier ≡ false
+unfolding within
+above-three tier l = and-right-false (leb 2 tier) (lt-leb tier 3 l)
+
+pub formula-even : (tier : ℕ) → (tier ≡ 1 → ⊥) → within 2 3 tier ≡ false → tier % 2 ≡ 0 → formulaOf tier ≡ Even
+unfolding formulaOf
+formula-even tier ne out e = rw (ne-eqb tier 1 ne, out, eq-eqb (tier % 2) 0 e)
+
+pub formula-odd : (tier : ℕ) → (tier ≡ 1 → ⊥) → within 2 3 tier ≡ false → (tier % 2 ≡ 0 → ⊥) → formulaOf tier ≡ Odd
+unfolding formulaOf
+formula-odd tier ne out e = rw (ne-eqb tier 1 ne, out, ne-eqb (tier % 2) 0 e)
+
+-- a rule is its formula and its term
+pub rule-is : (tier : ℕ) {f : Formula} {t : ℕ} → formulaOf tier ≡ f → t ≡ termOf tier → _≡_ {A = TierRule} (record { formula = f; term = t }) (ruleOf tier)
+unfolding ruleOf
+rule-is tier p q = λ i. record { formula = sym p i; term = q i }
+
+-- past the last tier the table has nothing
+pub term-past : (tier : ℕ) → 9 < tier → termOf tier ≡ 0
+unfolding termOf termTable
+term-past tier l = List·getD-eq-default termTable 0 {n = tier - 1} (omega arith)
+
+pub term-none : (tier : ℕ) → tier < 1 → termOf tier ≡ 0
+unfolding termOf termTable
+term-none tier l = ap termOf (let e : tier ≡ 0 = omega arith in e)
+
+-- the rule of the table, one test over all nine entries: 0 up to tier 3, else half the tier less 1
+right : ℕ → Bool
+right i = eqb (termOf (i + 1)) (cond (leb (i + 1) 3) 0 ((i + 1) / 2 - 1))
+
+pub term-rule : (i : ℕ) → i < 9 → termOf (i + 1) ≡ cond (leb (i + 1) 3) 0 ((i + 1) / 2 - 1)
+unfolding right termOf termTable allBelow
+term-rule i l = eqb-true (termOf (i + 1)) (cond (leb (i + 1) 3) 0 ((i + 1) / 2 - 1)) (all-below 9 right refl i l)

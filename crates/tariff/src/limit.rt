@@ -1,0 +1,180 @@
+// Eligible quantities and the limit by tier (01, Limits).
+ghost use mathlib.Core.Path.{_≡_};
+ghost use Prim.Native.Nat.{_-_};
+ghost use Rattle.tariff.specs.Eligible.{seasonalEligible, priorityEligible};
+ghost use Rattle.tariff.specs.Terms.{termOf};
+ghost use Rattle.tariff.specs.Limit.{limitTier1, limitTier2, limitTier3, limitEvenTier, limitOddTier, limitBy, ruleOf, limit};
+
+// What a limit is made of, for one holder, base and tier.
+pub struct Sums {
+    // A: the load at the tier's term.
+    pub load: u64,
+    // LT: the carried holding, of the month, or of month 1 in tiers 1 to 3.
+    pub carried: u64,
+    // The sum of prior's a.
+    pub prior: u64,
+    // T1, T2, T3: the awards in tiers 1 to 3.
+    pub tier1: u64,
+    pub tier2: u64,
+    pub tier3: u64,
+    // The awards in the tier just before.
+    pub before: u64,
+}
+
+// The formulas that a limit can have.
+pub enum Formula {
+    First,
+    Second,
+    Third,
+    Even,
+    Odd,
+}
+
+// A tier's formula, and the term whose load it takes.
+pub struct TierRule {
+    pub formula: Formula,
+    pub term: u64,
+}
+
+// The term of each tier, tier 1 first.
+const TERMS: [u64; 9] = [0, 0, 0, 1, 1, 2, 2, 3, 3];
+
+// The term of a tier; 0 for a number that is no tier.
+pub fn term_of(tier: u64) -> u64
+    ensures { λ r. ⌜ r ≡ termOf tier ⌝ }
+{
+    if tier < 1 {
+        return 0;
+    }
+    if 9 < tier {
+        return 0;
+    }
+    TERMS[(tier - 1) as usize]
+}
+
+// The formula and the term, by the tier's number.
+pub fn tier_rule(tier: u64) -> TierRule
+    ensures { λ r. ⌜ r ≡ ruleOf tier ⌝ }
+{
+    let term = term_of(tier);
+    match tier {
+        1 => TierRule {
+            formula: Formula::First,
+            term,
+        },
+        2..=3 => {
+            if tier == 2 {
+                TierRule {
+                    formula: Formula::Second,
+                    term,
+                }
+            } else {
+                TierRule {
+                    formula: Formula::Third,
+                    term,
+                }
+            }
+        }
+        _ => {
+            if tier % 2 == 0 {
+                TierRule {
+                    formula: Formula::Even,
+                    term,
+                }
+            } else {
+                TierRule {
+                    formula: Formula::Odd,
+                    term,
+                }
+            }
+        }
+    }
+}
+
+// a less b, not below 0.
+fn less(a: u64, b: u64) -> u64
+    ensures { λ r. ⌜ r ≡ a - b ⌝ }
+{
+    if b <= a { a - b } else { 0 }
+}
+
+// S: three quarters of the load. By quarters, so that no product wraps.
+pub fn seasonal_eligible(load: u64) -> u64
+    ensures { λ r. ⌜ r ≡ seasonalEligible load ⌝ }
+{
+    load / 4 * 3 + load % 4 * 3 / 4
+}
+
+// P: two thirds of S. By thirds, so that no product wraps.
+pub fn priority_eligible(load: u64) -> u64
+    ensures { λ r. ⌜ r ≡ priorityEligible load ⌝ }
+{
+    let season = seasonal_eligible(load);
+    season / 3 * 2 + season % 3 * 2 / 3
+}
+
+fn limit_tier_1(s: Sums) -> u64
+    ensures { λ r. ⌜ r ≡ limitTier1 s ⌝ }
+{
+    let by_load = less(priority_eligible(s.load), s.carried);
+    let by_prior = less(s.prior, s.carried);
+    if by_load <= by_prior {
+        by_load
+    } else {
+        by_prior
+    }
+}
+
+fn limit_tier_2(s: Sums) -> u64
+    ensures { λ r. ⌜ r ≡ limitTier2 s ⌝ }
+{
+    less(less(priority_eligible(s.load), s.tier1), s.carried)
+}
+
+fn limit_tier_3(s: Sums) -> u64
+    ensures { λ r. ⌜ r ≡ limitTier3 s ⌝ }
+{
+    less(
+        less(less(seasonal_eligible(s.load), s.tier1), s.tier2),
+        s.carried,
+    )
+}
+
+// The awards come off one after the other, so that no sum wraps.
+fn limit_even_tier(s: Sums) -> u64
+    ensures { λ r. ⌜ r ≡ limitEvenTier s ⌝ }
+{
+    less(
+        less(less(less(s.load, s.tier1), s.tier2), s.tier3),
+        s.carried,
+    )
+}
+
+fn limit_odd_tier(s: Sums) -> u64
+    ensures { λ r. ⌜ r ≡ limitOddTier s ⌝ }
+{
+    let before = s.before;
+    less(limit_even_tier(s), before)
+}
+
+// The limit by a formula.
+pub fn limit_by(formula: Formula, s: Sums) -> u64
+    ensures { λ r. ⌜ r ≡ limitBy formula s ⌝ }
+{
+    match formula {
+        Formula::First => limit_tier_1(s),
+        Formula::Second => limit_tier_2(s),
+        Formula::Third => limit_tier_3(s),
+        Formula::Even => limit_even_tier(s),
+        Formula::Odd => limit_odd_tier(s),
+    }
+}
+
+// The limit in a tier.
+pub fn tier_limit(tier: u64, s: Sums) -> u64
+    ensures { λ r. ⌜ r ≡ limit tier s ⌝ }
+{
+    let rule = tier_rule(tier);
+    let formula = rule.formula;
+    limit_by(formula, s)
+}
