@@ -8,3 +8,8 @@ pub mod EvidenceBounds
 pub mod Products
 pub mod EvidenceRange
 pub mod Formulas
+pub mod Lists
+pub mod FitLines
+pub mod Pairs
+pub mod NettedLines
+pub mod ShareCells

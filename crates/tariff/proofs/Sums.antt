@@ -4,6 +4,7 @@ use mathlib.Core.Path.{_≡_, refl, sym, ap, _∙_, ap₂, subst}
 use mathlib.Core.Bool.{Bool, true, false, cond}
 use mathlib.Core.Logic.{_⊎_, inl, inr}
 use native.Mathlib.Nat.{le-refl, le-trans, add-le-add, suc-mul, not-suc-le-zero, le-suc}
+use native.Mathlib.Numerals.{add-one}
 use native.Mathlib.Omega.{arith}
 use lib.Dec.{eqb}
 use borrow.Author.Tests.{eqb-true, eqb-false, eq-eqb, ne-eqb}
@@ -103,3 +104,21 @@ sum-one v (suc n) k h = go (below-suc h) (sum-one v n k)
 -- one term more in one place of a sum
 pub sum-plus : (f : ℕ → ℕ) (v n k : ℕ) → k < n → sumTo n (λ i. f i + countIf (eqb i k) v) ≡ sumTo n f + v
 sum-plus f v n k h = sum-add f (λ i. countIf (eqb i k) v) n ∙ ap (λ x. sumTo n f + x) (sum-one v n k h)
+
+-- a sum that a loop forms: nothing yet, one term more, all
+pub sum-more : (f : ℕ → ℕ) (j s v : ℕ) → s ≡ sumTo j f → v ≡ f j → s + v ≡ sumTo (j + 1) f
+unfolding sumTo
+sum-more f j s v p q = rw add-one (omega arith)
+
+pub sum-whole : (f : ℕ → ℕ) (j n s : ℕ) → j ≤ n → n ≤ j → s ≡ sumTo j f → s ≡ sumTo n f
+sum-whole f j n s below above e = e ∙ ap (λ k. sumTo k f) (let same : j ≡ n = omega arith in same)
+
+-- a part of a sum is at most the sum
+pub sum-part-le : (f : ℕ → ℕ) (n j : ℕ) → j < n → sumTo j f + f j ≤ sumTo n f
+unfolding sumTo
+sum-part-le f zero j l = absurd (not-suc-le-zero l)
+sum-part-le f (suc n) j l = go (below-suc l) (sum-part-le f n j)
+  where
+    go : (j < n) ⊎ (j ≡ n) → (j < n → sumTo j f + f j ≤ sumTo n f) → sumTo j f + f j ≤ sumTo n f + f n
+    go (inl b) ih = let h = ih b in omega arith
+    go (inr e) ih = let a = ap (λ k. sumTo k f) e in let b = ap f e in omega arith

@@ -1,14 +1,15 @@
 -- What the tests of the rules tell, taken apart and put together. Assumes nothing.
 use Prim.Native.Nat.{ℕ, _≤_, _<_}
 use mathlib.Core.Path.{_≡_, refl, sym, ap, _∙_}
-use mathlib.Core.Bool.{Bool, true, false, cond, not, _&&_, _||_}
+use mathlib.Core.Bool.{Bool, true, false, cond, not, _&&_, _||_, or-true}
 use mathlib.Core.List.{List, [], _∷_}
 use mathlib.Core.Logic.{_⊎_, inl, inr}
 use native.Mathlib.Nat.{not-suc-le-zero, le-refl}
 use native.Mathlib.Omega.{arith}
-use Prim.Native.Nat.{zero, suc}
+use Prim.Native.Nat.{zero, suc, _+_}
+use native.Mathlib.Numerals.{add-one}
 use lib.Dec.{leb, ltb}
-use borrow.Author.Tests.{ltb-true, ltb-false, le-leb, lt-leb}
+use borrow.Author.Tests.{ltb-true, ltb-false, leb-true, leb-false, le-leb, lt-leb, le-ltb, lt-ltb}
 use Rattle.tariff.specs.Sum.{allBelow, anyBelow, anyOf}
 use Rattle.tariff.proofs.Sums.{below-suc}
 
@@ -82,3 +83,25 @@ not-ltb a b = go (ltb a b) refl
     go : (t : Bool) → ltb a b ≡ t → not t ≡ leb b a
     go true e = sym (lt-leb b a (ltb-true a b e))
     go false e = sym (le-leb b a (ltb-false a b e))
+
+pub not-leb : (a b : ℕ) → not (leb a b) ≡ ltb b a
+not-leb a b = go (leb a b) refl
+  where
+    go : (t : Bool) → leb a b ≡ t → not t ≡ ltb b a
+    go true e = sym (le-ltb b a (leb-true a b e))
+    go false e = sym (lt-ltb b a (leb-false a b e))
+
+-- a test that one number below n passes
+pub any-at : (n : ℕ) (test : ℕ → Bool) (i : ℕ) → i < n → test i ≡ true → anyBelow n test ≡ true
+unfolding anyBelow
+any-at zero test i l e = absurd (not-suc-le-zero l)
+any-at (suc n) test i l e = go (below-suc l) (any-at n test i)
+  where
+    go : (i < n) ⊎ (i ≡ n) → (i < n → test i ≡ true → anyBelow n test ≡ true) → (anyBelow n test || test n) ≡ true
+    go (inl b) ih = or-left-true (test n) (ih b e)
+    go (inr q) ih = rw (sym (ap test q) ∙ e) (or-true (anyBelow n test))
+
+-- one number more that fails a test
+pub none-more : (n : ℕ) (test : ℕ → Bool) → anyBelow n test ≡ false → test n ≡ false → anyBelow (n + 1) test ≡ false
+unfolding anyBelow
+none-more n test p q = rw (add-one, p, q)

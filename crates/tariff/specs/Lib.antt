@@ -8,3 +8,4 @@ pub mod Evidence
 pub mod Migration
 pub mod Ranges
 pub mod Filing
+pub mod Netting

@@ -1,7 +1,7 @@
 -- Sums and searches that the rules are written with.
 use Prim.Native.Nat.{ℕ, zero, suc, _+_}
 use mathlib.Core.Bool.{Bool, true, false, cond, _&&_, _||_}
-use mathlib.Core.List.{List, [], _∷_}
+use mathlib.Core.List.{List, [], _∷_, _++_}
 
 -- v where the test passes, else 0
 unfoldable pub countIf : Bool → ℕ → ℕ
@@ -37,3 +37,8 @@ module _ {A : Type 0} where
   unfoldable pub only : (A → Bool) → List A → List A
   only test [] = []
   only test (x ∷ xs) = cond (test x) (x ∷ only test xs) (only test xs)
+
+  -- the list of f 0, f 1, .. f (n − 1)
+  unfoldable pub listTo : ℕ → (ℕ → A) → List A
+  listTo zero f = []
+  listTo (suc n) f = listTo n f ++ (f n ∷ [])

@@ -92,7 +92,7 @@ pub fn tier_rule(tier: u64) -> TierRule
 }
 
 // a less b, not below 0.
-fn less(a: u64, b: u64) -> u64
+pub fn less(a: u64, b: u64) -> u64
     ensures { λ r. ⌜ r ≡ a - b ⌝ }
 {
     if b <= a { a - b } else { 0 }

@@ -1,0 +1,55 @@
+-- Class lines that are fit to be netted: the tests of the code, and the facts behind them. Assumes nothing.
+use Prim.Native.Nat.{ℕ, _+_, _*_, _≤_, _<_}
+use mathlib.Core.Path.{_≡_, refl, sym, ap, _∙_}
+use mathlib.Core.Bool.{Bool, true, false, not, _&&_, _||_, and-assoc}
+use mathlib.Core.List.{List}
+use native.Mathlib.Omega.{arith}
+use lib.ListN.{length, getD}
+use lib.Dec.{leb, ltb, eqb}
+use borrow.Author.Tests.{leb-true, leb-false, ltb-false, eqb-true, not-true, not-false}
+use Rattle.tariff.specs.declared.migration.ClassLine.{ClassLine}
+use Rattle.tariff.specs.Sum.{anyBelow, anyOf, listTo}
+use Rattle.tariff.specs.Ranges.{within, wrongClassLine}
+use Rattle.tariff.specs.Netting.{SameLengths, classLineAt, classLinesOf, unfitLine, linesFit}
+use Rattle.tariff.proofs.Tests.{any-at, or-unmet, and-both, none-below, not-or, not-not, not-ltb, not-leb}
+use Rattle.tariff.proofs.Lists.{any-list-to}
+
+-- the tests on one line, as the code joins them, are those of the definition
+pub line-tests : (from to class customers watts : ℕ) → ((ltb from 8 && ltb to 8) && (leb 1 class && leb class 8) && leb customers 9999999 && leb watts 9999999) ≡ not (unfitLine (record { from = from; to = to; class = class; customers = customers; watts = watts }))
+unfolding unfitLine wrongClassLine within
+line-tests from to class customers watts = simp (not-or, not-not, not-ltb, not-leb, and-assoc)
+
+module _ (froms tos classes customers watts : List ℕ) where
+  -- the test on the lines, line by line
+  abbrev pub unfitAt : ℕ → Bool
+  unfitAt k = unfitLine (classLineAt froms tos classes customers watts k)
+
+  pub any-unfit : anyOf (classLinesOf froms tos classes customers watts) unfitLine ≡ anyBelow (length froms) unfitAt
+  unfolding classLinesOf
+  any-unfit = any-list-to (length froms) (classLineAt froms tos classes customers watts) unfitLine
+
+  pub some-unfit : (k : ℕ) → k < length froms → unfitAt k ≡ true → false ≡ not (anyOf (classLinesOf froms tos classes customers watts) unfitLine)
+  some-unfit k l e = sym (ap not (any-unfit ∙ any-at (length froms) unfitAt k l e))
+
+  pub none-unfit : (k : ℕ) → k ≤ length froms → length froms ≤ k → anyBelow k unfitAt ≡ false → true ≡ not (anyOf (classLinesOf froms tos classes customers watts) unfitLine)
+  none-unfit k below above e = sym (ap not (any-unfit ∙ ap (λ n. anyBelow n unfitAt) (let same : length froms ≡ k = omega arith in same) ∙ e))
+
+  -- the tests on the lengths
+  abbrev pub lengthTests : Bool
+  lengthTests = leb (length froms) 64 && eqb (length tos) (length froms) && eqb (length classes) (length froms) && eqb (length customers) (length froms) && eqb (length watts) (length froms)
+
+  pub same-lengths : lengthTests ≡ true → SameLengths froms tos classes customers watts
+  same-lengths e =
+      let four = and-both _ _ e in
+      let three = and-both _ _ (four .0) in
+      let two = and-both _ _ (three .0) in
+      let one = and-both (leb (length froms) 64) (eqb (length tos) (length froms)) (two .0) in
+      record { ofTos = eqb-true _ _ (one .1); ofClasses = eqb-true _ _ (two .1); ofCustomers = eqb-true _ _ (three .1); ofWatts = eqb-true _ _ (four .1) }
+
+  pub fit-by-lines : (all : Bool) → lengthTests ≡ true → all ≡ not (anyOf (classLinesOf froms tos classes customers watts) unfitLine) → all ≡ linesFit froms tos classes customers watts
+  unfolding linesFit
+  fit-by-lines all e q = q ∙ sym (ap (λ b. b && not (anyOf (classLinesOf froms tos classes customers watts) unfitLine)) e)
+
+  pub unfit-by-lengths : lengthTests ≡ false → false ≡ linesFit froms tos classes customers watts
+  unfolding linesFit
+  unfit-by-lengths e = sym (ap (λ b. b && not (anyOf (classLinesOf froms tos classes customers watts) unfitLine)) e)

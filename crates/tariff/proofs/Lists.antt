@@ -1,0 +1,73 @@
+-- Laws of lists given by their entries: what stands where, sums and tests over them, and one stored entry. Assumes nothing.
+use Prim.Native.Nat.{ℕ, zero, suc, _+_, _-_, _*_, _/_, _%_, _≤_, _<_}
+use mathlib.Core.Path.{_≡_, refl, sym, ap, ap₂, _∙_, subst}
+use mathlib.Core.Bool.{Bool, true, false, _||_, or-false, or-assoc}
+use mathlib.Core.List.{List, [], _∷_, _++_}
+use mathlib.Core.Logic.{_⊎_, inl, inr}
+use native.Mathlib.Nat.{add-zero, le-refl, sub-self, not-suc-le-zero}
+use native.Mathlib.Numerals.{add-one}
+use native.Mathlib.Omega.{arith}
+use lib.ListN.{length, getD, set, length-append, List·getD-append}
+use lib.Seq.{getD-append-add, ext-getD, getD-set-same, getD-set-other}
+use Rattle.tariff.specs.Sum.{sumTo, anyBelow, sumOver, anyOf, listTo}
+use Rattle.tariff.proofs.Sums.{below-suc}
+
+module _ {A : Type 0} where
+  pub length-list-to : (n : ℕ) (f : ℕ → A) → length (listTo n f) ≡ n
+  unfolding listTo
+  length-list-to zero f = refl
+  length-list-to (suc n) f = let ih = length-list-to n f in let app = length-append (listTo n f) (f n ∷ []) in omega arith
+
+  pub at-list-to : (n : ℕ) (f : ℕ → A) (d : A) (k : ℕ) → k < n → getD (listTo n f) k d ≡ f k
+  unfolding listTo
+  at-list-to zero f d k l = absurd (not-suc-le-zero l)
+  at-list-to (suc n) f d k l = go (below-suc l) (at-list-to n f d k)
+    where
+      go : (k < n) ⊎ (k ≡ n) → (k < n → getD (listTo n f) k d ≡ f k) → getD (listTo n f ++ (f n ∷ [])) k d ≡ f k
+      go (inl b) ih = List·getD-append (listTo n f) (f n ∷ []) d k (let e = length-list-to n f in omega arith) ∙ ih b
+      go (inr e) ih =
+          let len = length-list-to n f in
+          ap (λ i. getD (listTo n f ++ (f n ∷ [])) i d) (let q : k ≡ length (listTo n f) + 0 = omega arith in q)
+          ∙ getD-append-add (listTo n f) (f n ∷ []) 0 d
+          ∙ ap f (sym e)
+
+  sum-append : (xs : List A) (x : A) (g : A → ℕ) → sumOver (xs ++ (x ∷ [])) g ≡ sumOver xs g + g x
+  unfolding sumOver
+  sum-append [] x g = omega arith
+  sum-append (y ∷ ys) x g = let ih = sum-append ys x g in omega arith
+
+  any-append : (xs : List A) (x : A) (test : A → Bool) → anyOf (xs ++ (x ∷ [])) test ≡ (anyOf xs test || test x)
+  unfolding anyOf
+  any-append [] x test = or-false (test x)
+  any-append (y ∷ ys) x test = ap (λ b. test y || b) (any-append ys x test) ∙ sym (or-assoc (test y) (anyOf ys test) (test x))
+
+  pub sum-list-to : (n : ℕ) (f : ℕ → A) (g : A → ℕ) → sumOver (listTo n f) g ≡ sumTo n (λ k. g (f k))
+  unfolding listTo sumTo sumOver
+  sum-list-to zero f g = refl
+  sum-list-to (suc n) f g = sum-append (listTo n f) (f n) g ∙ ap (λ s. s + g (f n)) (sum-list-to n f g)
+
+  pub any-list-to : (n : ℕ) (f : ℕ → A) (test : A → Bool) → anyOf (listTo n f) test ≡ anyBelow n (λ k. test (f k))
+  unfolding listTo anyBelow anyOf
+  any-list-to zero f test = refl
+  any-list-to (suc n) f test = any-append (listTo n f) (f n) test ∙ ap (λ b. b || test (f n)) (any-list-to n f test)
+
+-- a list with these entries is the list of them
+pub list-is : (n : ℕ) (f : ℕ → ℕ) (xs : List ℕ) → length xs ≡ n → ((k : ℕ) → k < n → getD xs k 0 ≡ f k) → xs ≡ listTo n f
+list-is n f xs e at = ext-getD 0 xs (listTo n f) (e ∙ sym (length-list-to n f)) (λ k l. let b : k < n = omega arith in at k b ∙ sym (at-list-to n f 0 k b))
+
+-- a list whose first k entries are filled, and one more
+abbrev pub Filled : (ℕ → ℕ) → ℕ → List ℕ → Type 0
+Filled f k xs = (q : ℕ) → q < k → getD xs q 0 ≡ f q
+
+pub filled-none : (f : ℕ → ℕ) (xs : List ℕ) → Filled f 0 xs
+filled-none f xs q l = absurd (not-suc-le-zero l)
+
+pub filled-more : (f : ℕ → ℕ) (k : ℕ) (xs : List ℕ) (v : ℕ) → k < length xs → v ≡ f k → Filled f k xs → Filled f (k + 1) (set xs k v)
+filled-more f k xs v l e old q b = go (below-suc (let s : q < suc k = omega arith in s))
+  where
+    go : (q < k) ⊎ (q ≡ k) → getD (set xs k v) q 0 ≡ f q
+    go (inl i) = getD-set-other xs k q v 0 (λ s. omega (arith, s)) ∙ old q i
+    go (inr s) = ap (λ i. getD (set xs k v) i 0) s ∙ getD-set-same xs k v 0 l ∙ e ∙ ap f (sym s)
+
+pub filled-all : (f : ℕ → ℕ) (n k : ℕ) (xs : List ℕ) → length xs ≡ n → n ≤ k → Filled f k xs → xs ≡ listTo n f
+filled-all f n k xs len above old = list-is n f xs len (λ q l. old q (omega arith))
