@@ -13,3 +13,9 @@ pub mod FitLines
 pub mod Pairs
 pub mod NettedLines
 pub mod ShareCells
+pub mod Blocks
+pub mod Ordered
+pub mod Lowest
+pub mod Levels
+pub mod Found
+pub mod Refusals

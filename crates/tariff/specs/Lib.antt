@@ -1,6 +1,8 @@
 -- The tariff's rules on numbers, as document 01 condenses them. One rule to a definition.
 pub mod Sum
 pub mod Load
+pub mod Metered
+pub mod Levels
 pub mod Eligible
 pub mod Terms
 pub mod Limit

@@ -2,4 +2,5 @@
 
 pub mod evidence;
 pub mod limit;
+pub mod load;
 pub mod migration;

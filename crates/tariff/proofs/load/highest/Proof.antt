@@ -1,0 +1,57 @@
+-- `tariff::load::highest` meets its contract. The loop's invariant: the highest kW so far and the highest of those left give the highest of all.
+-- Assumes nothing.
+use Prim.Native.Nat.{_-_, _≤_, max}
+use mathlib.Core.Path.{_≡_}
+use native.Mathlib.Omega.{arith}
+use lib.ListN.{length, drop}
+use Rattle.tariff.specs.Levels.{highestKw}
+use Rattle.tariff.proofs.Lowest.{highest-left, highest-none-left}
+use Rattle.tariff.proofs.load.highest.Statement.{statement}
+use Rattle.tariff.proofs.load.highest.Tie as tie
+
+abbrev Inv-loop : tie.InvT-loop
+Inv-loop kws highest₀ i₀ highest i = (i ≤ length kws) × (max highest (highestKw (drop i kws)) ≡ highestKw kws)
+
+abbrev μ-loop : tie.MeasureT-loop
+μ-loop kws highest₀ i₀ highest i = length kws - i
+
+loop-holds : tie.Need-loop-holds Inv-loop μ-loop
+loop-holds c = omega arith
+
+mul-larger : tie.Need-mul-larger Inv-loop μ-loop
+mul-larger c = omega arith
+
+shared-slice-read-larger : tie.Need-shared-slice-read-larger Inv-loop μ-loop
+shared-slice-read-larger c = omega arith
+
+larger-requires : tie.Need-larger-requires Inv-loop μ-loop
+larger-requires c κs = omega arith
+
+add-i : tie.Need-add-i Inv-loop μ-loop
+add-i c = omega arith
+
+loop-less : tie.Need-loop-less Inv-loop μ-loop
+loop-less c = omega arith
+
+loop-again : tie.Need-loop-again Inv-loop μ-loop
+loop-again c =
+    let kws = c .before .before .before .before .before .args .kws .now in
+    omega (arith, highest-left kws (c .before .before .before .loop .i) (c .before .before .loop-test .taken))
+
+returns : tie.Need-returns Inv-loop μ-loop
+returns c = omega (arith, highest-none-left (c .before .before .before .args .kws .now) (c .before .loop .i) (c .loop-test .left))
+
+pub highest-spec : {M : Type 1} → statement M
+highest-spec =
+    tie.close
+    (tie.spec
+    Inv-loop
+    μ-loop
+    loop-holds
+    mul-larger
+    shared-slice-read-larger
+    larger-requires
+    add-i
+    loop-less
+    loop-again
+    returns)

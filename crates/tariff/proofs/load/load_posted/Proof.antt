@@ -1,0 +1,59 @@
+-- `tariff::load::load_posted` meets its contract: a refusal is handed on, and contract load comes off a kW. Assumes nothing.
+use mathlib.Core.Path.{_≡_, ap, _∙_}
+use borrow.Author.Needs.{needs}
+use Rattle.tariff.specs.declared.load.Metered.{Metered}
+use Rattle.tariff.specs.declared.load.Metered.the-variants.{Kw}
+use Rattle.tariff.specs.Metered.{postedOf}
+use Rattle.tariff.proofs.Refusals.{less, posted-from}
+use Rattle.tariff.proofs.load.load_posted.Statement.{statement}
+use Rattle.tariff.proofs.load.load_posted.Tie as tie
+
+load-metric-requires : tie.Need-load-metric-requires
+load-metric-requires c κs = search needs
+
+enum-told : tie.Need-enum-told
+enum-told c = search needs
+
+enum-told-2 : tie.Need-enum-told-2
+enum-told-2 c = search needs
+
+enum-told-3 : tie.Need-enum-told-3
+enum-told-3 c = search needs
+
+enum-known-kw : tie.Need-enum-known-kw
+enum-known-kw c = search needs
+
+reduced-requires : tie.Need-reduced-requires
+reduced-requires c κs = search needs
+
+-- what is posted of what the metric's function handed back
+posted : (c : tie.After-load-metric) {m : Metered} → c .load-metric .result ≡ m
+    → let a = c .before .before .before .before .args in less (a .contract) m ≡ postedOf (a .firsts .now) (a .hours .now) (a .kws .now) (a .n) (a .contract)
+posted c same = posted-from _ _ _ _ _ (c .load-metric .ensures) same
+
+returns : tie.Need-returns
+returns c = posted (c .before .before) (c .enum-told .given .1)
+
+returns-2 : tie.Need-returns-2
+returns-2 c = posted (c .before .before) (c .enum-told2 .given .1)
+
+returns-3 : tie.Need-returns-3
+returns-3 c = posted (c .before .before) (c .enum-told3 .given .1)
+
+returns-4 : tie.Need-returns-4
+returns-4 c = ap Kw (c .reduced .ensures) ∙ posted (c .before .before .before .before) (c .before .before .kw .given .1)
+
+pub load-posted-spec : {M : Type 1} → statement M
+load-posted-spec =
+    tie.close
+    (tie.spec
+    load-metric-requires
+    enum-told
+    enum-told-2
+    enum-told-3
+    enum-known-kw
+    reduced-requires
+    returns
+    returns-2
+    returns-3
+    returns-4)

@@ -1,0 +1,40 @@
+-- What a block list in three lists of numbers gives: a kW, or the cause of its refusal (01, Posting, Load; Refusals by cause).
+use Prim.Native.Nat.{ℕ}
+use mathlib.Core.Bool.{Bool, cond, _&&_}
+use mathlib.Core.List.{List, [], _∷_}
+use lib.Dec.{eqb}
+use lib.ListN.{length}
+use Rattle.tariff.specs.declared.load.Metered.{Metered}
+use Rattle.tariff.specs.declared.load.Metered.the-variants.{Unequal, Broken, Missing, Kw}
+use Rattle.tariff.specs.Load.{Block, blocksBroken, tooManyMissing, metric, loadPosted}
+
+-- a block is a first hour, a length and a kW (01, Posting, Load): three lists, read side by side as far as the shortest goes
+unfoldable pub blocksOf : List ℕ → List ℕ → List ℕ → List Block
+blocksOf [] hs ks = []
+blocksOf (f ∷ fs) [] ks = []
+blocksOf (f ∷ fs) (h ∷ hs) [] = []
+blocksOf (f ∷ fs) (h ∷ hs) (k ∷ ks) = record { first = f; hours = h; kw = k } ∷ blocksOf fs hs ks
+
+-- no block lacks one of its three numbers; a list that has one short is taken as an unreadable line (01, cause 1)
+unfoldable pub sameLengths : List ℕ → List ℕ → List ℕ → Bool
+sameLengths fs hs ks = eqb (length fs) (length hs) && eqb (length hs) (length ks)
+
+-- the block list broken or empty is cause 6, too many hours missing is cause 7, and the lower number decides (01, Refusals by cause)
+unfoldable pub unlessRefused : ℕ → List Block → ℕ → Metered
+unlessRefused n bs kw = cond (blocksBroken n bs) Broken (cond (tooManyMissing n bs) Missing (Kw kw))
+
+-- the metric: the smallest kW among the blocks that is exceeded in at most 0.5% of the present hours (01, Posting, Load)
+unfoldable pub meteredOf : List ℕ → List ℕ → List ℕ → ℕ → Metered
+meteredOf fs hs ks n = cond (sameLengths fs hs ks) (unlessRefused n (blocksOf fs hs ks) (metric (blocksOf fs hs ks))) Unequal
+
+-- the load posted: contract load comes off the metric, not below 0 (01, Posting, Load; house)
+unfoldable pub postedOf : List ℕ → List ℕ → List ℕ → ℕ → ℕ → Metered
+postedOf fs hs ks n contract =
+    cond (sameLengths fs hs ks) (unlessRefused n (blocksOf fs hs ks) (loadPosted contract (blocksOf fs hs ks))) Unequal
+
+-- the number that 01 gives each cause, 0 where there is none
+unfoldable pub meteredNumber : Metered → ℕ
+meteredNumber Unequal = 1
+meteredNumber Broken = 6
+meteredNumber Missing = 7
+meteredNumber (Kw kw) = 0
