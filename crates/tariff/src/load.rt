@@ -1,11 +1,12 @@
 // The load metric over blocks of metered hours, and the load posted (01, Posting, Load).
 // A block list is lent as three slices. At one index they hold a block's first hour, its hours and its kW.
 ghost use mathlib.Core.Path.{_≡_};
-ghost use Prim.Native.Nat.{_-_, max};
+ghost use Prim.Native.Nat.{max};
 ghost use lib.ListN.{length};
 ghost use Rattle.tariff.specs.Load.{metric};
 ghost use Rattle.tariff.specs.Metered.{meteredOf, postedOf};
 ghost use Rattle.tariff.specs.Levels.{spansOf, loadsOf, orderedHours, highestKw, levelBelow, Countable, Covering};
+use crate::limit::less;
 
 // What a block list gives: the kW, or why it is refused.
 pub enum Metered {
@@ -35,13 +36,6 @@ fn larger(a: u64, b: u64) -> u64
     ensures { λ r. ⌜ r ≡ max a b ⌝ }
 {
     if a < b { b } else { a }
-}
-
-// A kW less another, not below 0.
-fn reduced(kw: u64, by: u64) -> u64
-    ensures { λ r. ⌜ r ≡ kw - by ⌝ }
-{
-    if kw < by { 0 } else { kw - by }
 }
 
 // Blocks ascend, do not overlap, have an hour or more and end by hour n. `from` is where the last one ended.
@@ -157,6 +151,6 @@ pub fn load_posted(firsts: &[u64], hours: &[u64], kws: &[u64], n: u64, contract:
         Metered::Unequal => Metered::Unequal,
         Metered::Broken => Metered::Broken,
         Metered::Missing => Metered::Missing,
-        Metered::Kw(kw) => Metered::Kw(reduced(kw, contract)),
+        Metered::Kw(kw) => Metered::Kw(less(kw, contract)),
     }
 }

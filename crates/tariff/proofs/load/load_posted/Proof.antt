@@ -23,8 +23,8 @@ enum-told-3 c = search needs
 enum-known-kw : tie.Need-enum-known-kw
 enum-known-kw c = search needs
 
-reduced-requires : tie.Need-reduced-requires
-reduced-requires c κs = search needs
+less-requires : tie.Need-less-requires
+less-requires c κs = search needs
 
 -- what is posted of what the metric's function handed back
 posted : (c : tie.After-load-metric) {m : Metered} → c .load-metric .result ≡ m
@@ -41,7 +41,7 @@ returns-3 : tie.Need-returns-3
 returns-3 c = posted (c .before .before) (c .enum-told3 .given .1)
 
 returns-4 : tie.Need-returns-4
-returns-4 c = ap Kw (c .reduced .ensures) ∙ posted (c .before .before .before .before) (c .before .before .kw .given .1)
+returns-4 c = ap Kw (c .less .ensures) ∙ posted (c .before .before .before .before) (c .before .before .kw .given .1)
 
 pub load-posted-spec : {M : Type 1} → statement M
 load-posted-spec =
@@ -52,7 +52,7 @@ load-posted-spec =
     enum-told-2
     enum-told-3
     enum-known-kw
-    reduced-requires
+    less-requires
     returns
     returns-2
     returns-3
