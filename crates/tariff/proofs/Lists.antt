@@ -51,6 +51,12 @@ module _ {A : Type 0} where
   any-list-to zero f test = refl
   any-list-to (suc n) f test = any-append (listTo n f) (f n) test ∙ ap (λ b. b || test (f n)) (any-list-to n f test)
 
+  -- the same entries make the same list
+  pub list-ext : (n : ℕ) (f g : ℕ → A) → ((k : ℕ) → k < n → f k ≡ g k) → listTo n f ≡ listTo n g
+  unfolding listTo
+  list-ext zero f g e = refl
+  list-ext (suc n) f g e = ap₂ (λ xs x. xs ++ (x ∷ [])) (list-ext n f g (λ k l. e k (omega arith))) (e n (le-refl (suc n)))
+
 -- a list with these entries is the list of them
 pub list-is : (n : ℕ) (f : ℕ → ℕ) (xs : List ℕ) → length xs ≡ n → ((k : ℕ) → k < n → getD xs k 0 ≡ f k) → xs ≡ listTo n f
 list-is n f xs e at = ext-getD 0 xs (listTo n f) (e ∙ sym (length-list-to n f)) (λ k l. let b : k < n = omega arith in at k b ∙ sym (at-list-to n f 0 k b))

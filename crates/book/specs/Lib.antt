@@ -1,0 +1,5 @@
+-- The book as the ledger sees it, and the ledger as a book.
+pub mod Setup
+pub mod Cells
+pub mod Reading
+pub mod Handed

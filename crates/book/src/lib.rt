@@ -1,0 +1,10 @@
+// The season book. Each call takes the book as it is and hands back the next one.
+
+pub mod book;
+pub mod cells;
+pub mod loads;
+pub mod papers;
+pub mod priors;
+pub mod rights;
+pub mod setup;
+pub mod tiers;
