@@ -49,7 +49,7 @@ pub added-more : (x q k kw : ℕ) (f : ℕ → ℕ → ℕ → ℕ) (h p t : ℕ
 unfolding plusAt3
 added-more x q k kw f h p t = omega arith
 
-sound-open : (L : Ledger) (tier : ℕ) → TiersSound (L .tiers) → OpenFacts L tier → TiersSound (afterOpen L tier)
+sound-open : (L : Ledger) (tier : ℕ) → TiersSound (L .tiers) → OpenFacts L tier → TiersSound (afterOpen (L .tiers) tier)
 unfolding afterOpen
 sound-open L tier s f =
     record {
@@ -61,7 +61,7 @@ sound-open L tier s f =
       closedEven = s .closedEven;
     }
 
-sound-nominate : (o : Opening) (L : Ledger) (x q kw : ℕ) → TiersSound (L .tiers) → NominateFacts o L x q kw → TiersSound (afterNominate L x q kw)
+sound-nominate : (o : Opening) (L : Ledger) (x q kw : ℕ) → TiersSound (L .tiers) → NominateFacts o L x q kw → TiersSound (afterNominate (L .tiers) x q kw)
 unfolding afterNominate
 sound-nominate o L x q kw s f =
     let next = open-is-next s (f .isOpen) in
@@ -96,7 +96,7 @@ award-within x q k kw a n fits h p t old = go (decided (same3 x q k h p t))
         omega arith
     go (inr e) = let none = count-false kw e in omega arith
 
-sound-award : (o : Opening) (L : Ledger) (x q kw : ℕ) → TiersSound (L .tiers) → AwardFacts o L x q kw → TiersSound (awardsAfter L x q kw)
+sound-award : (o : Opening) (L : Ledger) (x q kw : ℕ) → TiersSound (L .tiers) → AwardFacts o L x q kw → TiersSound (awardsAfter (L .tiers) x q kw)
 unfolding awardsAfter
 sound-award o L x q kw s f =
     let next = open-is-next s (f .isOpen) in
@@ -109,7 +109,7 @@ sound-award o L x q kw s f =
       closedEven = λ h p t l. s .closedEven h p t l ∙ sym (other-tier x q (L .tiers .openNow) kw (L .tiers .awards) h p t (λ e. omega (arith, e)));
     }
 
-sound-close : (L : Ledger) → TiersSound (L .tiers) → 1 ≤ L .tiers .openNow → TiersSound (afterClose L)
+sound-close : (L : Ledger) → TiersSound (L .tiers) → 1 ≤ L .tiers .openNow → TiersSound (afterClose (L .tiers))
 unfolding afterClose
 sound-close L s isOpen =
     let next = open-is-next s isOpen in

@@ -31,99 +31,98 @@ plusAt3 i j k kw f x y z = f x y z + countIf (same3 i j k x y z) kw
 unfoldable pub plusInTerm : ℕ → ℕ → ℕ → ℕ → (ℕ → ℕ → ℕ → ℕ) → ℕ → ℕ → ℕ → ℕ
 plusInTerm term h p kw f x y m = f x y m + countIf (same2 h p x y && hasMonth term m) kw
 
-module _ (L : Ledger) where
-  -- load adds the load posted
-  unfoldable pub afterLoad : ℕ → ℕ → ℕ → ℕ → Loads
-  afterLoad h s term kw =
-      record {
-        kw = plusAt3 h s term kw (L .loads .kw);
-        posted = λ x y z. same3 h s term x y z || L .loads .posted x y z;
-      }
+-- load adds the load posted
+unfoldable pub afterLoad : Loads → ℕ → ℕ → ℕ → ℕ → Loads
+afterLoad x h s term kw =
+    record {
+      kw = plusAt3 h s term kw (x .kw);
+      posted = λ i j k. same3 h s term i j k || x .posted i j k;
+    }
 
-  -- carry adds its kW in each month
-  unfoldable pub afterCarry : ℕ → ℕ → ℕ → Rights
-  afterCarry h p kw =
-      record {
-        carried = plusInTerm 0 h p kw (L .rights .carried);
-        awarded = L .rights .awarded;
-        posted = λ x y. same2 h p x y || L .rights .posted x y;
-      }
+-- carry adds its kW in each month
+unfoldable pub afterCarry : Rights → ℕ → ℕ → ℕ → Rights
+afterCarry x h p kw =
+    record {
+      carried = plusInTerm 0 h p kw (x .carried);
+      awarded = x .awarded;
+      posted = λ i j. same2 h p i j || x .posted i j;
+    }
 
-  -- prior adds its a and its a − l
-  unfoldable pub afterPrior : ℕ → ℕ → ℕ → ℕ → Priors
-  afterPrior h p a l =
-      record {
-        allocated = plusAt2 h p a (L .priors .allocated);
-        renewable = plusAt2 h p (a - l) (L .priors .renewable);
-        posted = λ x y. same2 h p x y || L .priors .posted x y;
-      }
+-- prior adds its a and its a − l
+unfoldable pub afterPrior : Priors → ℕ → ℕ → ℕ → ℕ → Priors
+afterPrior x h p a l =
+    record {
+      allocated = plusAt2 h p a (x .allocated);
+      renewable = plusAt2 h p (a - l) (x .renewable);
+      posted = λ i j. same2 h p i j || x .posted i j;
+    }
 
-  -- verify files its entry
-  unfoldable pub afterVerify : ℕ → ℕ → ℕ → Entry → Papers
-  afterVerify h s kind filed =
-      record {
-        entry = λ x y z. cond (same3 h s kind x y z) filed (L .papers .entry x y z);
-        posted = λ x y z. same3 h s kind x y z || L .papers .posted x y z;
-      }
+-- verify files its entry
+unfoldable pub afterVerify : Papers → ℕ → ℕ → ℕ → Entry → Papers
+afterVerify x h s kind filed =
+    record {
+      entry = λ i j k. cond (same3 h s kind i j k) filed (x .entry i j k);
+      posted = λ i j k. same3 h s kind i j k || x .posted i j k;
+    }
 
-  -- open notes the tier
-  unfoldable pub afterOpen : ℕ → Tiers
-  afterOpen tier =
-      record {
-        nominated = L .tiers .nominated;
-        awards = L .tiers .awards;
-        lastClosed = L .tiers .lastClosed;
-        openNow = tier;
-      }
+-- open notes the tier
+unfoldable pub afterOpen : Tiers → ℕ → Tiers
+afterOpen x tier =
+    record {
+      nominated = x .nominated;
+      awards = x .awards;
+      lastClosed = x .lastClosed;
+      openNow = tier;
+    }
 
-  -- nominate adds its kW in the open tier
-  unfoldable pub afterNominate : ℕ → ℕ → ℕ → Tiers
-  afterNominate h p kw =
-      record {
-        nominated = plusAt3 h p (L .tiers .openNow) kw (L .tiers .nominated);
-        awards = L .tiers .awards;
-        lastClosed = L .tiers .lastClosed;
-        openNow = L .tiers .openNow;
-      }
+-- nominate adds its kW in the open tier
+unfoldable pub afterNominate : Tiers → ℕ → ℕ → ℕ → Tiers
+afterNominate x h p kw =
+    record {
+      nominated = plusAt3 h p (x .openNow) kw (x .nominated);
+      awards = x .awards;
+      lastClosed = x .lastClosed;
+      openNow = x .openNow;
+    }
 
-  -- award adds its kW to the open tier's awards ..
-  unfoldable pub awardsAfter : ℕ → ℕ → ℕ → Tiers
-  awardsAfter h p kw =
-      record {
-        nominated = L .tiers .nominated;
-        awards = plusAt3 h p (L .tiers .openNow) kw (L .tiers .awards);
-        lastClosed = L .tiers .lastClosed;
-        openNow = L .tiers .openNow;
-      }
+-- award adds its kW to the open tier's awards ..
+unfoldable pub awardsAfter : Tiers → ℕ → ℕ → ℕ → Tiers
+awardsAfter x h p kw =
+    record {
+      nominated = x .nominated;
+      awards = plusAt3 h p (x .openNow) kw (x .awards);
+      lastClosed = x .lastClosed;
+      openNow = x .openNow;
+    }
 
-  -- .. and to the awarded holding of the tier's month, or of all three
-  unfoldable pub holdingsAfter : ℕ → ℕ → ℕ → Rights
-  holdingsAfter h p kw =
-      record {
-        carried = L .rights .carried;
-        awarded = plusInTerm (termOf (L .tiers .openNow)) h p kw (L .rights .awarded);
-        posted = L .rights .posted;
-      }
+-- .. and to the awarded holding of the tier's month, or of all three
+unfoldable pub holdingsAfter : Rights → ℕ → ℕ → ℕ → ℕ → Rights
+holdingsAfter x tier h p kw =
+    record {
+      carried = x .carried;
+      awarded = plusInTerm (termOf tier) h p kw (x .awarded);
+      posted = x .posted;
+    }
 
-  -- close puts the open tier's nominated kW down to the awarded and notes the tier closed
-  unfoldable pub afterClose : Tiers
-  afterClose =
-      record {
-        nominated = λ h p t. cond (eqb t (L .tiers .openNow)) (L .tiers .awards h p t) (L .tiers .nominated h p t);
-        awards = L .tiers .awards;
-        lastClosed = L .tiers .openNow;
-        openNow = 0;
-      }
+-- close puts the open tier's nominated kW down to the awarded and notes the tier closed
+unfoldable pub afterClose : Tiers → Tiers
+afterClose x =
+    record {
+      nominated = λ h p t. cond (eqb t (x .openNow)) (x .awards h p t) (x .nominated h p t);
+      awards = x .awards;
+      lastClosed = x .openNow;
+      openNow = 0;
+    }
 
 -- the ledger after an accepted call
 unfoldable pub effect : Opening → Ledger → Call → Ledger
-effect o L (load h s term contract n blocks) = withLoads L (afterLoad L h s term (loadPosted contract blocks))
-effect o L (carry h p kw) = withRights L (afterCarry L h p kw)
-effect o L (prior h p a l) = withPriors L (afterPrior L h p a l)
+effect o L (load h s term contract n blocks) = withLoads L (afterLoad (L .loads) h s term (loadPosted contract blocks))
+effect o L (carry h p kw) = withRights L (afterCarry (L .rights) h p kw)
+effect o L (prior h p a l) = withPriors L (afterPrior (L .priors) h p a l)
 effect o L (verify h s kind capacity right first last) =
-    withPapers L (afterVerify L h s kind (entryOf kind capacity right first last))
+    withPapers L (afterVerify (L .papers) h s kind (entryOf kind capacity right first last))
 effect o L (migrate term sink lines) = migrated o L term sink lines
-effect o L (openTier tier) = withTiers L (afterOpen L tier)
-effect o L (nominate h p kw) = withTiers L (afterNominate L h p kw)
-effect o L (award h p kw) = withTiers (withRights L (holdingsAfter L h p kw)) (awardsAfter L h p kw)
-effect o L closeTier = withTiers L (afterClose L)
+effect o L (openTier tier) = withTiers L (afterOpen (L .tiers) tier)
+effect o L (nominate h p kw) = withTiers L (afterNominate (L .tiers) h p kw)
+effect o L (award h p kw) = withTiers (withRights L (holdingsAfter (L .rights) (L .tiers .openNow) h p kw)) (awardsAfter (L .tiers) h p kw)
+effect o L closeTier = withTiers L (afterClose (L .tiers))
