@@ -7,8 +7,8 @@ use mathlib.Core.List.{List}
 use mathlib.Core.Logic.{_⊎_, inl, inr}
 use native.Mathlib.Nat.{mul-add-div-right, div-eq-of-lt, mul-add-mod-self-right, mod-eq-of-lt, add-zero, div-lt-iff-lt-mul, mod-lt, div-add-mod', mul-comm, mul-le-mul-right, suc-mul}
 use native.Mathlib.Omega.{arith}
-use lib.ListN.{length, getD, set, length-set}
-use lib.Seq.{ext-getD, getD-set-same, getD-set-other}
+use lib.ListN.{length, getD, set, take, length-take, List·getD-eq-default}
+use lib.Seq.{ext-getD, getD-set-same, getD-set-other, getD-take}
 use lib.Dec.{leb, ltb, eqb}
 use borrow.Author.Tests.{ltb-true, leb-true, lt-ltb, le-leb, eq-eqb}
 use Rattle.tariff.specs.Sum.{listTo}
@@ -169,3 +169,13 @@ row-small width low h p m w e = let l = cell-below width low h p m e in omega ar
 -- what is read at a cell's number, and where there is no cell
 pub read-cell : {A : Type 0} (width low : ℕ) (none : A) (cells : List A) (h p m at : ℕ) → hasCell width low h p m ≡ true → at ≡ cellOf width low h p m → getD cells at none ≡ readAt width low none cells h p m
 read-cell width low none cells h p m at e q = ap (λ k. getD cells k none) q ∙ sym (read-here width low none cells h p m e)
+
+-- an entry of the first n of a list
+pub entry-past : (xs : List ℕ) (n i : ℕ) → n ≤ i → 0 ≡ getD (take n xs) i 0
+entry-past xs n i l = sym (List·getD-eq-default (take n xs) 0 {n = i} (let e = length-take n xs in omega arith))
+
+pub entry-none : (xs : List ℕ) (n i : ℕ) → length xs ≤ i → 0 ≡ getD (take n xs) i 0
+entry-none xs n i l = sym (List·getD-eq-default (take n xs) 0 {n = i} (let e = length-take n xs in omega arith))
+
+pub entry-there : (xs : List ℕ) (n i : ℕ) → i < n → getD xs i 0 ≡ getD (take n xs) i 0
+entry-there xs n i l = sym (getD-take n xs i 0 l)

@@ -1,1 +1,2 @@
 pub mod CellLaws
+pub mod CauseLaws

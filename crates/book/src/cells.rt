@@ -2,7 +2,7 @@
 ghost use mathlib.Core.Path.{_≡_};
 ghost use mathlib.Core.Bool.{true, false};
 ghost use Prim.Native.Nat.{_+_, _*_, _<_, _≤_};
-ghost use lib.ListN.{length};
+ghost use lib.ListN.{length, getD, take};
 ghost use Rattle.book.specs.Cells.{cellOf, hasCell, readAt};
 
 // Whether there is a cell of three numbers.
@@ -44,4 +44,17 @@ pub fn marked(cells: &[bool], width: u64, low: u64, h: u64, p: u64, m: u64) -> b
         return cells[at];
     }
     false
+}
+
+// The entry of a list of `count` numbers that stands in a longer array; 0 past its end.
+pub fn entry(numbers: &[u64], count: u64, i: u64) -> u64
+    ensures { λ r. ⌜ r ≡ getD (take count (now (numbers .entry))) i 0 ⌝ }
+{
+    if count <= i {
+        return 0;
+    }
+    if (numbers.len() as u64) <= i {
+        return 0;
+    }
+    numbers[i as usize]
 }

@@ -1,10 +1,13 @@
 // The season book. Each call takes the book as it is and hands back the next one.
 
 pub mod book;
+pub mod calendar;
+pub mod carry;
 pub mod cells;
 pub mod loads;
 pub mod papers;
 pub mod priors;
+pub mod refusals;
 pub mod rights;
 pub mod setup;
 pub mod tiers;

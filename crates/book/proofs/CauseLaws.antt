@@ -1,0 +1,28 @@
+-- Laws of the causes, in the form in which code finds them. Assumes nothing.
+use Prim.Native.Nat.{ℕ}
+use mathlib.Core.Path.{_≡_, refl, sym, ap, _∙_}
+use mathlib.Core.Bool.{Bool, true, false, cond, not, _||_}
+use mathlib.Core.List.{List, [], _∷_}
+use lib.Dec.{eqb}
+use borrow.Author.Tests.{eq-eqb, ne-eqb}
+use Rattle.ledger.specs.Opening.{Opening, holderKind, sinkKind, loadServing, schedulingPoint}
+use Rattle.ledger.specs.Numbers.{Cause, cause, firstMet}
+use Rattle.ledger.specs.Causes.{sinkNotFor}
+
+-- a cause put before the later ones
+pub link : (number : ℕ) (met test : Bool) (rows : List Cause) {later r : ℕ} → r ≡ cond met number later → met ≡ test → later ≡ firstMet rows → r ≡ firstMet (cause number test ∷ rows)
+unfolding firstMet
+link number met test rows {later} e t l = e ∙ (λ i. cond (t i) number (l i))
+
+pub no-more : 0 ≡ firstMet []
+unfolding firstMet
+no-more = refl
+
+-- which sinks are for a holder
+pub sink-of-supplier : (o : Opening) (h s kind : ℕ) → holderKind o h ≡ 1 → kind ≡ sinkKind o s → eqb kind 4 ≡ sinkNotFor o h s
+unfolding sinkNotFor
+sink-of-supplier o h s kind e k = ap (λ x. eqb x 4) k ∙ sym (ap (λ t. cond t (eqb (sinkKind o s) 4) (not (eqb (sinkKind o s) 4))) (eq-eqb (holderKind o h) 1 e))
+
+pub sink-of-outsider : (o : Opening) (h s kind : ℕ) → (holderKind o h ≡ 1 → ⊥) → kind ≡ sinkKind o s → not (eqb kind 4) ≡ sinkNotFor o h s
+unfolding sinkNotFor
+sink-of-outsider o h s kind e k = ap (λ x. not (eqb x 4)) k ∙ sym (ap (λ t. cond t (eqb (sinkKind o s) 4) (not (eqb (sinkKind o s) 4))) (ne-eqb (holderKind o h) 1 e))
