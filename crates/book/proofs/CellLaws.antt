@@ -92,6 +92,10 @@ module _ {A : Type 0} where
   unfolding readAt
   read-none width low none cells h p m e = rw e
 
+  pub length-cells : (width low : ℕ) (f : ℕ → ℕ → ℕ → A) → length (cellsOf width low f) ≡ 128 * width
+  unfolding cellsOf
+  length-cells width low f = length-list-to (128 * width) (λ k. f (k / width / 16) (k / width % 16) (k % width + low))
+
   -- out of the cells of a function comes the function
   pub read-cells : (width low : ℕ) (none : A) (f : ℕ → ℕ → ℕ → A) (h p m : ℕ) → hasCell width low h p m ≡ true → readAt width low none (cellsOf width low f) h p m ≡ f h p m
   unfolding cellsOf

@@ -5,7 +5,9 @@ use mathlib.Core.Bool.{Bool, cond, _&&_}
 use mathlib.Core.List.{List}
 use lib.ListN.{getD}
 use lib.Dec.{leb, ltb}
-use Rattle.tariff.specs.Sum.{listTo}
+use Rattle.tariff.specs.Sum.{countIf, listTo}
+use Rattle.tariff.specs.Terms.{hasMonth}
+use Rattle.ledger.specs.Effects.{same3}
 
 -- the cell of three numbers, and whether there is one
 unfoldable pub cellOf : ℕ → ℕ → ℕ → ℕ → ℕ → ℕ
@@ -22,3 +24,7 @@ module _ {A : Type 0} where
   -- the cells of a function
   unfoldable pub cellsOf : ℕ → ℕ → (ℕ → ℕ → ℕ → A) → List A
   cellsOf width low f = listTo (128 * width) (λ k. f (k / width / 16) (k / width % 16) (k % width + low))
+
+-- figures with kw added for a holder and path in one month, if the term has it: a third of what a call adds in a term
+unfoldable pub plusMonth : ℕ → ℕ → ℕ → ℕ → ℕ → (ℕ → ℕ → ℕ → ℕ) → ℕ → ℕ → ℕ → ℕ
+plusMonth term h p month kw f x y z = f x y z + countIf (same3 h p month x y z && hasMonth term month) kw

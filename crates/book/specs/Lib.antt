@@ -3,3 +3,4 @@ pub mod Setup
 pub mod Cells
 pub mod Reading
 pub mod Handed
+pub mod Reached

@@ -1,14 +1,18 @@
 // Carry: Long Term rights, held in each month (01, Posting, Carry).
+use crate::book::Answer;
+use crate::book::Answered;
 use crate::book::Book;
 use crate::calendar::before_tier;
 use crate::cells::marked;
 use crate::refusals::refuse;
 use crate::refusals::wrong_kw;
+use crate::rights::with_carry;
 ghost use mathlib.Core.Path.{_≡_};
 ghost use Rattle.ledger.specs.Call.{carry};
 ghost use Rattle.ledger.specs.Causes.{refusal};
 ghost use Rattle.book.specs.Reading.{ledgerOf};
-ghost use Rattle.book.specs.Handed.{openedWith};
+ghost use Rattle.book.specs.Handed.{openedWith, handed};
+ghost use Rattle.book.specs.Reached.{Reached};
 
 // The first cause that a carry meets, 0 for none.
 pub fn carry_refusal(b: Book, h: u64, p: u64, kw: u64) -> u64
@@ -31,4 +35,38 @@ pub fn carry_refusal(b: Book, h: u64, p: u64, kw: u64) -> u64
             refuse(4, late, refuse(5, posted, refuse(10, sink, 0))),
         ),
     )
+}
+
+impl Book {
+    // Carries kw in for a holder on a path.
+    pub fn carry(self, h: u64, p: u64, kw: u64) -> Answered
+        requires { ⌜ Reached self ⌝ }
+        ensures { λ r. ⌜ r ≡ handed self (carry h p kw) ⌝ }
+    {
+        let number = carry_refusal(self, h, p, kw);
+        if number != 0 {
+            return Answered {
+                answer: Answer::Refused(number),
+                book: self,
+            };
+        }
+        let setup = self.setup;
+        let loads = self.loads;
+        let old = self.rights;
+        let rights = with_carry(old, h, p, kw);
+        let priors = self.priors;
+        let papers = self.papers;
+        let tiers = self.tiers;
+        Answered {
+            answer: Answer::Done,
+            book: Book {
+                setup,
+                loads,
+                rights,
+                priors,
+                papers,
+                tiers,
+            },
+        }
+    }
 }

@@ -6,3 +6,58 @@ pub struct Rights {
     pub awarded: [u64; 384],
     pub posted: [bool; 128],
 }
+
+use crate::cells::add;
+use crate::cells::mark;
+ghost use mathlib.Core.Path.{_≡_};
+ghost use Prim.Native.Nat.{ℕ, _+_, _^_, _<_};
+ghost use lib.ListN.{length};
+ghost use mathlib.Core.Bool.{true};
+ghost use Rattle.tariff.specs.Terms.{hasMonth};
+ghost use Rattle.ledger.specs.Effects.{plusInTerm, afterCarry};
+ghost use Rattle.book.specs.Cells.{hasCell, readAt, cellsOf, plusMonth};
+ghost use Rattle.book.specs.Reading.{rightsIn, rightsOf};
+
+// Whether a term has a month: the season has all three.
+pub fn has_month(term: u64, month: u64) -> bool
+    ensures { λ r. ⌜ r ≡ hasMonth term month ⌝ }
+{
+    ((1 <= month) & (month <= 3)) & ((term == 0) | (term == month))
+}
+
+// kw more for a holder on a path in one month, if the term has it.
+fn add_month(cells: &mut [u64], term: u64, h: u64, p: u64, month: u64, kw: u64)
+    requires { ⌜ (length (now cells) ≡ 384) × (hasCell 3 1 h p month ≡ true) × (readAt 3 1 0 (now cells) h p month + kw < 2 ^ 64) ⌝ }
+    ensures { λ r. ⌜ now (cells .exit) ≡ cellsOf 3 1 (plusMonth term h p month kw (readAt 3 1 0 (now (cells .entry)))) ⌝ }
+{
+    if has_month(term, month) {
+        add(cells, 3, 1, h, p, month, kw);
+    }
+}
+
+// kw more for a holder on a path in each month of a term.
+pub fn add_in_term(cells: &mut [u64], term: u64, h: u64, p: u64, kw: u64)
+    requires { ⌜ (length (now cells) ≡ 384) × (h < 8) × (p < 16) × ((m : ℕ) → readAt 3 1 0 (now cells) h p m + kw < 2 ^ 64) ⌝ }
+    ensures { λ r. ⌜ now (cells .exit) ≡ cellsOf 3 1 (plusInTerm term h p kw (readAt 3 1 0 (now (cells .entry)))) ⌝ }
+{
+    add_month(cells, term, h, p, 1, kw);
+    add_month(cells, term, h, p, 2, kw);
+    add_month(cells, term, h, p, 3, kw);
+}
+
+// kw carried in each month, and the carry posted.
+pub fn with_carry(r: Rights, h: u64, p: u64, kw: u64) -> Rights
+    requires { ⌜ (h < 8) × (p < 16) × ((m : ℕ) → readAt 3 1 0 (r .carried) h p m + kw < 2 ^ 64) ⌝ }
+    ensures { λ x. ⌜ x ≡ rightsOf (afterCarry (rightsIn r) h p kw) ⌝ }
+{
+    let mut carried = r.carried;
+    add_in_term(&mut carried, 0, h, p, kw);
+    let mut posted = r.posted;
+    mark(&mut posted, 1, 0, h, p, 0);
+    let awarded = r.awarded;
+    Rights {
+        carried,
+        awarded,
+        posted,
+    }
+}
