@@ -8,7 +8,8 @@
 //! - [`Book::call`]: the nine calls; [`Book::query`]: the three queries;
 //! - [`refusals`]: the sixteen causes, looked for in ascending number;
 //! - [`run`] and [`answers`]: scripts, groups, answers, and the host's number;
-//! - [`generate`]: whole seasons, and damaged ones, from a seed.
+//! - [`generate`]: whole seasons, and damaged ones, from a seed;
+//! - [`figures`]: single rules on plain numbers.
 //!
 //! Numbers are `u64`. Every field is held to its range before it is reckoned
 //! with, so that no value at all can overflow.
@@ -17,6 +18,7 @@ mod book;
 mod calendar;
 mod calls;
 mod evidence;
+pub mod figures;
 pub mod generate;
 mod limit;
 mod load;

@@ -20,12 +20,12 @@ pub(crate) fn limit(book: &Book, holder: usize, base: usize, tier: u64) -> u64 {
 }
 
 /// S, what the season gives: three quarters of load A, rounded down.
-fn seasonal(load: u64) -> u64 {
+pub(crate) fn seasonal(load: u64) -> u64 {
     3 * load / 4
 }
 
 /// P, what the first two tiers give: two thirds of S, rounded down.
-fn priority(load: u64) -> u64 {
+pub(crate) fn priority(load: u64) -> u64 {
     2 * seasonal(load) / 3
 }
 

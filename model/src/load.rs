@@ -18,14 +18,20 @@ pub(crate) fn post(book: &mut Book, load: &Load) -> Result<(), u64> {
     let (holder, sink) = (load.holder as usize, load.sink as usize);
     let term = load.term as usize;
     refuse_if(book.load_posted[holder][sink][term], POSTED_BEFORE)?;
-    refuse_if(blocks_broken(load.blocks, load.hours), BLOCKS_BROKEN)?;
-    refuse_if(too_many_missing(load), HOURS_MISSING)?;
+    let kw = metered(load)?;
     let not_for_it = book.sink_not_for(holder, sink) || book.is_sub_lap(sink);
     refuse_if(not_for_it, SINK_NOT_FOR_HOLDER)?;
 
-    book.load[holder][sink][term] += load_posted(load);
+    book.load[holder][sink][term] += kw;
     book.load_posted[holder][sink][term] = true;
     Ok(())
+}
+
+/// What the meter feed gives: causes 6 and 7, and then the load posted.
+pub(crate) fn metered(load: &Load) -> Result<u64, u64> {
+    refuse_if(blocks_broken(load.blocks, load.hours), BLOCKS_BROKEN)?;
+    refuse_if(too_many_missing(load), HOURS_MISSING)?;
+    Ok(load_posted(load))
 }
 
 /// Cause 3 of a load. First hours and lengths are left to cause 6.

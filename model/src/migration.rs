@@ -7,10 +7,10 @@ use crate::refusals::{refuse_if, BEYOND_LOAD, NOT_IN_BOOK, NOT_NOW, OUT_OF_RANGE
 use crate::sizes::{HOLDERS, MOST_CLASS_LINES, MOST_PER_CLASS};
 
 /// m kW from a loser to a gainer.
-struct Move {
-    loser: usize,
-    gainer: usize,
-    m: u64,
+pub(crate) struct Move {
+    pub(crate) loser: usize,
+    pub(crate) gainer: usize,
+    pub(crate) m: u64,
 }
 
 /// One record of a holder on a path, of those that migration shares out.
@@ -44,13 +44,13 @@ pub(crate) fn migrate(book: &mut Book, migrate: &Migrate) -> Result<(), u64> {
 }
 
 /// Cause 2: the sink, and both holders of every line.
-fn all_known(book: &Book, migrate: &Migrate) -> bool {
+pub(crate) fn all_known(book: &Book, migrate: &Migrate) -> bool {
     let line_known = |line: &ClassLine| book.has_holder(line.from) && book.has_holder(line.to);
     book.has_sink(migrate.sink) && migrate.lines.iter().all(line_known)
 }
 
 /// Cause 3: the term, the number of lines, and every line's other fields.
-fn in_range(migrate: &Migrate) -> bool {
+pub(crate) fn in_range(migrate: &Migrate) -> bool {
     let line_in_range = |line: &ClassLine| {
         (1..=8).contains(&line.class)
             && line.customers <= MOST_PER_CLASS
@@ -73,7 +73,7 @@ fn any_wrong_party(book: &Book, lines: &[ClassLine]) -> bool {
 /// For each pair of holders: the watts are summed each way over all classes,
 /// the smaller sum comes off the larger, and only then the rest is rounded
 /// down to kW. A pair with nothing left moves nothing.
-fn net(lines: &[ClassLine]) -> Vec<Move> {
+pub(crate) fn net(lines: &[ClassLine]) -> Vec<Move> {
     let mut watts = [[0; HOLDERS]; HOLDERS];
     for line in lines {
         watts[line.from as usize][line.to as usize] += line.customers * line.watts;
@@ -89,7 +89,7 @@ fn net(lines: &[ClassLine]) -> Vec<Move> {
 
 /// Cause 9: what a loser loses to all gainers is more than its load. At a
 /// Sub-LAP no load is ever posted, so every m is more than that.
-fn any_beyond_load(moves: &[Move], load: &[u64; HOLDERS]) -> bool {
+pub(crate) fn any_beyond_load(moves: &[Move], load: &[u64; HOLDERS]) -> bool {
     let lost_by = |holder| -> u64 {
         let own = moves.iter().filter(|one| one.loser == holder);
         own.map(|one| one.m).sum()
@@ -141,7 +141,11 @@ fn move_records(book: &mut Book, base: usize, term: usize, moves: &[Move], load:
 ///
 /// v and m stay below 2^31, so the product fits; and since a loser's m
 /// together are within L, its shares together are within v.
-fn shared_out(before: &[u64; HOLDERS], moves: &[Move], load: &[u64; HOLDERS]) -> [u64; HOLDERS] {
+pub(crate) fn shared_out(
+    before: &[u64; HOLDERS],
+    moves: &[Move],
+    load: &[u64; HOLDERS],
+) -> [u64; HOLDERS] {
     let mut after = *before;
     for one in moves {
         let share = before[one.loser] * one.m / load[one.loser];

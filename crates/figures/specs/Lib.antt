@@ -1,0 +1,2 @@
+-- What the program has to know of its numbers before it shares out records.
+pub mod Bounds
