@@ -6,3 +6,7 @@ pub mod Parts
 pub mod HandedLaws
 pub mod ReachedLaws
 pub mod CarryLaws
+pub mod Inside
+pub mod MovesInside
+pub mod Confined
+pub mod RoundTrip

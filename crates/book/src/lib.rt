@@ -11,3 +11,4 @@ pub mod refusals;
 pub mod rights;
 pub mod setup;
 pub mod tiers;
+pub mod turns;
