@@ -88,7 +88,7 @@ module _ (o : Opening) (ok : legal o ≡ true) (L : Ledger) (k : Confined L) whe
       record {
         carried = term-inside 0 h p kw (L .rights .carried) (le-trans (f .holder) (counts .0)) (le-trans (f .path) (counts .3)) (k .rights .carried);
         awarded = k .rights .awarded;
-        posted = marked-inside2 h p (L .rights .posted) (two-cell h p (f .holder) (f .path)) (k .rights .posted)
+        posted = marked-inside2 h p (L .rights .posted) (two-cell h p (f .holder) (f .path)) (k .rights .posted);
       }
   in-rights (prior h p a l) e = k .rights
   in-rights (verify h s kind capacity right first last) e = k .rights
@@ -97,7 +97,7 @@ module _ (o : Opening) (ok : legal o ≡ true) (L : Ledger) (k : Confined L) whe
       record {
         carried = λ h p m. column-inside o L term sink lines (counts .0) f 3 1 p m (endsAt o sink p && hasMonth term m) (λ i. L .rights .carried i p m) (λ j. k .rights .carried j p m) h;
         awarded = λ h p m. column-inside o L term sink lines (counts .0) f 3 1 p m (endsAt o sink p && hasMonth term m && not (eqb term 0)) (λ i. L .rights .awarded i p m) (λ j. k .rights .awarded j p m) h;
-        posted = k .rights .posted
+        posted = k .rights .posted;
       }
   in-rights (openTier tier) e = k .rights
   in-rights (nominate h p kw) e = k .rights
@@ -106,7 +106,7 @@ module _ (o : Opening) (ok : legal o ≡ true) (L : Ledger) (k : Confined L) whe
       record {
         carried = k .rights .carried;
         awarded = term-inside (termOf (L .tiers .openNow)) h p kw (L .rights .awarded) (le-trans (f .holder) (counts .0)) (le-trans (f .path) (counts .3)) (k .rights .awarded);
-        posted = k .rights .posted
+        posted = k .rights .posted;
       }
   in-rights closeTier e = k .rights
 
@@ -120,7 +120,7 @@ module _ (o : Opening) (ok : legal o ≡ true) (L : Ledger) (k : Confined L) whe
       record {
         allocated = added-inside2 h p a (L .priors .allocated) there (k .priors .allocated);
         renewable = added-inside2 h p (a - l) (L .priors .renewable) there (k .priors .renewable);
-        posted = marked-inside2 h p (L .priors .posted) there (k .priors .posted)
+        posted = marked-inside2 h p (L .priors .posted) there (k .priors .posted);
       }
   in-priors (verify h s kind capacity right first last) e = k .priors
   in-priors (migrate term sink lines) e =
@@ -128,7 +128,7 @@ module _ (o : Opening) (ok : legal o ≡ true) (L : Ledger) (k : Confined L) whe
       record {
         allocated = λ h p. column-inside o L term sink lines (counts .0) f 1 0 p 0 (endsAt o sink p && eqb term 0) (λ i. L .priors .allocated i p) (λ j. k .priors .allocated j p) h;
         renewable = λ h p. column-inside o L term sink lines (counts .0) f 1 0 p 0 (endsAt o sink p && eqb term 0) (λ i. L .priors .renewable i p) (λ j. k .priors .renewable j p) h;
-        posted = k .priors .posted
+        posted = k .priors .posted;
       }
   in-priors (openTier tier) e = k .priors
   in-priors (nominate h p kw) e = k .priors
@@ -145,7 +145,7 @@ module _ (o : Opening) (ok : legal o ≡ true) (L : Ledger) (k : Confined L) whe
       let there = has-cell 2 1 h s kind (le-trans (f .holder) (counts .0)) (le-trans (f .source) (counts .1)) (f .kinds .0) (let t = f .kinds .1 in omega arith) in
       record {
         entry = λ i j m none. ap (λ t. cond t (entryOf kind capacity right first last) (L .papers .entry i j m)) (not-there 2 1 h s kind i j m there none) ∙ k .papers .entry i j m none;
-        posted = marked-inside 2 1 h s kind (L .papers .posted) there (k .papers .posted)
+        posted = marked-inside 2 1 h s kind (L .papers .posted) there (k .papers .posted);
       }
   in-papers (migrate term sink lines) e = k .papers
   in-papers (openTier tier) e = k .papers
@@ -184,7 +184,7 @@ confined-step o ok L c k =
       rights = step-keeps (λ l. RightsInside (l .rights)) o L c (k .rights) (in-rights o ok L k c);
       priors = step-keeps (λ l. PriorsInside (l .priors)) o L c (k .priors) (in-priors o ok L k c);
       papers = step-keeps (λ l. PapersInside (l .papers)) o L c (k .papers) (in-papers o ok L k c);
-      tiers = step-keeps (λ l. TiersInside (l .tiers)) o L c (k .tiers) (in-tiers o ok L k c)
+      tiers = step-keeps (λ l. TiersInside (l .tiers)) o L c (k .tiers) (in-tiers o ok L k c);
     }
 
 confined-empty : Confined emptyLedger
@@ -196,7 +196,7 @@ confined-empty =
       rights = record { carried = λ h p m none. refl; awarded = λ h p m none. refl; posted = λ h p none. refl };
       priors = record { allocated = λ h p none. refl; renewable = λ h p none. refl; posted = λ h p none. refl };
       papers = record { entry = λ h s m none. refl; posted = λ h s m none. refl };
-      tiers = record { nominated = λ h p t none. refl; awards = λ h p t none. refl }
+      tiers = record { nominated = λ h p t none. refl; awards = λ h p t none. refl };
     }
 
 -- after every list of calls from a legal opening

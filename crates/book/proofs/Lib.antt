@@ -10,3 +10,4 @@ pub mod Inside
 pub mod MovesInside
 pub mod Confined
 pub mod RoundTrip
+pub mod TurnLaws

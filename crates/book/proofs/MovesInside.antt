@@ -64,6 +64,7 @@ module _ (o : Opening) (L : Ledger) (term sink : ℕ) (lines : List ClassLine) (
               far : (ltb h 8 ≡ true) ⊎ (ltb h 8 ≡ false) → o .holders ≤ h
               far (inl u) = let k = cell-facts width low j p m e in absurd (both-ways (has-cell width low h p m (ltb-true h 8 u) (k .1) (k .2) (k .3)) none)
               far (inr u) = let b = ltb-false h 8 u in omega arith
+
       go : (t : Bool) → cond t (shifted (o .holders) (λ i j. share (v i) (netted lines i j) (loadBefore L term sink i)) v h) (v h) ≡ 0
       go true = shift-zero (o .holders) (λ i j. share (v i) (netted lines i j) (loadBefore L term sink i)) v h (inside h none) comes
       go false = inside h none

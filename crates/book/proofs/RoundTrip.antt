@@ -61,7 +61,7 @@ module _ (s : Setup) (L : Ledger) (k : Confined L) where
         rights = record { carried = λ h p m. inside-read 3 1 0 (L .rights .carried) (k .rights .carried) h p m i; awarded = λ h p m. inside-read 3 1 0 (L .rights .awarded) (k .rights .awarded) h p m i; posted = λ h p. inside-read2 false (L .rights .posted) (k .rights .posted) h p i };
         priors = record { allocated = λ h p. inside-read2 0 (L .priors .allocated) (k .priors .allocated) h p i; renewable = λ h p. inside-read2 0 (L .priors .renewable) (k .priors .renewable) h p i; posted = λ h p. inside-read2 false (L .priors .posted) (k .priors .posted) h p i };
         papers = record { entry = λ h q m. inside-read 2 1 noEntry (L .papers .entry) (k .papers .entry) h q m i; posted = λ h q m. inside-read 2 1 false (L .papers .posted) (k .papers .posted) h q m i };
-        tiers = record { nominated = λ h p t. nominated-read h p t i; awards = λ h p t. inside-read 10 0 0 (L .tiers .awards) (k .tiers .awards) h p t i; lastClosed = L .tiers .lastClosed; openNow = L .tiers .openNow }
+        tiers = record { nominated = λ h p t. nominated-read h p t i; awards = λ h p t. inside-read 10 0 0 (L .tiers .awards) (k .tiers .awards) h p t i; lastClosed = L .tiers .lastClosed; openNow = L .tiers .openNow };
       }
 
 -- a reached book has the ledger of its calls

@@ -20,13 +20,14 @@ use Rattle.ledger.specs.Season.{accepted, step, after}
 use Rattle.ledger.proofs.Steps.{step-keeps, after-keeps}
 use Rattle.ledger.proofs.TierFacts.{OpenFacts, open-facts, NominateFacts, nominate-facts, AwardFacts, award-facts, close-fact}
 
--- the open tier, if there is one, comes right after the last closed; none is past 9; a tier that is neither open nor closed has no nomination;
+-- the open tier, if there is one, comes right after the last closed; none is past 9; a tier that is neither open nor closed has no nomination, and 0 is no tier;
 -- awards are within nominations; and in a closed tier they are the nominations
 pub record TiersSound (T : Tiers) : Type 0 where
   pub inTurn : (T .openNow ≡ 0) ⊎ (T .openNow ≡ suc (T .lastClosed))
   pub openLast : T .openNow ≤ 9
   pub closedLast : T .lastClosed ≤ 9
   pub fresh : (h p t : ℕ) → T .lastClosed < t → (t ≡ T .openNow → ⊥) → T .nominated h p t ≡ 0
+  pub noTierZero : (h p : ℕ) → T .nominated h p 0 ≡ 0
   pub awardsWithin : (h p t : ℕ) → T .awards h p t ≤ T .nominated h p t
   pub closedEven : (h p t : ℕ) → t ≤ T .lastClosed → T .nominated h p t ≡ T .awards h p t
 
@@ -57,6 +58,7 @@ sound-open L tier s f =
       openLast = f .high;
       closedLast = s .closedLast;
       fresh = λ h p t l ne. s .fresh h p t l (λ e. omega (arith, e, f .idle));
+      noTierZero = s .noTierZero;
       awardsWithin = s .awardsWithin;
       closedEven = s .closedEven;
     }
@@ -70,6 +72,7 @@ sound-nominate o L x q kw s f =
       openLast = s .openLast;
       closedLast = s .closedLast;
       fresh = λ h p t l ne. other-tier x q (L .tiers .openNow) kw (L .tiers .nominated) h p t ne ∙ s .fresh h p t l ne;
+      noTierZero = λ h p. other-tier x q (L .tiers .openNow) kw (L .tiers .nominated) h p 0 (λ e. omega (arith, e)) ∙ s .noTierZero h p;
       awardsWithin = λ h p t. le-trans (s .awardsWithin h p t) (added-more x q (L .tiers .openNow) kw (L .tiers .nominated) h p t);
       closedEven = λ h p t l. other-tier x q (L .tiers .openNow) kw (L .tiers .nominated) h p t (λ e. omega (arith, e)) ∙ s .closedEven h p t l;
     }
@@ -105,6 +108,7 @@ sound-award o L x q kw s f =
       openLast = s .openLast;
       closedLast = s .closedLast;
       fresh = s .fresh;
+      noTierZero = s .noTierZero;
       awardsWithin = λ h p t. award-within x q (L .tiers .openNow) kw (L .tiers .awards) (L .tiers .nominated) (f .withinNominated) h p t (s .awardsWithin h p t);
       closedEven = λ h p t l. s .closedEven h p t l ∙ sym (other-tier x q (L .tiers .openNow) kw (L .tiers .awards) h p t (λ e. omega (arith, e)));
     }
@@ -118,6 +122,7 @@ sound-close L s isOpen =
       openLast = zero-le;
       closedLast = s .openLast;
       fresh = λ h p t l ne. rw (ne-eqb t (L .tiers .openNow) (λ e. omega (arith, e))) (s .fresh h p t (omega arith) (λ e. omega (arith, e)));
+      noTierZero = λ h p. rw (ne-eqb 0 (L .tiers .openNow) (λ e. omega (arith, e))) (s .noTierZero h p);
       awardsWithin = λ h p t. within h p t (eqb t (L .tiers .openNow));
       closedEven = λ h p t l. even h p t l (eqb t (L .tiers .openNow)) refl;
     }
@@ -153,6 +158,7 @@ sound-empty =
       openLast = zero-le;
       closedLast = zero-le;
       fresh = λ h p t l ne. refl;
+      noTierZero = λ h p. refl;
       awardsWithin = λ h p t. zero-le;
       closedEven = λ h p t l. refl;
     }

@@ -1,31 +1,29 @@
+-- `book::turns::open_refusal` meets its contract: its tests are the causes, in their order. Assumes nothing.
+use Rattle.ledger.specs.Causes.{openCauses, callCauses, refusal}
+use Rattle.ledger.specs.Calendar.{tierIsOpen, tierInTurn}
+use mathlib.Core.Bool.{not}
+use mathlib.Core.Path.{ap}
+use Rattle.book.specs.Reading.{tiersIn, ledgerOf}
+use Rattle.book.proofs.CauseLaws.{link, no-more}
 use borrow.Author.Needs.{needs}
 use Rattle.book.proofs.turns.open_refusal.Statement.{statement}
 use Rattle.book.proofs.turns.open_refusal.Tie as tie
-use Rattle.book.proofs.turns.open_refusal.Reads as reads
-use Rattle.book.proofs.turns.open_refusal.Lts as lts
-use Rattle.book.proofs.calendar.in_turn.Reads as in-turn-reads
-use Rattle.book.proofs.refusals.refuse.Reads as refuse-reads
-use Rattle.book.proofs.refusals.wrong_tier.Reads as wrong-tier-reads
 
--- src/turns.rt:22:9
 wrong-tier-requires : tie.Need-wrong-tier-requires
 wrong-tier-requires c κs = search needs
 
--- src/turns.rt:23:17
 in-turn-requires : tie.Need-in-turn-requires
 in-turn-requires c κs = search needs
 
--- src/turns.rt:24:22
 refuse-requires : tie.Need-refuse-requires
 refuse-requires c κs = search needs
 
--- src/turns.rt:24:5
 refuse-requires-2 : tie.Need-refuse-requires-2
 refuse-requires-2 c κs = search needs
 
--- src/turns.rt:18:1
 returns : tie.Need-returns
-returns c = ?
+unfolding refusal callCauses openCauses tierInTurn tierIsOpen ledgerOf tiersIn
+returns c = link 3 _ _ _ (c .refuse2 .ensures) (c .before .before .before .wrong-tier .ensures) (link 4 _ _ _ (c .before .refuse .ensures) (ap not (c .before .before .in-turn .ensures)) no-more)
 
 pub open-refusal-spec : {M : Type 1} → statement M
 open-refusal-spec =

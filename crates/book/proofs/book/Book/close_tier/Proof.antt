@@ -1,21 +1,19 @@
+-- `book::Book::close_tier` meets its contract: a refusal leaves the book, and an accepted call changes the tiers alone. Assumes nothing.
+use Rattle.book.proofs.TurnLaws.{closed-book}
+use Rattle.book.proofs.ReachedLaws.{reached-shaped}
+use Rattle.book.proofs.HandedLaws.{accepted-test, handed-refused, handed-accepted}
 use borrow.Author.Needs.{needs}
 use Rattle.book.proofs.book.Book.close_tier.Statement.{statement}
 use Rattle.book.proofs.book.Book.close_tier.Tie as tie
-use Rattle.book.proofs.book.Book.close_tier.Reads as reads
-use Rattle.book.proofs.book.Book.close_tier.Lts as lts
-use Rattle.book.proofs.turns.close_refusal.Reads as close-refusal-reads
 
--- src/turns.rt:80:13
 close-refusal-requires : tie.Need-close-refusal-requires
 close-refusal-requires c κs = search needs
 
--- src/turns.rt:82:13
 returns : tie.Need-returns
-returns c = ?
+returns c = handed-refused _ _ _ (c .before .close-refusal .ensures) (reached-shaped _ (c .before .before .pre)) (c .if1 .taken)
 
--- src/turns.rt:76:5
 returns-2 : tie.Need-returns-2
-returns-2 c = ?
+returns-2 c = let r = c .before .before .before .before .before .before .before .before .before .pre in let s = c .before .before .before .before .before .before .before .before .before .args .self in handed-accepted s _ _ (c .before .before .before .before .before .before .before .before .close-refusal .ensures) _ (c .before .before .before .before .before .before .before .if1 .left) (closed-book s r (reached-shaped s r) (accepted-test s _ _ (c .before .before .before .before .before .before .before .before .close-refusal .ensures) (c .before .before .before .before .before .before .before .if1 .left)))
 
 pub close-tier-spec : {M : Type 1} → statement M
 close-tier-spec = tie.close (tie.spec close-refusal-requires returns returns-2)

@@ -1,0 +1,94 @@
+-- The book after a tier opens or closes. Assumes nothing.
+use Prim.Native.Nat.{ℕ, suc, _-_, _≤_, _<_}
+use mathlib.Core.Path.{_≡_, refl, sym, ap, _∙_, subst}
+use mathlib.Core.Bool.{Bool, true, false, cond}
+use mathlib.Core.List.{List}
+use mathlib.Core.Logic.{_⊎_, inl, inr}
+use native.Mathlib.Omega.{arith}
+use lib.ListN.{length, getD, replicate, length-replicate, getD-replicate}
+use lib.Dec.{eqb}
+use borrow.Author.Tests.{eqb-true, eqb-false, eq-eqb, ne-eqb}
+use Rattle.tariff.proofs.Tests.{decided}
+use Rattle.ledger.specs.Ledger.{Ledger, withTiers}
+use Rattle.ledger.specs.Call.{openTier, closeTier}
+use Rattle.ledger.specs.Effects.{afterOpen, afterClose, effect}
+use Rattle.ledger.specs.Season.{accepted, after}
+use Rattle.ledger.proofs.TiersSound.{TiersSound, tiers-sound}
+use Rattle.ledger.proofs.TierFacts.{open-facts, close-fact}
+use Rattle.book.specs.declared.book.Book.{Book}
+use Rattle.book.specs.Cells.{cellOf, hasCell, readAt, cellsOf}
+use Rattle.book.specs.Reading.{tiersIn, ledgerOf, tiersOf, bookOf}
+use Rattle.book.specs.Handed.{openedWith}
+use Rattle.book.specs.Reached.{Reached}
+use Rattle.book.proofs.CellLaws.{array-is, cells-read, read-here, cell-below}
+use Rattle.book.proofs.Parts.{Shaped, third-zero, loads-back, rights-back, priors-back, papers-back}
+use Rattle.book.proofs.RoundTrip.{reached-ledger}
+
+-- two equations that hold together have one test
+pub same-test : (a b c d : ℕ) → (a ≡ b → c ≡ d) → (c ≡ d → a ≡ b) → eqb a b ≡ eqb c d
+same-test a b c d to back = go (decided (eqb a b))
+  where
+    go : (eqb a b ≡ true) ⊎ (eqb a b ≡ false) → eqb a b ≡ eqb c d
+    go (inl e) = e ∙ sym (eq-eqb c d (to (eqb-true a b e)))
+    go (inr e) = e ∙ sym (ne-eqb c d (λ q. eqb-false a b e (back q)))
+
+pub next-test : (tier last : ℕ) → last < tier → eqb (tier - last) 1 ≡ eqb tier (suc last)
+next-test tier last l = same-test (tier - last) 1 tier (suc last) (λ e. omega (arith, e)) (λ e. omega (arith, e))
+
+pub past-test : (tier last : ℕ) → tier ≤ last → false ≡ eqb tier (suc last)
+past-test tier last l = sym (ne-eqb tier (suc last) (λ e. omega (arith, e)))
+
+-- cells with nothing in them
+pub no-cells : (f : ℕ → ℕ → ℕ → ℕ) → ((h p : ℕ) → f h p 0 ≡ 0) → replicate 128 0 ≡ cellsOf 1 0 f
+no-cells f none = array-is 1 0 0 (replicate 128 0) f (omega arith) (length-replicate {A = ℕ} 128 0) (λ h p m here. read-here 1 0 0 (replicate 128 0) h p m here ∙ getD-replicate 128 (cellOf 1 0 h p m) 0 0 (cell-below 1 0 h p m here) ∙ sym (ap (f h p) (third-zero h p m here) ∙ none h p))
+
+-- what holds of the tiers of a reached book
+pub reached-sound : (b : Book) → Reached b → TiersSound (ledgerOf b .tiers)
+reached-sound b r = subst (λ L. TiersSound (L .tiers)) (sym (reached-ledger b r)) (tiers-sound (r .opening) (r .calls))
+
+pub opened-book : (b : Book) → Reached b → Shaped b → (tier : ℕ) → accepted (openedWith b) (ledgerOf b) (openTier tier) ≡ true → _≡_ {A = Book} (record { setup = b .setup; loads = b .loads; rights = b .rights; priors = b .priors; papers = b .papers; tiers = record { nominated = replicate 128 0; awards = b .tiers .awards; «last_closed» = b .tiers .«last_closed»; «open_now» = tier } }) (bookOf (b .setup) (effect (openedWith b) (ledgerOf b) (openTier tier)))
+unfolding bookOf effect withTiers ledgerOf tiersOf afterOpen tiersIn
+opened-book b r s tier e =
+    λ i.
+    record {
+      setup = b .setup;
+      loads = sym (loads-back b s) i;
+      rights = sym (rights-back b s) i;
+      priors = sym (priors-back b s) i;
+      papers = sym (papers-back b s) i;
+      tiers =
+          record {
+            nominated = no-cells (λ h p z. cond (eqb tier (b .tiers .«open_now»)) (readAt 1 0 0 (b .tiers .nominated) h p 0) (readAt 10 0 0 (b .tiers .awards) h p tier)) (λ h p. fresh h p) i;
+            awards = sym (cells-read 10 0 0 (b .tiers .awards) (omega arith) (s .awards)) i;
+            «last_closed» = b .tiers .«last_closed»;
+            «open_now» = tier;
+          };
+    }
+  where
+    fresh : (h p : ℕ) → ledgerOf b .tiers .nominated h p tier ≡ 0
+    fresh h p = let f = open-facts (openedWith b) (ledgerOf b) tier e in reached-sound b r .fresh h p tier (omega arith) (λ q. omega (arith, q))
+
+pub closed-book : (b : Book) → Reached b → Shaped b → accepted (openedWith b) (ledgerOf b) closeTier ≡ true → _≡_ {A = Book} (record { setup = b .setup; loads = b .loads; rights = b .rights; priors = b .priors; papers = b .papers; tiers = record { nominated = replicate 128 0; awards = b .tiers .awards; «last_closed» = b .tiers .«open_now»; «open_now» = 0 } }) (bookOf (b .setup) (effect (openedWith b) (ledgerOf b) closeTier))
+unfolding bookOf effect withTiers ledgerOf tiersOf afterClose tiersIn
+closed-book b r s e =
+    λ i.
+    record {
+      setup = b .setup;
+      loads = sym (loads-back b s) i;
+      rights = sym (rights-back b s) i;
+      priors = sym (priors-back b s) i;
+      papers = sym (papers-back b s) i;
+      tiers =
+          record {
+            nominated = no-cells (λ h p z. cond (eqb 0 (b .tiers .«open_now»)) (readAt 10 0 0 (b .tiers .awards) h p 0) (cond (eqb 0 (b .tiers .«open_now»)) (readAt 1 0 0 (b .tiers .nominated) h p 0) (readAt 10 0 0 (b .tiers .awards) h p 0))) (λ h p. none h p) i;
+            awards = sym (cells-read 10 0 0 (b .tiers .awards) (omega arith) (s .awards)) i;
+            «last_closed» = b .tiers .«open_now»;
+            «open_now» = 0;
+          };
+    }
+  where
+    isOpen : 1 ≤ ledgerOf b .tiers .openNow
+    isOpen = close-fact (openedWith b) (ledgerOf b) e
+
+    none : (h p : ℕ) → cond (eqb 0 (b .tiers .«open_now»)) (readAt 10 0 0 (b .tiers .awards) h p 0) (ledgerOf b .tiers .nominated h p 0) ≡ 0
+    none h p = ap (λ t. cond t (readAt 10 0 0 (b .tiers .awards) h p 0) (ledgerOf b .tiers .nominated h p 0)) (ne-eqb 0 (b .tiers .«open_now») (λ q. let o = isOpen in omega (arith, q))) ∙ reached-sound b r .noTierZero h p
