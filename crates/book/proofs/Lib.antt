@@ -11,3 +11,4 @@ pub mod MovesInside
 pub mod Confined
 pub mod RoundTrip
 pub mod TurnLaws
+pub mod PriorLaws

@@ -29,7 +29,7 @@ module _ (b : Book) (r : Reached b) where
       let n = legal-counts (r .opening) (r .isLegal) in
       (le-trans (le-of-eq (ap (λ x. x .setup .holders) (r .isBook))) (n .0), le-trans (le-of-eq (ap (λ x. x .setup .sources) (r .isBook))) (n .1), le-trans (le-of-eq (ap (λ x. x .setup .sinks) (r .isBook))) (n .2), le-trans (le-of-eq (ap (λ x. x .setup .paths) (r .isBook))) (n .3))
 
-  holders-same : b .setup .holders ≡ r .opening .holders
+  pub holders-same : b .setup .holders ≡ r .opening .holders
   unfolding bookOf setupOf
   holders-same = ap (λ x. x .setup .holders) (r .isBook)
 

@@ -6,6 +6,7 @@ pub mod carry;
 pub mod cells;
 pub mod loads;
 pub mod papers;
+pub mod prior;
 pub mod priors;
 pub mod refusals;
 pub mod rights;
