@@ -6,6 +6,13 @@ pub mod Parts
 pub mod HandedLaws
 pub mod ReachedLaws
 pub mod CarryLaws
+pub mod MetCauses
+pub mod PathSums
+pub mod ReachedTiers
+pub mod LimitLaws
+pub mod DrawnLaws
+pub mod NominateLaws
+pub mod AwardLaws
 pub mod Inside
 pub mod MovesInside
 pub mod Confined

@@ -1,10 +1,13 @@
 // The season book. Each call takes the book as it is and hands back the next one.
 
+pub mod award;
 pub mod book;
 pub mod calendar;
 pub mod carry;
 pub mod cells;
+pub mod limits;
 pub mod loads;
+pub mod nominate;
 pub mod papers;
 pub mod prior;
 pub mod priors;

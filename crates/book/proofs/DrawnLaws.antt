@@ -1,0 +1,101 @@
+-- What a holder draws from a source of what it has verified there: sums and their bounds in a book that opening or a call handed back. Assumes nothing.
+use Prim.Native.Nat.{ℕ, _+_, _*_, _≤_, _<_}
+use mathlib.Core.Path.{_≡_, sym, ap, _∙_, subst}
+use mathlib.Core.Bool.{Bool, true, false, _&&_, _||_}
+use mathlib.Core.Logic.{_⊎_, inl, inr}
+use native.Mathlib.Nat.{le-trans, le-of-eq, mul-le-mul-right}
+use native.Mathlib.Omega.{arith}
+use lib.Dec.{leb, eqb}
+use Rattle.tariff.specs.declared.evidence.Entry.{Entry}
+use Rattle.tariff.specs.Evidence.{noEntry, entryKw}
+use Rattle.tariff.specs.Ranges.{mostKw}
+use Rattle.tariff.specs.Sum.{countIf, sumTo}
+use Rattle.tariff.specs.Terms.{termOf}
+use Rattle.tariff.proofs.EvidenceBounds.{InRange, entry-le}
+use Rattle.tariff.proofs.Sums.{count-le, sum-bound, sum-part-le}
+use Rattle.tariff.proofs.Tests.{decided}
+use Rattle.ledger.specs.Opening.{Opening}
+use Rattle.ledger.specs.Ledger.{Ledger}
+use Rattle.ledger.specs.Season.{after}
+use Rattle.ledger.specs.Verification.{sumFromSource, drawsOnSame, drawnBefore, drawn}
+use Rattle.ledger.proofs.Bounds.{mostTogether, figures-fit}
+use Rattle.book.specs.declared.book.Book.{Book}
+use Rattle.book.specs.Cells.{hasCell, readAt, cellsOf}
+use Rattle.book.specs.Setup.{openingOf}
+use Rattle.book.specs.Reading.{tiersIn, ledgerOf, papersOf, bookOf}
+use Rattle.book.specs.Handed.{openedWith}
+use Rattle.book.specs.Reached.{Reached}
+use Rattle.book.proofs.CellLaws.{read-cells, read-none}
+use Rattle.book.proofs.PathSums.{source-sum-fits}
+use Rattle.book.proofs.LimitLaws.{nominated-now}
+use Rattle.book.proofs.ReachedLaws.{reached-counts}
+use Rattle.book.proofs.ReachedTiers.{awards-fit, nominated-fits, open-last}
+
+-- a sum of the open tier's nominations, read where they stand
+pub nominated-source : (b : Book) (o : Opening) (h s sum : ℕ) → sum ≡ sumFromSource o s (λ p. readAt 1 0 0 (b .tiers .nominated) h p 0) → sum ≡ sumFromSource o s (λ p. ledgerOf b .tiers .nominated h p (b .tiers .«open_now»))
+nominated-source b o h s sum e = e ∙ (λ i. sumFromSource o s (λ p. sym (nominated-now b h p) i))
+
+-- the awards of an earlier tier, where they count
+unfoldable pub drawnIn : Opening → Ledger → ℕ → ℕ → ℕ → ℕ → ℕ
+drawnIn o L tier h s n = countIf (drawsOnSame tier n) (sumFromSource o s (λ p. L .tiers .awards h p n))
+
+-- the next tier's, as code has it
+pub next-drawn : (o : Opening) (L : Ledger) (tier h s n : ℕ) (same : Bool) (awards v : ℕ) → v ≡ countIf same awards → same ≡ drawsOnSame tier n → awards ≡ sumFromSource o s (λ p. L .tiers .awards h p n) → v ≡ drawnIn o L tier h s n
+unfolding drawnIn
+next-drawn o L tier h s n same awards v e t a = e ∙ (λ i. countIf (t i) (a i))
+
+pub same-drawn : (tier n one two : ℕ) → one ≡ termOf n → two ≡ termOf tier → (leb 1 n && (eqb one two || leb n 3)) ≡ drawsOnSame tier n
+unfolding drawsOnSame
+same-drawn tier n one two e f = λ i. leb 1 n && (eqb (e i) (f i) || leb n 3)
+
+module _ (b : Book) (r : Reached b) where
+  few : openedWith b .paths ≤ 16
+  unfolding openedWith openingOf
+  few = reached-counts b r .3
+
+  -- evidence of one kind
+  pub entry-fits : (h s kind term : ℕ) → entryKw term (readAt 2 1 noEntry (b .papers .entries) h s kind) ≤ mostKw
+  unfolding bookOf papersOf noEntry
+  entry-fits h s kind term =
+      let L = after (r .opening) (r .calls) in
+      entry-le mostKw term (readAt 2 1 noEntry (b .papers .entries) h s kind)
+      (subst (λ (e : Entry). InRange mostKw (e .evidence)) (sym (ap (λ x. readAt 2 1 noEntry (x .papers .entries) h s kind) (r .isBook))) (go L (figures-fit (r .opening) (r .isLegal) (r .calls) .evidenceFits h s kind) (decided (hasCell 2 1 h s kind))))
+    where
+      go : (L : Ledger) → InRange mostKw (L .papers .entry h s kind .evidence) → (hasCell 2 1 h s kind ≡ true) ⊎ (hasCell 2 1 h s kind ≡ false) → InRange mostKw (readAt 2 1 noEntry (cellsOf 2 1 (L .papers .entry)) h s kind .evidence)
+      go L k (inl e) = subst (λ (e : Entry). InRange mostKw (e .evidence)) (sym (read-cells 2 1 noEntry (L .papers .entry) h s kind e)) k
+      go L k (inr e) = subst (λ (e : Entry). InRange mostKw (e .evidence)) (sym (read-none 2 1 noEntry (cellsOf 2 1 (L .papers .entry)) h s kind e)) tt
+
+  module _ (h : ℕ) (l : h < b .setup .holders) where
+    -- a holder's awards and nominations from a source
+    pub awards-from-fit : (s n : ℕ) → sumFromSource (openedWith b) s (λ p. ledgerOf b .tiers .awards h p n) ≤ 16 * mostTogether
+    unfolding openedWith openingOf ledgerOf tiersIn
+    awards-from-fit s n = source-sum-fits (openedWith b) s mostTogether (λ p. readAt 10 0 0 (b .tiers .awards) h p n) few (λ p k. awards-fit b r h p n l k)
+
+    pub nominated-from-fit : (s : ℕ) → sumFromSource (openedWith b) s (λ p. ledgerOf b .tiers .nominated h p (b .tiers .«open_now»)) ≤ 16 * mostTogether
+    unfolding openedWith openingOf
+    nominated-from-fit s = source-sum-fits (openedWith b) s mostTogether (λ p. ledgerOf b .tiers .nominated h p (b .tiers .«open_now»)) few (λ p k. le-trans (le-of-eq (nominated-now b h p)) (nominated-fits b r h p l k))
+
+    -- the awards of all earlier tiers
+    drawn-sum-fits : (s tier : ℕ) → tier ≤ 9 → sumTo tier (drawnIn (openedWith b) (ledgerOf b) tier h s) ≤ 9 * (16 * mostTogether)
+    unfolding drawnIn
+    drawn-sum-fits s tier k =
+        le-trans (sum-bound (16 * mostTogether) tier (λ n i. le-trans (count-le (drawsOnSame tier n) (sumFromSource (openedWith b) s (λ p. ledgerOf b .tiers .awards h p n))) (awards-from-fit s n)))
+        (mul-le-mul-right (16 * mostTogether) k)
+
+    pub drawn-room : (s tier n sum v : ℕ) → tier ≤ 9 → n < tier → sum ≡ sumTo n (drawnIn (openedWith b) (ledgerOf b) tier h s) → v ≡ drawnIn (openedWith b) (ledgerOf b) tier h s n → sum + v ≤ 9 * (16 * mostTogether)
+    drawn-room s tier n sum v k i e f =
+        let part = sum-part-le (drawnIn (openedWith b) (ledgerOf b) tier h s) tier n i in
+        let whole = drawn-sum-fits s tier k in
+        omega arith
+
+    pub drawn-before-fits : (s tier : ℕ) → tier ≤ 9 → drawnBefore (openedWith b) (ledgerOf b) tier h s ≤ 9 * (16 * mostTogether)
+    unfolding drawnBefore drawnIn
+    drawn-before-fits s tier k = drawn-sum-fits s tier k
+
+    -- and all that is drawn in the open tier
+    pub drawn-fits : (s : ℕ) → drawn (openedWith b) (ledgerOf b) (b .tiers .«open_now») h s ≤ 10 * (16 * mostTogether)
+    unfolding drawn
+    drawn-fits s =
+        let one = nominated-from-fit s in
+        let two = drawn-before-fits s (b .tiers .«open_now») (open-last b r) in
+        omega arith

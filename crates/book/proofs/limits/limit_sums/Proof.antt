@@ -1,0 +1,54 @@
+-- `book::limits::limit_sums` meets its contract. Assumes nothing.
+use Rattle.book.proofs.LimitLaws.{limit-sums-are}
+use borrow.Author.Needs.{needs}
+use Rattle.book.proofs.limits.limit_sums.Statement.{statement}
+use Rattle.book.proofs.limits.limit_sums.Tie as tie
+
+term-of-requires : tie.Need-term-of-requires
+term-of-requires c κs = search needs
+
+carried-month-requires : tie.Need-carried-month-requires
+carried-month-requires c κs = search needs
+
+less-requires : tie.Need-less-requires
+less-requires c κs = search needs
+
+read-requires : tie.Need-read-requires
+read-requires c κs = search needs
+
+long-term-at-requires : tie.Need-long-term-at-requires
+long-term-at-requires c κs = search needs
+
+prior-year-at-requires : tie.Need-prior-year-at-requires
+prior-year-at-requires c κs = search needs
+
+awards-at-requires : tie.Need-awards-at-requires
+awards-at-requires c κs = search needs
+
+awards-at-requires-2 : tie.Need-awards-at-requires-2
+awards-at-requires-2 c κs = search needs
+
+awards-at-requires-3 : tie.Need-awards-at-requires-3
+awards-at-requires-3 c κs = search needs
+
+awards-at-requires-4 : tie.Need-awards-at-requires-4
+awards-at-requires-4 c κs = search needs
+
+returns : tie.Need-returns
+returns c = limit-sums-are (c .before .before .before .before .before .before .before .before .before .before .before .before .before .before .args .b) _ _ _ _ _ _ _ _ _ _ _ _ _ (c .before .before .before .before .before .before .before .before .before .before .before .before .term-of .ensures) (c .before .before .before .before .before .before .before .before .before .before .before .carried-month .ensures) (c .before .before .before .before .before .before .before .before .before .before .less .ensures) (c .before .before .before .before .before .before .read .ensures) (c .before .before .before .before .before .long-term-at .ensures) (c .before .before .before .before .prior-year-at .ensures) (c .before .before .before .awards-at .ensures) (c .before .before .awards-at2 .ensures) (c .before .awards-at3 .ensures) (c .awards-at4 .ensures)
+
+pub limit-sums-spec : {M : Type 1} → statement M
+limit-sums-spec =
+    tie.close
+    (tie.spec
+    term-of-requires
+    carried-month-requires
+    less-requires
+    read-requires
+    long-term-at-requires
+    prior-year-at-requires
+    awards-at-requires
+    awards-at-requires-2
+    awards-at-requires-3
+    awards-at-requires-4
+    returns)

@@ -1,0 +1,68 @@
+-- `book::nominate::drawn_before` meets its contract: before tier n the sum is that of the tiers below n. Assumes nothing.
+use Prim.Native.Nat.{_-_, _≤_}
+use mathlib.Core.Path.{_≡_, refl}
+use native.Mathlib.Omega.{arith}
+use Rattle.tariff.specs.Sum.{sumTo}
+use Rattle.tariff.proofs.Sums.{sum-more, sum-whole}
+use Rattle.ledger.specs.Verification.{drawnBefore}
+use Rattle.book.specs.Reading.{ledgerOf}
+use Rattle.book.specs.Handed.{openedWith}
+use Rattle.book.proofs.DrawnLaws.{drawnIn, next-drawn, drawn-room}
+use borrow.Author.Needs.{needs}
+use Rattle.book.proofs.nominate.drawn_before.Statement.{statement}
+use Rattle.book.proofs.nominate.drawn_before.Tie as tie
+
+abbrev Inv-loop : tie.InvT-loop
+Inv-loop b tier h s sum₀ n₀ sum n = (n ≤ tier) × (sum ≡ sumTo n (drawnIn (openedWith b) (ledgerOf b) tier h s))
+
+abbrev μ-loop : tie.MeasureT-loop
+μ-loop b tier h s sum₀ n₀ sum n = tier - n
+
+loop-holds : tie.Need-loop-holds Inv-loop μ-loop
+unfolding sumTo
+loop-holds c = (search needs, refl)
+
+draws-on-same-requires : tie.Need-draws-on-same-requires Inv-loop μ-loop
+draws-on-same-requires c κs = search needs
+
+awards-from-requires : tie.Need-awards-from-requires Inv-loop μ-loop
+awards-from-requires c κs = c .before .before .before .pre .1
+
+count-if-requires : tie.Need-count-if-requires Inv-loop μ-loop
+count-if-requires c κs = search needs
+
+add-sum : tie.Need-add-sum Inv-loop μ-loop
+add-sum c =
+    let known = c .before .before .before .before .before .pre in
+    let next = next-drawn (openedWith (c .before .before .before .before .before .args .b)) (ledgerOf (c .before .before .before .before .before .args .b)) _ _ _ _ _ _ _ (c .count-if .ensures) (c .before .before .draws-on-same .ensures) (c .before .awards-from .ensures) in
+    let room = drawn-room _ (known .1 .0) _ (known .1 .1) _ _ _ _ _ (known .0) (c .before .before .before .loop-test .taken) (c .before .before .before .before .loop .inv .1) next in
+    omega arith
+
+add-n : tie.Need-add-n Inv-loop μ-loop
+add-n c = search needs
+
+loop-less : tie.Need-loop-less Inv-loop μ-loop
+loop-less c = search needs
+
+loop-again : tie.Need-loop-again Inv-loop μ-loop
+loop-again c = (search needs, sum-more _ _ _ _ (c .before .before .before .before .loop .inv .1) (next-drawn (openedWith (c .before .before .before .before .before .args .b)) (ledgerOf (c .before .before .before .before .before .args .b)) _ _ _ _ _ _ _ (c .count-if .ensures) (c .before .before .draws-on-same .ensures) (c .before .awards-from .ensures)))
+
+returns : tie.Need-returns Inv-loop μ-loop
+unfolding drawnBefore drawnIn
+returns c = sum-whole _ _ _ _ (c .before .loop .inv .0) (c .loop-test .left) (c .before .loop .inv .1)
+
+pub drawn-before-spec : {M : Type 1} → statement M
+drawn-before-spec =
+    tie.close
+    (tie.spec
+    Inv-loop
+    μ-loop
+    loop-holds
+    draws-on-same-requires
+    awards-from-requires
+    count-if-requires
+    add-sum
+    add-n
+    loop-less
+    loop-again
+    returns)

@@ -1,0 +1,102 @@
+-- `book::nominate::nominate_refusal` meets its contract: its tests are the causes, in their order. Assumes nothing.
+use mathlib.Core.Bool.{not}
+use mathlib.Core.Path.{sym, ap, _∙_}
+use Rattle.ledger.specs.Calendar.{tierIsOpen}
+use Rattle.ledger.specs.Causes.{nominateCauses, callCauses, refusal}
+use Rattle.book.specs.Reading.{tiersIn, ledgerOf}
+use Rattle.book.specs.Handed.{openedWith}
+use Rattle.book.proofs.CauseLaws.{link, no-more}
+use Rattle.book.proofs.MetCauses.{met-first, unmet-first, holder-in-book, path-in-book, kw-within, neither, first-of-two, second-of-two}
+use borrow.Author.Needs.{needs}
+use Rattle.book.proofs.nominate.nominate_refusal.Statement.{statement}
+use Rattle.book.proofs.nominate.nominate_refusal.Tie as tie
+
+no-holder-requires : tie.Need-no-holder-requires
+no-holder-requires c κs = search needs
+
+returns : tie.Need-returns
+unfolding refusal callCauses nominateCauses openedWith tierIsOpen ledgerOf tiersIn
+returns c = met-first 2 _ _ (first-of-two _ (c .before .no-holder .ensures) (c .if1 .taken))
+
+no-path-requires : tie.Need-no-path-requires
+no-path-requires c κs = search needs
+
+returns-2 : tie.Need-returns-2
+unfolding refusal callCauses nominateCauses openedWith tierIsOpen ledgerOf tiersIn
+returns-2 c = met-first 2 _ _ (second-of-two (c .before .before .before .no-holder .ensures) (c .before .before .if1 .left) (c .before .no-path .ensures) (c .if2 .taken))
+
+wrong-kw-requires : tie.Need-wrong-kw-requires
+wrong-kw-requires c κs = search needs
+
+returns-3 : tie.Need-returns-3
+unfolding refusal callCauses nominateCauses openedWith tierIsOpen ledgerOf tiersIn
+returns-3 c =
+    unmet-first 2 _ _ (neither (c .before .before .before .before .before .no-holder .ensures) (c .before .before .before .before .if1 .left) (c .before .before .before .no-path .ensures) (c .before .before .if2 .left))
+    (met-first 3 _ _ (sym (c .before .wrong-kw .ensures) ∙ c .if3 .taken))
+
+is-open-requires : tie.Need-is-open-requires
+is-open-requires c κs = search needs
+
+returns-4 : tie.Need-returns-4
+unfolding refusal callCauses nominateCauses openedWith tierIsOpen ledgerOf tiersIn
+returns-4 c =
+    unmet-first 2 _ _ (neither (c .before .before .before .before .before .before .before .no-holder .ensures) (c .before .before .before .before .before .before .if1 .left) (c .before .before .before .before .before .no-path .ensures) (c .before .before .before .before .if2 .left))
+    (unmet-first 3 _ _ (sym (c .before .before .before .wrong-kw .ensures) ∙ c .before .before .if3 .left)
+    (met-first 4 _ _ (ap not (sym (c .before .is-open .ensures)) ∙ c .if4 .taken)))
+
+sink-not-for-it-requires : tie.Need-sink-not-for-it-requires
+sink-not-for-it-requires c κs = search needs
+
+beyond-verified-requires : tie.Need-beyond-verified-requires
+beyond-verified-requires c κs = (kw-within _ (c .before .before .before .before .wrong-kw .ensures) (c .before .before .before .if3 .left), (c .before .before .before .before .before .before .before .before .before .before .before .pre, holder-in-book _ _ (c .before .before .before .before .before .before .before .before .no-holder .ensures) (c .before .before .before .before .before .before .before .if1 .left)))
+
+beyond-renewable-requires : tie.Need-beyond-renewable-requires
+beyond-renewable-requires c κs = (kw-within _ (c .before .before .before .before .before .wrong-kw .ensures) (c .before .before .before .before .if3 .left), path-in-book _ _ (c .before .before .before .before .before .before .before .no-path .ensures) (c .before .before .before .before .before .before .if2 .left), (c .before .before .before .before .before .before .before .before .before .before .before .before .pre, holder-in-book _ _ (c .before .before .before .before .before .before .before .before .before .no-holder .ensures) (c .before .before .before .before .before .before .before .before .if1 .left)))
+
+beyond-limit-requires : tie.Need-beyond-limit-requires
+beyond-limit-requires c κs = (kw-within _ (c .before .before .before .before .before .before .wrong-kw .ensures) (c .before .before .before .before .before .if3 .left), (c .before .before .before .before .before .before .before .before .before .before .before .before .before .pre, holder-in-book _ _ (c .before .before .before .before .before .before .before .before .before .before .no-holder .ensures) (c .before .before .before .before .before .before .before .before .before .if1 .left)))
+
+refuse-requires : tie.Need-refuse-requires
+refuse-requires c κs = search needs
+
+refuse-requires-2 : tie.Need-refuse-requires-2
+refuse-requires-2 c κs = search needs
+
+refuse-requires-3 : tie.Need-refuse-requires-3
+refuse-requires-3 c κs = search needs
+
+refuse-requires-4 : tie.Need-refuse-requires-4
+refuse-requires-4 c κs = search needs
+
+returns-5 : tie.Need-returns-5
+unfolding refusal callCauses nominateCauses openedWith tierIsOpen ledgerOf tiersIn
+returns-5 c =
+    unmet-first 2 _ _ (neither (c .before .before .before .before .before .before .before .before .before .before .before .before .before .before .before .no-holder .ensures) (c .before .before .before .before .before .before .before .before .before .before .before .before .before .before .if1 .left) (c .before .before .before .before .before .before .before .before .before .before .before .before .before .no-path .ensures) (c .before .before .before .before .before .before .before .before .before .before .before .before .if2 .left))
+    (unmet-first 3 _ _ (sym (c .before .before .before .before .before .before .before .before .before .before .before .wrong-kw .ensures) ∙ c .before .before .before .before .before .before .before .before .before .before .if3 .left)
+    (unmet-first 4 _ _ (ap not (sym (c .before .before .before .before .before .before .before .before .before .is-open .ensures)) ∙ c .before .before .before .before .before .before .before .before .if4 .left)
+    (link 10 _ _ _ (c .refuse4 .ensures) (c .before .before .before .before .before .before .before .sink-not-for-it .ensures)
+    (link 11 _ _ _ (c .before .refuse3 .ensures) (c .before .before .before .before .before .before .beyond-verified .ensures)
+    (link 12 _ _ _ (c .before .before .refuse2 .ensures) (c .before .before .before .before .before .beyond-renewable .ensures)
+    (link 13 _ _ _ (c .before .before .before .refuse .ensures) (c .before .before .before .before .beyond-limit .ensures) no-more))))))
+
+pub nominate-refusal-spec : {M : Type 1} → statement M
+nominate-refusal-spec =
+    tie.close
+    (tie.spec
+    no-holder-requires
+    returns
+    no-path-requires
+    returns-2
+    wrong-kw-requires
+    returns-3
+    is-open-requires
+    returns-4
+    sink-not-for-it-requires
+    beyond-verified-requires
+    beyond-renewable-requires
+    beyond-limit-requires
+    refuse-requires
+    refuse-requires-2
+    refuse-requires-3
+    refuse-requires-4
+    returns-5)

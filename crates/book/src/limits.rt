@@ -1,0 +1,168 @@
+// The sums that a limit is made of, and the limit itself (01, Limits).
+use crate::book::Answer;
+use crate::book::Book;
+use crate::calendar::is_open;
+use crate::cells::read;
+use crate::refusals::refuse;
+use crate::setup::Setup;
+use tariff::limit::Sums;
+use tariff::limit::less;
+use tariff::limit::term_of;
+use tariff::limit::tier_limit;
+ghost use mathlib.Core.Path.{_≡_};
+ghost use Prim.Native.Nat.{ℕ, _+_, _*_, _<_, _≤_};
+ghost use lib.ListN.{length};
+ghost use Rattle.tariff.specs.Sum.{countIf};
+ghost use Rattle.tariff.specs.Terms.{carriedMonth};
+ghost use Rattle.ledger.specs.Call.{limitOf};
+ghost use Rattle.ledger.specs.Causes.{queryRefusal};
+ghost use Rattle.ledger.specs.Limits.{sumAtBase, longTermAt, priorYearAt, awardsAt, nominatedAt, limitSums, tierLimit};
+ghost use Rattle.ledger.specs.Verification.{sumFromSource};
+ghost use Rattle.book.specs.Cells.{readAt};
+ghost use Rattle.book.specs.Setup.{openingOf};
+ghost use Rattle.book.specs.Reading.{ledgerOf};
+ghost use Rattle.book.specs.Handed.{openedWith, told};
+ghost use Rattle.book.specs.Reached.{Reached};
+
+// kw where the test passes, else 0.
+pub fn count_if(test: bool, kw: u64) -> u64
+    ensures { λ r. ⌜ r ≡ countIf test kw ⌝ }
+{
+    if test { kw } else { 0 }
+}
+
+// What a holder has in cells on the paths whose sink has this base.
+pub fn sum_at_base(setup: Setup, cells: &[u64], width: u64, low: u64, h: u64, m: u64, b: u64) -> u64
+    requires { ⌜ (length (now cells) ≡ 128 * width) × (low + width ≤ 16) × (setup .paths ≤ 16) × ((p : ℕ) → p < setup .paths → readAt width low 0 (now cells) h p m ≤ 10 * (8 * 99999999)) ⌝ }
+    ensures { λ r. ⌜ r ≡ sumAtBase (openingOf setup) b (λ p. readAt width low 0 (now (cells .entry)) h p m) ⌝ }
+{
+    let paths = setup.paths;
+    let mut sum: u64 = 0;
+    for p in 0..paths {
+        let there = setup.path_base(p) == b;
+        sum += count_if(there, read(cells, width, low, h, p, m));
+    }
+    sum
+}
+
+// What a holder has in cells on the paths from this source.
+pub fn sum_from_source(
+    setup: Setup,
+    cells: &[u64],
+    width: u64,
+    low: u64,
+    h: u64,
+    m: u64,
+    s: u64,
+) -> u64
+    requires { ⌜ (length (now cells) ≡ 128 * width) × (low + width ≤ 16) × (setup .paths ≤ 16) × ((p : ℕ) → p < setup .paths → readAt width low 0 (now cells) h p m ≤ 10 * (8 * 99999999)) ⌝ }
+    ensures { λ r. ⌜ r ≡ sumFromSource (openingOf setup) s (λ p. readAt width low 0 (now (cells .entry)) h p m) ⌝ }
+{
+    let paths = setup.paths;
+    let mut sum: u64 = 0;
+    for p in 0..paths {
+        let there = setup.path_source(p) == s;
+        sum += count_if(there, read(cells, width, low, h, p, m));
+    }
+    sum
+}
+
+// The month whose carried rights count in a term's limits: month 1 for the season.
+fn carried_month(term: u64) -> u64
+    ensures { λ r. ⌜ r ≡ carriedMonth term ⌝ }
+{
+    if term == 0 { 1 } else { term }
+}
+
+// LT: a holder's carried holding at a base in a month.
+fn long_term_at(b: Book, h: u64, base: u64, month: u64) -> u64
+    requires { ⌜ Reached b × (h < b .setup .holders) ⌝ }
+    ensures { λ r. ⌜ r ≡ longTermAt (openedWith b) (ledgerOf b) h base month ⌝ }
+{
+    let rights = b.rights;
+    sum_at_base(b.setup, &rights.carried, 3, 1, h, month, base)
+}
+
+// A holder's allocation of last year at a base.
+fn prior_year_at(b: Book, h: u64, base: u64) -> u64
+    requires { ⌜ Reached b × (h < b .setup .holders) ⌝ }
+    ensures { λ r. ⌜ r ≡ priorYearAt (openedWith b) (ledgerOf b) h base ⌝ }
+{
+    let priors = b.priors;
+    sum_at_base(b.setup, &priors.allocated, 1, 0, h, 0, base)
+}
+
+// A holder's awards at a base in a tier.
+fn awards_at(b: Book, h: u64, base: u64, tier: u64) -> u64
+    requires { ⌜ Reached b × (h < b .setup .holders) ⌝ }
+    ensures { λ r. ⌜ r ≡ awardsAt (openedWith b) (ledgerOf b) h base tier ⌝ }
+{
+    let tiers = b.tiers;
+    sum_at_base(b.setup, &tiers.awards, 10, 0, h, tier, base)
+}
+
+// A holder's nominations at a base in the open tier.
+pub fn nominated_at(b: Book, h: u64, base: u64) -> u64
+    requires { ⌜ Reached b × (h < b .setup .holders) ⌝ }
+    ensures { λ r. ⌜ r ≡ nominatedAt (openedWith b) (ledgerOf b) h base (b .tiers .«open_now») ⌝ }
+{
+    let tiers = b.tiers;
+    sum_at_base(b.setup, &tiers.nominated, 1, 0, h, 0, base)
+}
+
+// What a holder's limit at a base is made of in a tier.
+fn limit_sums(b: Book, tier: u64, h: u64, base: u64) -> Sums
+    requires { ⌜ Reached b × (h < b .setup .holders) ⌝ }
+    ensures { λ r. ⌜ r ≡ limitSums (openedWith b) (ledgerOf b) tier h base ⌝ }
+{
+    let loads = b.loads;
+    let term = term_of(tier);
+    let month = carried_month(term);
+    let last = less(tier, 1);
+    Sums {
+        load: read(&loads.kw, 4, 0, h, base, term),
+        carried: long_term_at(b, h, base, month),
+        prior: prior_year_at(b, h, base),
+        tier1: awards_at(b, h, base, 1),
+        tier2: awards_at(b, h, base, 2),
+        tier3: awards_at(b, h, base, 3),
+        before: awards_at(b, h, base, last),
+    }
+}
+
+// The limit on what a holder nominates at a base in a tier.
+pub fn tier_limit_of(b: Book, tier: u64, h: u64, base: u64) -> u64
+    requires { ⌜ Reached b × (h < b .setup .holders) ⌝ }
+    ensures { λ r. ⌜ r ≡ tierLimit (openedWith b) (ledgerOf b) tier h base ⌝ }
+{
+    let sums = limit_sums(b, tier, h, base);
+    tier_limit(tier, sums)
+}
+
+// The first cause that a limit query meets, 0 for none.
+fn limit_refusal(b: Book, h: u64, s: u64) -> u64
+    ensures { λ r. ⌜ r ≡ queryRefusal (openedWith b) (ledgerOf b) (limitOf h s) ⌝ }
+{
+    let setup = b.setup;
+    let tiers = b.tiers;
+    let stranger = setup.no_holder(h) | setup.no_sink(s);
+    let idle = !is_open(tiers.open_now);
+    refuse(2, stranger, refuse(4, idle, 0))
+}
+
+impl Book {
+    // A holder's limit at a sink's base in the open tier.
+    pub fn limit(self, h: u64, s: u64) -> Answer
+        requires { ⌜ Reached self ⌝ }
+        ensures { λ r. ⌜ r ≡ told self (limitOf h s) ⌝ }
+    {
+        let number = limit_refusal(self, h, s);
+        if number != 0 {
+            return Answer::Refused(number);
+        }
+        let setup = self.setup;
+        let tiers = self.tiers;
+        let base = setup.sink_base(s);
+        Answer::Value(tier_limit_of(self, tiers.open_now, h, base))
+    }
+}
