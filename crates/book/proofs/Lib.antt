@@ -19,3 +19,4 @@ pub mod Confined
 pub mod RoundTrip
 pub mod TurnLaws
 pub mod PriorLaws
+pub mod VerifyLaws

@@ -16,3 +16,4 @@ pub mod rights;
 pub mod setup;
 pub mod tiers;
 pub mod turns;
+pub mod verify;
