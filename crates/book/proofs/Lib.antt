@@ -20,3 +20,4 @@ pub mod RoundTrip
 pub mod TurnLaws
 pub mod PriorLaws
 pub mod VerifyLaws
+pub mod HeldLaws

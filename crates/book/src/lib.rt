@@ -5,6 +5,7 @@ pub mod book;
 pub mod calendar;
 pub mod carry;
 pub mod cells;
+pub mod holdings;
 pub mod limits;
 pub mod loads;
 pub mod nominate;

@@ -1,0 +1,49 @@
+// The queries on holdings (01, Queries).
+use crate::book::Answer;
+use crate::book::Book;
+use crate::cells::read;
+use crate::refusals::refuse;
+use crate::refusals::wrong_month;
+ghost use mathlib.Core.Path.{_≡_};
+ghost use Prim.Native.Nat.{_<_};
+ghost use Rattle.ledger.specs.Call.{heldOn};
+ghost use Rattle.ledger.specs.Causes.{queryRefusal};
+ghost use Rattle.ledger.specs.Season.{held};
+ghost use Rattle.book.specs.Reading.{ledgerOf};
+ghost use Rattle.book.specs.Handed.{openedWith, told};
+ghost use Rattle.book.specs.Reached.{Reached};
+
+// A holder's holding on a path in a month: carried and awarded.
+fn holding(b: Book, h: u64, p: u64, month: u64) -> u64
+    requires { ⌜ Reached b × (h < b .setup .holders) × (p < b .setup .paths) ⌝ }
+    ensures { λ r. ⌜ r ≡ held (ledgerOf b) h p month ⌝ }
+{
+    let rights = b.rights;
+    let carried = read(&rights.carried, 3, 1, h, p, month);
+    let awarded = read(&rights.awarded, 3, 1, h, p, month);
+    carried + awarded
+}
+
+// The first cause that a held query meets, 0 for none.
+fn held_refusal(b: Book, h: u64, p: u64, month: u64) -> u64
+    ensures { λ r. ⌜ r ≡ queryRefusal (openedWith b) (ledgerOf b) (heldOn h p month) ⌝ }
+{
+    let setup = b.setup;
+    let stranger = setup.no_holder(h) | setup.no_path(p);
+    let range = wrong_month(month);
+    refuse(2, stranger, refuse(3, range, 0))
+}
+
+impl Book {
+    // What a holder holds on a path in a month.
+    pub fn held(self, h: u64, p: u64, month: u64) -> Answer
+        requires { ⌜ Reached self ⌝ }
+        ensures { λ r. ⌜ r ≡ told self (heldOn h p month) ⌝ }
+    {
+        let number = held_refusal(self, h, p, month);
+        if number != 0 {
+            return Answer::Refused(number);
+        }
+        Answer::Value(holding(self, h, p, month))
+    }
+}
