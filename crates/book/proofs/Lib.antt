@@ -21,3 +21,13 @@ pub mod TurnLaws
 pub mod PriorLaws
 pub mod VerifyLaws
 pub mod HeldLaws
+pub mod ColumnLaws
+pub mod ShiftLaws
+pub mod TermTests
+pub mod MonthRanges
+pub mod MovedParts
+pub mod LineLaws
+pub mod MigrateCauses
+pub mod ReachedColumns
+pub mod MigrateLaws
+pub mod MigrateHanded

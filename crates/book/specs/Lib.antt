@@ -4,3 +4,5 @@ pub mod Cells
 pub mod Reading
 pub mod Handed
 pub mod Reached
+pub mod Columns
+pub mod Lines

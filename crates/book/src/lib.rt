@@ -8,6 +8,8 @@ pub mod cells;
 pub mod holdings;
 pub mod limits;
 pub mod loads;
+pub mod migrate;
+pub mod moves;
 pub mod nominate;
 pub mod papers;
 pub mod prior;

@@ -1,0 +1,80 @@
+-- `book::migrate::any_wrong_line` meets its contract: no line passed so far is wrong, and the first that is ends the search. Assumes nothing.
+use Prim.Native.Nat.{_≤_, _-_, zero-le}
+use mathlib.Core.Bool.{false}
+use mathlib.Core.Path.{_≡_, refl, sym, _∙_}
+use lib.ListN.{length}
+use Rattle.tariff.specs.Sum.{anyBelow}
+use Rattle.tariff.proofs.Tests.{none-more}
+use Rattle.book.specs.Lines.{wrongLineAt}
+use Rattle.book.proofs.LineLaws.{found, not-found}
+use borrow.Author.Needs.{needs}
+use Rattle.book.proofs.migrate.any_wrong_line.Statement.{statement}
+use Rattle.book.proofs.migrate.any_wrong_line.Tie as tie
+
+abbrev Inv-loop : tie.InvT-loop
+Inv-loop classes customers watts k₀ k = (k ≤ length classes) × (anyBelow k (wrongLineAt classes customers watts) ≡ false)
+
+abbrev μ-loop : tie.MeasureT-loop
+μ-loop classes customers watts k₀ k = length classes - k
+
+loop-holds : tie.Need-loop-holds Inv-loop μ-loop
+unfolding anyBelow
+loop-holds c = (zero-le, refl)
+
+mul-wrong-line : tie.Need-mul-wrong-line Inv-loop μ-loop
+mul-wrong-line c = search needs
+
+shared-slice-read-wrong-line : tie.Need-shared-slice-read-wrong-line Inv-loop μ-loop
+shared-slice-read-wrong-line c = search needs
+
+mul-wrong-line-2 : tie.Need-mul-wrong-line-2 Inv-loop μ-loop
+mul-wrong-line-2 c = search needs
+
+shared-slice-read-wrong-line-2 : tie.Need-shared-slice-read-wrong-line-2 Inv-loop μ-loop
+shared-slice-read-wrong-line-2 c = search needs
+
+mul-wrong-line-3 : tie.Need-mul-wrong-line-3 Inv-loop μ-loop
+mul-wrong-line-3 c = search needs
+
+shared-slice-read-wrong-line-3 : tie.Need-shared-slice-read-wrong-line-3 Inv-loop μ-loop
+shared-slice-read-wrong-line-3 c = search needs
+
+wrong-line-requires : tie.Need-wrong-line-requires Inv-loop μ-loop
+wrong-line-requires c κs = search needs
+
+returns : tie.Need-returns Inv-loop μ-loop
+unfolding wrongLineAt
+returns c = found _ _ _ (c .before .before .before .before .before .loop-test .taken) (sym (c .before .wrong-line .ensures) ∙ c .if1 .taken)
+
+add-k : tie.Need-add-k Inv-loop μ-loop
+add-k c = search needs
+
+loop-less : tie.Need-loop-less Inv-loop μ-loop
+loop-less c = search needs
+
+loop-again : tie.Need-loop-again Inv-loop μ-loop
+unfolding wrongLineAt
+loop-again c = (search needs, none-more _ _ (c .before .before .before .before .before .before .loop .inv .1) (sym (c .before .wrong-line .ensures) ∙ c .if1 .left))
+
+returns-2 : tie.Need-returns-2 Inv-loop μ-loop
+returns-2 c = not-found _ _ _ (c .before .loop .inv .0) (c .loop-test .left) (c .before .loop .inv .1)
+
+pub any-wrong-line-spec : {M : Type 1} → statement M
+any-wrong-line-spec =
+    tie.close
+    (tie.spec
+    Inv-loop
+    μ-loop
+    loop-holds
+    mul-wrong-line
+    shared-slice-read-wrong-line
+    mul-wrong-line-2
+    shared-slice-read-wrong-line-2
+    mul-wrong-line-3
+    shared-slice-read-wrong-line-3
+    wrong-line-requires
+    returns
+    add-k
+    loop-less
+    loop-again
+    returns-2)

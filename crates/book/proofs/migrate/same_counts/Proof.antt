@@ -1,0 +1,12 @@
+-- `book::migrate::same_counts` meets its contract: the tests are those of the definition. Assumes nothing.
+use mathlib.Core.Path.{refl}
+use Rattle.book.specs.Lines.{sameCounts}
+use Rattle.book.proofs.migrate.same_counts.Statement.{statement}
+use Rattle.book.proofs.migrate.same_counts.Tie as tie
+
+returns : tie.Need-returns
+unfolding sameCounts
+returns c = refl
+
+pub same-counts-spec : {M : Type 1} → statement M
+same-counts-spec = tie.close (tie.spec returns)
