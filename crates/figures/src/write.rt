@@ -1,4 +1,4 @@
-// The parts of a line.
+// The parts of a line. What a program writes is in no promise, so these state none: the stored output holds every line.
 use libc::STDOUT_FILENO;
 
 // A word: the first of a line, or one that brings its comma.
