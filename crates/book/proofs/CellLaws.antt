@@ -1,11 +1,11 @@
 -- Laws of flat arrays: what is read out of the cells of a function, the cells of what is read, and one stored cell. One law for every width.
 -- Assumes nothing.
-use Prim.Native.Nat.{ℕ, zero, suc, _+_, _-_, _*_, _/_, _%_, _≤_, _<_}
+use Prim.Native.Nat.{ℕ, zero, suc, _+_, _-_, _*_, _/_, _%_, _≤_, _<_, zero-le}
 use mathlib.Core.Path.{_≡_, refl, sym, ap, _∙_}
 use mathlib.Core.Bool.{Bool, true, false, cond, _&&_}
 use mathlib.Core.List.{List}
 use mathlib.Core.Logic.{_⊎_, inl, inr}
-use native.Mathlib.Nat.{mul-add-div-right, div-eq-of-lt, mul-add-mod-self-right, mod-eq-of-lt, add-zero, div-lt-iff-lt-mul, mod-lt, div-add-mod', mul-comm, mul-le-mul-right, suc-mul}
+use native.Mathlib.Nat.{mul-add-div-right, div-eq-of-lt, mul-add-mod-self-right, mod-eq-of-lt, add-zero, div-lt-iff-lt-mul, mod-lt, div-add-mod', mul-comm, mul-le-mul-right, suc-mul, le-trans, le-of-eq}
 use native.Mathlib.Omega.{arith}
 use lib.ListN.{length, getD, set, take, length-take, List·getD-eq-default}
 use lib.Seq.{ext-getD, getD-set-same, getD-set-other, getD-take}
@@ -183,3 +183,11 @@ entry-none xs n i l = sym (List·getD-eq-default (take n xs) 0 {n = i} (let e = 
 
 pub entry-there : (xs : List ℕ) (n i : ℕ) → i < n → getD xs i 0 ≡ getD (take n xs) i 0
 entry-there xs n i l = sym (getD-take n xs i 0 l)
+
+-- what is read out of the cells of a function is at most the function's
+pub read-le : (width low : ℕ) (f : ℕ → ℕ → ℕ → ℕ) (h p m : ℕ) → readAt width low 0 (cellsOf width low f) h p m ≤ f h p m
+read-le width low f h p m = go (decided (hasCell width low h p m))
+  where
+    go : (hasCell width low h p m ≡ true) ⊎ (hasCell width low h p m ≡ false) → readAt width low 0 (cellsOf width low f) h p m ≤ f h p m
+    go (inl e) = le-of-eq (read-cells width low 0 f h p m e)
+    go (inr e) = le-trans (le-of-eq (read-none width low 0 (cellsOf width low f) h p m e)) zero-le

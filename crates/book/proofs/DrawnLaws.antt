@@ -29,7 +29,7 @@ use Rattle.book.proofs.CellLaws.{read-cells, read-none}
 use Rattle.book.proofs.PathSums.{source-sum-fits}
 use Rattle.book.proofs.LimitLaws.{nominated-now}
 use Rattle.book.proofs.ReachedLaws.{reached-counts}
-use Rattle.book.proofs.ReachedTiers.{awards-fit, nominated-fits, open-last}
+use Rattle.book.proofs.ReachedFigures.{awards-fit, nominated-fits, open-last}
 
 -- a sum of the open tier's nominations, read where they stand
 pub nominated-source : (b : Book) (o : Opening) (h s sum : ℕ) → sum ≡ sumFromSource o s (λ p. readAt 1 0 0 (b .tiers .nominated) h p 0) → sum ≡ sumFromSource o s (λ p. ledgerOf b .tiers .nominated h p (b .tiers .«open_now»))

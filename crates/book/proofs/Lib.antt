@@ -5,10 +5,11 @@ pub mod Months
 pub mod Parts
 pub mod HandedLaws
 pub mod ReachedLaws
+pub mod ReachedColumns
+pub mod ReachedFigures
 pub mod CarryLaws
 pub mod MetCauses
 pub mod PathSums
-pub mod ReachedTiers
 pub mod LimitLaws
 pub mod DrawnLaws
 pub mod NominateLaws
@@ -28,6 +29,5 @@ pub mod MonthRanges
 pub mod MovedParts
 pub mod LineLaws
 pub mod MigrateCauses
-pub mod ReachedColumns
 pub mod MigrateLaws
 pub mod MigrateHanded

@@ -36,7 +36,7 @@ use Rattle.book.specs.Lines.{sameCounts, movedBy, handedLines}
 use Rattle.book.proofs.CellLaws.{cell-facts, cells-ext}
 use Rattle.book.proofs.Parts.{papers-back, tiers-back}
 use Rattle.book.proofs.ReachedLaws.{reached-counts, reached-shaped}
-use Rattle.book.proofs.ReachedColumns.{loads-fit, carried-fits, awarded-fits, allocated-fits, renewable-fits}
+use Rattle.book.proofs.ReachedColumns.{loads-together, carried-together, awarded-together, allocated-together, renewable-together}
 use Rattle.book.proofs.ColumnLaws.{column-holder}
 use Rattle.book.proofs.MigrateCauses.{line-count, lines-fit, m-of-lines, load-before}
 
@@ -86,7 +86,7 @@ module _ (b : Book) (r : Reached b) (term sink : ℕ) (froms tos classes custome
       record {
         few = few;
         covered = λ i l. let n = few in le-trans (le-of-eq (sum-ext {f = λ j. pairAt (x .m) i j} {g = λ j. netted lines i j} (b .setup .holders) (λ j k. m-is i j (omega arith) (omega arith)))) (le-trans (facts .fits i l) (le-of-eq (sym (load-is i))));
-        loads = le-trans (le-of-eq (sum-ext {f = holderAt (x .load)} {g = λ i. readAt 4 0 0 (b .loads .kw) i sink term} (b .setup .holders) (λ i l. column-holder 4 0 (b .loads .kw) sink term i))) (loads-fit b r sink term);
+        loads = le-trans (le-of-eq (sum-ext {f = holderAt (x .load)} {g = λ i. readAt 4 0 0 (b .loads .kw) i sink term} (b .setup .holders) (λ i l. column-holder 4 0 (b .loads .kw) sink term i))) (loads-together b r sink term);
         others = λ i j li lj past. m-is i j li lj ∙ netted-none (openedWith b) lines i j (facts .holders) past;
       }
 
@@ -98,10 +98,10 @@ module _ (b : Book) (r : Reached b) (term sink : ℕ) (froms tos classes custome
         inSinks = le-trans (facts .sinkInBook) (reached-counts b r .2);
         movable = movable;
         ofLoads = refl;
-        carried = carried-fits b r;
-        awarded = awarded-fits b r;
-        allocated = allocated-fits b r;
-        renewable = renewable-fits b r;
+        carried = λ p k. le-trans (carried-together b r p k) (omega arith);
+        awarded = awarded-together b r;
+        allocated = λ p k. le-trans (allocated-together b r p k) (omega arith);
+        renewable = λ p k. le-trans (renewable-together b r p k) (omega arith);
       }
 
   -- what moved is what the ledger moves

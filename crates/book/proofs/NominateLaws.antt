@@ -31,7 +31,7 @@ use Rattle.book.proofs.Parts.{Shaped, third-zero, loads-back, rights-ba
 use Rattle.book.proofs.PathSums.{base-sum-fits}
 use Rattle.book.proofs.LimitLaws.{nominated-now}
 use Rattle.book.proofs.ReachedLaws.{reached-counts}
-use Rattle.book.proofs.ReachedTiers.{nominated-fits}
+use Rattle.book.proofs.ReachedFigures.{nominated-fits}
 
 -- cause 10
 pub wrong-sink : (o : Opening) (tier h p sink : ℕ) (a b : Bool) → sink ≡ pathSink o p → a ≡ sinkNotFor o h sink → b ≡ isSubLap o sink → (a || (eqb tier 1 && b)) ≡ (sinkNotFor o h (pathSink o p) || (eqb tier 1 && isSubLap o (pathSink o p)))

@@ -1,28 +1,22 @@
 -- The book after an accepted prior. Assumes nothing.
-use Prim.Native.Nat.{ℕ, _+_, _-_, _^_, _≤_, _<_}
-use mathlib.Core.Path.{_≡_, refl, sym, ap, _∙_}
+use Prim.Native.Nat.{ℕ, _+_, _-_}
+use mathlib.Core.Path.{_≡_, sym, ap, _∙_}
 use mathlib.Core.Bool.{Bool, true, false, _&&_, _||_, and-true}
 use mathlib.Core.List.{List}
 use native.Mathlib.Omega.{arith}
 use lib.Dec.{eqb}
 use borrow.Author.Tests.{eq-eqb}
 use Rattle.tariff.specs.Sum.{countIf}
-use Rattle.tariff.specs.Ranges.{mostKw}
 use Rattle.ledger.specs.Ledger.{withPriors}
 use Rattle.ledger.specs.Call.{prior}
 use Rattle.ledger.specs.Effects.{same2, same3, plusAt2, plusAt3, afterPrior, effect}
-use Rattle.ledger.specs.Season.{after}
-use Rattle.ledger.proofs.Bounds.{mostTogether, figures-fit, one-fits}
 use Rattle.book.specs.declared.priors.Priors.{Priors}
 use Rattle.book.specs.declared.book.Book.{Book}
 use Rattle.book.specs.Cells.{hasCell, readAt, cellsOf}
 use Rattle.book.specs.Reading.{priorsIn, ledgerOf, priorsOf, bookOf}
 use Rattle.book.specs.Handed.{openedWith}
-use Rattle.book.specs.Reached.{Reached}
 use Rattle.book.proofs.CellLaws.{cells-ext}
 use Rattle.book.proofs.Parts.{Shaped, third-zero, marked-two, loads-back, rights-back, papers-back, tiers-back}
-use Rattle.book.proofs.RoundTrip.{reached-ledger}
-use Rattle.book.proofs.ReachedLaws.{holders-same}
 
 -- kw added by holder and path
 pub added-two : (cells : List ℕ) (h p kw : ℕ) → cellsOf 1 0 (plusAt3 h p 0 kw (readAt 1 0 0 cells)) ≡ cellsOf 1 0 (λ i j z. plusAt2 h p kw (λ x y. readAt 1 0 0 cells x y 0) i j)
@@ -42,21 +36,3 @@ prior-priors r h p a l allocated renewable posted x y z = λ i. record { allocat
 pub prior-book : (b : Book) (h p a l : ℕ) (priors : Priors) → Shaped b → priors ≡ priorsOf (afterPrior (priorsIn (b .priors)) h p a l) → _≡_ {A = Book} (record { setup = b .setup; loads = b .loads; rights = b .rights; priors = priors; papers = b .papers; tiers = b .tiers }) (bookOf (b .setup) (effect (openedWith b) (ledgerOf b) (prior h p a l)))
 unfolding bookOf effect withPriors ledgerOf
 prior-book b h p a l priors s e = λ i. record { setup = b .setup; loads = sym (loads-back b s) i; rights = sym (rights-back b s) i; priors = e i; papers = sym (papers-back b s) i; tiers = sym (tiers-back b s) i }
-
-module _ (b : Book) (r : Reached b) (h p a : ℕ) (l : h < b .setup .holders) (high : a ≤ mostKw) where
-  -- both prior records have room for one call more
-  pub allocated-room : readAt 1 0 0 (b .priors .allocated) h p 0 + a < 2 ^ 64
-  unfolding ledgerOf priorsIn
-  allocated-room =
-      let same = ap (λ x. x .priors .allocated h p) (reached-ledger b r) in
-      let held = holders-same b r in
-      let one = one-fits (λ x. after (r .opening) (r .calls) .priors .allocated x p) (r .opening .holders) mostTogether h (omega arith) (figures-fit (r .opening) (r .isLegal) (r .calls) .allocatedFit p) in
-      omega arith
-
-  pub renewable-room : readAt 1 0 0 (b .priors .renewable) h p 0 + a < 2 ^ 64
-  unfolding ledgerOf priorsIn
-  renewable-room =
-      let same = ap (λ x. x .priors .renewable h p) (reached-ledger b r) in
-      let held = holders-same b r in
-      let one = one-fits (λ x. after (r .opening) (r .calls) .priors .renewable x p) (r .opening .holders) mostTogether h (omega arith) (figures-fit (r .opening) (r .isLegal) (r .calls) .renewableFit p) in
-      omega arith

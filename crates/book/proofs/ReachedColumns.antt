@@ -9,7 +9,6 @@ use native.Mathlib.Omega.{arith}
 use lib.Dec.{ltb}
 use borrow.Author.Tests.{ltb-true, ltb-false, ne-eqb}
 use Rattle.tariff.specs.Sum.{sumTo}
-use Rattle.tariff.specs.Ranges.{mostKw}
 use Rattle.tariff.specs.Terms.{termOf, hasMonth}
 use Rattle.tariff.proofs.Sums.{count-false, sum-le, sum-zero}
 use Rattle.tariff.proofs.Tests.{and-left-false, decided}
@@ -23,24 +22,16 @@ use Rattle.ledger.proofs.TierFacts.{award-facts}
 use Rattle.ledger.proofs.Conserved.{carriedSum, awardedSum, loadSum, awarded-adds}
 use Rattle.ledger.proofs.Bounds.{mostTogether, Fits, figures-fit}
 use Rattle.book.specs.declared.book.Book.{Book}
-use Rattle.book.specs.Cells.{hasCell, readAt, cellsOf}
-use Rattle.book.specs.Setup.{setupOf}
+use Rattle.book.specs.Cells.{readAt, cellsOf}
 use Rattle.book.specs.Reading.{loadsOf, rightsOf, priorsOf, bookOf}
 use Rattle.book.specs.Reached.{Reached}
-use Rattle.book.proofs.CellLaws.{read-cells, read-none}
-
--- what is read out of the cells of a function is at most the function
-cells-below : (width low : ℕ) (f : ℕ → ℕ → ℕ → ℕ) (h p k : ℕ) → readAt width low 0 (cellsOf width low f) h p k ≤ f h p k
-cells-below width low f h p k = go (decided (hasCell width low h p k))
-  where
-    go : (hasCell width low h p k ≡ true) ⊎ (hasCell width low h p k ≡ false) → readAt width low 0 (cellsOf width low f) h p k ≤ f h p k
-    go (inl e) = le-of-eq (read-cells width low 0 f h p k e)
-    go (inr e) = le-trans (le-of-eq (read-none width low 0 (cellsOf width low f) h p k e)) zero-le
+use Rattle.book.proofs.CellLaws.{read-le}
+use Rattle.book.proofs.ReachedLaws.{holders-same}
 
 column-below : (width low : ℕ) (f : ℕ → ℕ → ℕ → ℕ) (cells : List ℕ) (n m most p k : ℕ) → cells ≡ cellsOf width low f → n ≡ m → sumTo m (λ i. f i p k) ≤ most → sumTo n (λ i. readAt width low 0 cells i p k) ≤ most
 column-below width low f cells n m most p k e same fits =
     le-trans (le-of-eq (ap (λ c. sumTo n (λ i. readAt width low 0 c i p k)) e))
-    (le-trans (sum-le n (λ i l. cells-below width low f i p k)) (le-trans (le-of-eq (ap (λ x. sumTo x (λ i. f i p k)) same)) fits))
+    (le-trans (sum-le n (λ i l. read-le width low f i p k)) (le-trans (le-of-eq (ap (λ x. sumTo x (λ i. f i p k)) same)) fits))
 
 module _ (o : Opening) (p m : ℕ) (past : o .paths ≤ p) where
   -- no call awards anything on a path that is not in the book
@@ -63,36 +54,39 @@ module _ (o : Opening) (p m : ℕ) (past : o .paths ≤ p) where
   awarded-past = after-keeps (λ L. awardedSum o p m L ≡ 0) o (λ L c k. step-keeps (λ L. awardedSum o p m L ≡ 0) o L c k (λ e. let a = awarded-adds o p m L c e in let b = none-awarded L c e in omega arith)) (sum-zero (o .holders) (λ h l. refl))
 
 module _ (b : Book) (r : Reached b) where
-  fits : Fits (r .opening) (after (r .opening) (r .calls))
+  abbrev now : Ledger
+  now = after (r .opening) (r .calls)
+
+  fits : Fits (r .opening) now
   fits = figures-fit (r .opening) (r .isLegal) (r .calls)
 
-  holders-same : b .setup .holders ≡ r .opening .holders
-  unfolding bookOf setupOf
-  holders-same = ap (λ x. x .setup .holders) (r .isBook)
+  -- the cells of an array are the ledger's figures, so the holders' together are within the ledger's bound
+  column : (width low : ℕ) (f : ℕ → ℕ → ℕ → ℕ) (cells : List ℕ) (most p k : ℕ) → cells ≡ cellsOf width low f → sumTo (r .opening .holders) (λ i. f i p k) ≤ most → sumTo (b .setup .holders) (λ i. readAt width low 0 cells i p k) ≤ most
+  column width low f cells most p k e within = column-below width low f cells (b .setup .holders) (r .opening .holders) most p k e (holders-same b r) within
 
-  pub loads-fit : (s t : ℕ) → sumTo (b .setup .holders) (λ i. readAt 4 0 0 (b .loads .kw) i s t) ≤ 8 * mostKw
+  pub loads-together : (s t : ℕ) → sumTo (b .setup .holders) (λ i. readAt 4 0 0 (b .loads .kw) i s t) ≤ mostTogether
   unfolding bookOf loadsOf loadSum
-  loads-fit s t = column-below 4 0 (after (r .opening) (r .calls) .loads .kw) (b .loads .kw) (b .setup .holders) (r .opening .holders) mostTogether s t (ap (λ x. x .loads .kw) (r .isBook)) holders-same (fits .loadsFit s t)
+  loads-together s t = column 4 0 (now .loads .kw) (b .loads .kw) mostTogether s t (ap (λ x. x .loads .kw) (r .isBook)) (fits .loadsFit s t)
 
-  pub carried-fits : (p k : ℕ) → sumTo (b .setup .holders) (λ i. readAt 3 1 0 (b .rights .carried) i p k) ≤ 80 * mostKw
+  pub carried-together : (p k : ℕ) → sumTo (b .setup .holders) (λ i. readAt 3 1 0 (b .rights .carried) i p k) ≤ mostTogether
   unfolding bookOf rightsOf carriedSum
-  carried-fits p k = le-trans (column-below 3 1 (after (r .opening) (r .calls) .rights .carried) (b .rights .carried) (b .setup .holders) (r .opening .holders) mostTogether p k (ap (λ x. x .rights .carried) (r .isBook)) holders-same (fits .carriedFit p k)) (omega arith)
+  carried-together p k = column 3 1 (now .rights .carried) (b .rights .carried) mostTogether p k (ap (λ x. x .rights .carried) (r .isBook)) (fits .carriedFit p k)
 
-  awarded-sum : (p k : ℕ) → awardedSum (r .opening) p k (after (r .opening) (r .calls)) ≤ 80 * mostKw
+  awarded-sum : (p k : ℕ) → awardedSum (r .opening) p k now ≤ 10 * mostTogether
   awarded-sum p k = go (decided (ltb p (r .opening .paths)))
     where
-      go : (ltb p (r .opening .paths) ≡ true) ⊎ (ltb p (r .opening .paths) ≡ false) → awardedSum (r .opening) p k (after (r .opening) (r .calls)) ≤ 80 * mostKw
+      go : (ltb p (r .opening .paths) ≡ true) ⊎ (ltb p (r .opening .paths) ≡ false) → awardedSum (r .opening) p k now ≤ 10 * mostTogether
       go (inl t) = fits .awardedFit p k (ltb-true p (r .opening .paths) t)
       go (inr t) = le-trans (le-of-eq (awarded-past (r .opening) p k (ltb-false p (r .opening .paths) t) (r .calls))) zero-le
 
-  pub awarded-fits : (p k : ℕ) → sumTo (b .setup .holders) (λ i. readAt 3 1 0 (b .rights .awarded) i p k) ≤ 80 * mostKw
+  pub awarded-together : (p k : ℕ) → sumTo (b .setup .holders) (λ i. readAt 3 1 0 (b .rights .awarded) i p k) ≤ 10 * mostTogether
   unfolding bookOf rightsOf awardedSum
-  awarded-fits p k = column-below 3 1 (after (r .opening) (r .calls) .rights .awarded) (b .rights .awarded) (b .setup .holders) (r .opening .holders) (80 * mostKw) p k (ap (λ x. x .rights .awarded) (r .isBook)) holders-same (awarded-sum p k)
+  awarded-together p k = column 3 1 (now .rights .awarded) (b .rights .awarded) (10 * mostTogether) p k (ap (λ x. x .rights .awarded) (r .isBook)) (awarded-sum p k)
 
-  pub allocated-fits : (p k : ℕ) → sumTo (b .setup .holders) (λ i. readAt 1 0 0 (b .priors .allocated) i p k) ≤ 80 * mostKw
+  pub allocated-together : (p k : ℕ) → sumTo (b .setup .holders) (λ i. readAt 1 0 0 (b .priors .allocated) i p k) ≤ mostTogether
   unfolding bookOf priorsOf
-  allocated-fits p k = le-trans (column-below 1 0 (λ h q z. after (r .opening) (r .calls) .priors .allocated h q) (b .priors .allocated) (b .setup .holders) (r .opening .holders) mostTogether p k (ap (λ x. x .priors .allocated) (r .isBook)) holders-same (fits .allocatedFit p)) (omega arith)
+  allocated-together p k = column 1 0 (λ h q z. now .priors .allocated h q) (b .priors .allocated) mostTogether p k (ap (λ x. x .priors .allocated) (r .isBook)) (fits .allocatedFit p)
 
-  pub renewable-fits : (p k : ℕ) → sumTo (b .setup .holders) (λ i. readAt 1 0 0 (b .priors .renewable) i p k) ≤ 80 * mostKw
+  pub renewable-together : (p k : ℕ) → sumTo (b .setup .holders) (λ i. readAt 1 0 0 (b .priors .renewable) i p k) ≤ mostTogether
   unfolding bookOf priorsOf
-  renewable-fits p k = le-trans (column-below 1 0 (λ h q z. after (r .opening) (r .calls) .priors .renewable h q) (b .priors .renewable) (b .setup .holders) (r .opening .holders) mostTogether p k (ap (λ x. x .priors .renewable) (r .isBook)) holders-same (fits .renewableFit p)) (omega arith)
+  renewable-together p k = column 1 0 (λ h q z. now .priors .renewable h q) (b .priors .renewable) mostTogether p k (ap (λ x. x .priors .renewable) (r .isBook)) (fits .renewableFit p)

@@ -1,24 +1,14 @@
 -- What is known of a book that opening or a call handed back. Assumes nothing.
-use Prim.Native.Nat.{ℕ, _+_, _*_, _^_, _≤_, _<_, zero-le}
-use mathlib.Core.Path.{_≡_, refl, sym, ap, _∙_, subst}
-use mathlib.Core.Bool.{Bool, true, false}
-use mathlib.Core.Logic.{_⊎_, inl, inr}
+use Prim.Native.Nat.{_≤_}
+use mathlib.Core.Path.{_≡_, ap, _∙_}
 use native.Mathlib.Nat.{le-trans, le-of-eq}
-use native.Mathlib.Omega.{arith}
 use lib.ListN.{length}
-use Rattle.tariff.specs.Ranges.{mostKw}
-use Rattle.tariff.proofs.Tests.{decided}
-use Rattle.ledger.specs.Opening.{Opening, legal}
-use Rattle.ledger.specs.Ledger.{Ledger}
-use Rattle.ledger.specs.Season.{after}
-use Rattle.ledger.proofs.Conserved.{carriedSum}
-use Rattle.ledger.proofs.Bounds.{mostTogether, legal-counts, Fits, figures-fit, one-fits}
+use Rattle.ledger.proofs.Bounds.{legal-counts}
 use Rattle.book.specs.declared.book.Book.{Book}
-use Rattle.book.specs.Cells.{hasCell, readAt, cellsOf}
 use Rattle.book.specs.Setup.{setupOf}
 use Rattle.book.specs.Reading.{loadsOf, rightsOf, priorsOf, papersOf, tiersOf, bookOf}
 use Rattle.book.specs.Reached.{Reached}
-use Rattle.book.proofs.CellLaws.{read-cells, read-none, length-cells}
+use Rattle.book.proofs.CellLaws.{length-cells}
 use Rattle.book.proofs.Parts.{Shaped}
 
 module _ (b : Book) (r : Reached b) where
@@ -33,20 +23,9 @@ module _ (b : Book) (r : Reached b) where
   unfolding bookOf setupOf
   holders-same = ap (λ x. x .setup .holders) (r .isBook)
 
-  -- a carried holding has room for one call more
-  pub carried-room : (h p kw : ℕ) → h < b .setup .holders → kw ≤ mostKw → (m : ℕ) → readAt 3 1 0 (b .rights .carried) h p m + kw < 2 ^ 64
-  unfolding bookOf rightsOf carriedSum
-  carried-room h p kw l k m =
-      let L = after (r .opening) (r .calls) in
-      let same : readAt 3 1 0 (b .rights .carried) h p m ≡ readAt 3 1 0 (cellsOf 3 1 (L .rights .carried)) h p m = ap (λ x. readAt 3 1 0 (x .rights .carried) h p m) (r .isBook) in
-      let held = holders-same in
-      let one = one-fits (λ x. L .rights .carried x p m) (r .opening .holders) mostTogether h (omega arith) (figures-fit (r .opening) (r .isLegal) (r .calls) .carriedFit p m) in
-      let cell = at L (decided (hasCell 3 1 h p m)) in
-      omega arith
-    where
-      at : (L : Ledger) → (hasCell 3 1 h p m ≡ true) ⊎ (hasCell 3 1 h p m ≡ false) → readAt 3 1 0 (cellsOf 3 1 (L .rights .carried)) h p m ≤ L .rights .carried h p m
-      at L (inl e) = le-of-eq (read-cells 3 1 0 (L .rights .carried) h p m e)
-      at L (inr e) = le-trans (le-of-eq (read-none 3 1 0 (cellsOf 3 1 (L .rights .carried)) h p m e)) zero-le
+  pub paths-same : b .setup .paths ≡ r .opening .paths
+  unfolding bookOf setupOf
+  paths-same = ap (λ x. x .setup .paths) (r .isBook)
 
   -- its arrays have their lengths
   pub reached-shaped : Shaped b

@@ -1,7 +1,7 @@
 -- `book::award::beyond_nominated` meets its contract. Assumes nothing.
 use native.Mathlib.Omega.{arith}
 use Rattle.book.proofs.AwardLaws.{nominated-test}
-use Rattle.book.proofs.ReachedTiers.{awards-fit}
+use Rattle.book.proofs.ReachedFigures.{awards-fit}
 use borrow.Author.Needs.{needs}
 use Rattle.book.proofs.award.beyond_nominated.Statement.{statement}
 use Rattle.book.proofs.award.beyond_nominated.Tie as tie

@@ -5,7 +5,7 @@ use native.Mathlib.Omega.{arith}
 use Rattle.ledger.specs.Season.{held}
 use Rattle.ledger.proofs.Bounds.{mostTogether}
 use Rattle.book.specs.Reading.{rightsIn, ledgerOf}
-use Rattle.book.proofs.ReachedTiers.{carried-fits, awarded-fits}
+use Rattle.book.proofs.ReachedFigures.{carried-fits, awarded-fits}
 use borrow.Author.Needs.{needs}
 use Rattle.book.proofs.holdings.holding.Statement.{statement}
 use Rattle.book.proofs.holdings.holding.Tie as tie
@@ -17,7 +17,7 @@ read-requires-2 : tie.Need-read-requires-2
 read-requires-2 c κs = search needs
 
 add-result : tie.Need-add-result
-add-result c = let r = c .before .before .before .before .before .before .before .before .before .pre in let x = carried-fits (c .before .before .before .before .before .before .before .before .before .args .b) (r .0) (c .before .before .before .before .before .before .before .before .before .args .h) (c .before .before .before .before .before .before .before .before .before .args .p) (c .before .before .before .before .before .before .before .before .before .args .month) (r .1) in let y = awarded-fits (c .before .before .before .before .before .before .before .before .before .args .b) (r .0) (c .before .before .before .before .before .before .before .before .before .args .h) (c .before .before .before .before .before .before .before .before .before .args .p) (c .before .before .before .before .before .before .before .before .before .args .month) (r .1) (r .2) in let e = c .before .before .before .before .read .ensures in let f = c .read2 .ensures in omega arith
+add-result c = let r = c .before .before .before .before .before .before .before .before .before .pre in let x = carried-fits (c .before .before .before .before .before .before .before .before .before .args .b) (r .0) (c .before .before .before .before .before .before .before .before .before .args .h) (c .before .before .before .before .before .before .before .before .before .args .p) (c .before .before .before .before .before .before .before .before .before .args .month) (r .1) in let y = awarded-fits (c .before .before .before .before .before .before .before .before .before .args .b) (r .0) (c .before .before .before .before .before .before .before .before .before .args .h) (c .before .before .before .before .before .before .before .before .before .args .p) (c .before .before .before .before .before .before .before .before .before .args .month) (r .1) in let e = c .before .before .before .before .read .ensures in let f = c .read2 .ensures in omega arith
 
 returns : tie.Need-returns
 unfolding held ledgerOf rightsIn

@@ -4,7 +4,7 @@ use Rattle.ledger.specs.Limits.{awardsAt}
 use Rattle.book.specs.Reading.{tiersIn, ledgerOf}
 use Rattle.book.specs.Handed.{openedWith}
 use Rattle.book.proofs.ReachedLaws.{reached-counts}
-use Rattle.book.proofs.ReachedTiers.{awards-fit}
+use Rattle.book.proofs.ReachedFigures.{awards-fit}
 use borrow.Author.Needs.{needs}
 use Rattle.book.proofs.limits.awards_at.Statement.{statement}
 use Rattle.book.proofs.limits.awards_at.Tie as tie

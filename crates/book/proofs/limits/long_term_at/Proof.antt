@@ -4,7 +4,7 @@ use Rattle.ledger.specs.Limits.{longTermAt}
 use Rattle.book.specs.Reading.{rightsIn, ledgerOf}
 use Rattle.book.specs.Handed.{openedWith}
 use Rattle.book.proofs.ReachedLaws.{reached-counts}
-use Rattle.book.proofs.ReachedTiers.{carried-fits}
+use Rattle.book.proofs.ReachedFigures.{carried-fits}
 use borrow.Author.Needs.{needs}
 use Rattle.book.proofs.limits.long_term_at.Statement.{statement}
 use Rattle.book.proofs.limits.long_term_at.Tie as tie

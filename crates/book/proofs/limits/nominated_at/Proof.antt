@@ -3,7 +3,7 @@ use native.Mathlib.Omega.{arith}
 use Rattle.book.specs.Handed.{openedWith}
 use Rattle.book.proofs.LimitLaws.{nominated-sum}
 use Rattle.book.proofs.ReachedLaws.{reached-counts}
-use Rattle.book.proofs.ReachedTiers.{nominated-fits}
+use Rattle.book.proofs.ReachedFigures.{nominated-fits}
 use borrow.Author.Needs.{needs}
 use Rattle.book.proofs.limits.nominated_at.Statement.{statement}
 use Rattle.book.proofs.limits.nominated_at.Tie as tie

@@ -4,7 +4,7 @@ use Rattle.ledger.specs.Limits.{priorYearAt}
 use Rattle.book.specs.Reading.{priorsIn, ledgerOf}
 use Rattle.book.specs.Handed.{openedWith}
 use Rattle.book.proofs.ReachedLaws.{reached-counts}
-use Rattle.book.proofs.ReachedTiers.{allocated-fits}
+use Rattle.book.proofs.ReachedFigures.{allocated-fits}
 use borrow.Author.Needs.{needs}
 use Rattle.book.proofs.limits.prior_year_at.Statement.{statement}
 use Rattle.book.proofs.limits.prior_year_at.Tie as tie

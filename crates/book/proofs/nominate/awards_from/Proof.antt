@@ -2,7 +2,7 @@
 use native.Mathlib.Omega.{arith}
 use Rattle.book.specs.Handed.{openedWith}
 use Rattle.book.proofs.ReachedLaws.{reached-counts}
-use Rattle.book.proofs.ReachedTiers.{awards-fit}
+use Rattle.book.proofs.ReachedFigures.{awards-fit}
 use Rattle.book.specs.Reading.{tiersIn, ledgerOf}
 use borrow.Author.Needs.{needs}
 use Rattle.book.proofs.nominate.awards_from.Statement.{statement}

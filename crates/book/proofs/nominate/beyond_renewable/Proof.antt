@@ -1,7 +1,7 @@
 -- `book::nominate::beyond_renewable` meets its contract. Assumes nothing.
 use native.Mathlib.Omega.{arith}
 use Rattle.book.proofs.NominateLaws.{renewable-test}
-use Rattle.book.proofs.ReachedTiers.{nominated-fits}
+use Rattle.book.proofs.ReachedFigures.{nominated-fits}
 use borrow.Author.Needs.{needs}
 use Rattle.book.proofs.nominate.beyond_renewable.Statement.{statement}
 use Rattle.book.proofs.nominate.beyond_renewable.Tie as tie

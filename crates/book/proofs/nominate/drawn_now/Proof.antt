@@ -3,7 +3,7 @@ use Prim.Native.Nat.{_+_}
 use native.Mathlib.Omega.{arith}
 use Rattle.ledger.specs.Verification.{drawn}
 use Rattle.book.proofs.DrawnLaws.{nominated-from-fit, drawn-before-fits}
-use Rattle.book.proofs.ReachedTiers.{open-last}
+use Rattle.book.proofs.ReachedFigures.{open-last}
 use borrow.Author.Needs.{needs}
 use Rattle.book.proofs.nominate.drawn_now.Statement.{statement}
 use Rattle.book.proofs.nominate.drawn_now.Tie as tie

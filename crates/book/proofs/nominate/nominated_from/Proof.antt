@@ -2,7 +2,7 @@
 use native.Mathlib.Omega.{arith}
 use Rattle.book.specs.Handed.{openedWith}
 use Rattle.book.proofs.ReachedLaws.{reached-counts}
-use Rattle.book.proofs.ReachedTiers.{nominated-fits}
+use Rattle.book.proofs.ReachedFigures.{nominated-fits}
 use Rattle.book.proofs.DrawnLaws.{nominated-source}
 use borrow.Author.Needs.{needs}
 use Rattle.book.proofs.nominate.nominated_from.Statement.{statement}

@@ -6,7 +6,7 @@ use Rattle.book.specs.Setup.{openingOf}
 use Rattle.book.specs.Handed.{openedWith}
 use Rattle.book.proofs.AwardLaws.{award-book}
 use Rattle.book.proofs.ReachedLaws.{reached-counts, reached-shaped}
-use Rattle.book.proofs.ReachedTiers.{awards-fit, awarded-fits, open-last}
+use Rattle.book.proofs.ReachedFigures.{awards-fit, awarded-fits, open-last}
 use Rattle.book.proofs.HandedLaws.{accepted-test, handed-refused, handed-accepted}
 use borrow.Author.Needs.{needs}
 use Rattle.book.proofs.book.Book.award.Statement.{statement}
@@ -25,7 +25,7 @@ with-awarded-requires c κs =
     let r = c .before .before .before .before .before .before .before .before .pre in
     let f = award-facts _ _ _ _ _ (accepted-test b _ _ (c .before .before .before .before .before .before .before .award-refusal .ensures) (c .before .before .before .before .before .before .if1 .left)) in
     let high = f .high in
-    (le-trans (f .holder) (reached-counts b r .0), le-trans (f .path) (reached-counts b r .3), λ m. let fits = awarded-fits b r (c .before .before .before .before .before .before .before .before .args .h) (c .before .before .before .before .before .before .before .before .args .p) m (f .holder) (f .path) in omega arith)
+    (le-trans (f .holder) (reached-counts b r .0), le-trans (f .path) (reached-counts b r .3), λ m. let fits = awarded-fits b r (c .before .before .before .before .before .before .before .before .args .h) (c .before .before .before .before .before .before .before .before .args .p) m (f .holder) in omega arith)
 
 with-award-requires : tie.Need-with-award-requires
 unfolding openedWith openingOf

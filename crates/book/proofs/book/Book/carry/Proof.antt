@@ -5,7 +5,8 @@ use Rattle.book.specs.Handed.{openedWith}
 use Rattle.book.specs.Setup.{openingOf}
 use Rattle.ledger.proofs.PostingFacts.{carry-facts}
 use Rattle.book.proofs.CarryLaws.{carry-book}
-use Rattle.book.proofs.ReachedLaws.{reached-counts, reached-shaped, carried-room}
+use Rattle.book.proofs.ReachedLaws.{reached-counts, reached-shaped}
+use Rattle.book.proofs.ReachedFigures.{carried-fits, room-for-more}
 use Rattle.book.proofs.HandedLaws.{accepted-test, handed-refused, handed-accepted}
 use borrow.Author.Needs.{needs}
 use Rattle.book.proofs.book.Book.carry.Statement.{statement}
@@ -19,7 +20,7 @@ returns c = handed-refused _ _ _ (c .before .carry-refusal .ensures) (reached-sh
 
 with-carry-requires : tie.Need-with-carry-requires
 unfolding openedWith openingOf
-with-carry-requires c κs = let b = c .before .before .before .before .before .args .self in let r = c .before .before .before .before .before .pre in let f = carry-facts _ _ _ _ _ (accepted-test b _ _ (c .before .before .before .before .carry-refusal .ensures) (c .before .before .before .if1 .left)) in (le-trans (f .holder) (reached-counts b r .0), le-trans (f .path) (reached-counts b r .3), carried-room b r _ _ _ (f .holder) (f .high))
+with-carry-requires c κs = let b = c .before .before .before .before .before .args .self in let r = c .before .before .before .before .before .pre in let f = carry-facts _ _ _ _ _ (accepted-test b _ _ (c .before .before .before .before .carry-refusal .ensures) (c .before .before .before .if1 .left)) in (le-trans (f .holder) (reached-counts b r .0), le-trans (f .path) (reached-counts b r .3), λ m. room-for-more _ _ (carried-fits b r _ _ m (f .holder)) (f .high))
 
 returns-2 : tie.Need-returns-2
 returns-2 c = handed-accepted _ _ _ (c .before .before .before .before .before .before .before .before .carry-refusal .ensures) _ (c .before .before .before .before .before .before .before .if1 .left) (carry-book (c .before .before .before .before .before .before .before .before .before .args .self) _ _ _ _ (reached-shaped _ (c .before .before .before .before .before .before .before .before .before .pre)) (c .before .before .before .with-carry .ensures))

@@ -6,7 +6,7 @@ use Rattle.book.specs.Setup.{openingOf}
 use Rattle.book.specs.Handed.{openedWith}
 use Rattle.book.proofs.NominateLaws.{nominate-book}
 use Rattle.book.proofs.ReachedLaws.{reached-counts, reached-shaped}
-use Rattle.book.proofs.ReachedTiers.{nominated-fits}
+use Rattle.book.proofs.ReachedFigures.{nominated-fits}
 use Rattle.book.proofs.HandedLaws.{accepted-test, handed-refused, handed-accepted}
 use borrow.Author.Needs.{needs}
 use Rattle.book.proofs.book.Book.nominate.Statement.{statement}

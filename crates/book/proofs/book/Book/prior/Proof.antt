@@ -3,8 +3,9 @@ use native.Mathlib.Nat.{le-trans}
 use Rattle.book.specs.Handed.{openedWith}
 use Rattle.book.specs.Setup.{openingOf}
 use Rattle.ledger.proofs.PostingFacts.{prior-facts}
-use Rattle.book.proofs.PriorLaws.{prior-book, allocated-room, renewable-room}
+use Rattle.book.proofs.PriorLaws.{prior-book}
 use Rattle.book.proofs.ReachedLaws.{reached-counts, reached-shaped}
+use Rattle.book.proofs.ReachedFigures.{allocated-fits, renewable-fits, room-for-more}
 use Rattle.book.proofs.HandedLaws.{accepted-test, handed-refused, handed-accepted}
 use borrow.Author.Needs.{needs}
 use Rattle.book.proofs.book.Book.prior.Statement.{statement}
@@ -18,7 +19,7 @@ returns c = handed-refused _ _ _ (c .before .prior-refusal .ensures) (reached-sh
 
 with-prior-requires : tie.Need-with-prior-requires
 unfolding openedWith openingOf
-with-prior-requires c κs = let b = c .before .before .before .before .before .before .args .self in let r = c .before .before .before .before .before .before .pre in let f = prior-facts _ _ _ _ _ _ (accepted-test b _ _ (c .before .before .before .before .before .prior-refusal .ensures) (c .before .before .before .before .if1 .left)) in (le-trans (f .holder) (reached-counts b r .0), le-trans (f .path) (reached-counts b r .3), f .part, allocated-room b r _ _ _ (f .holder) (f .high), renewable-room b r _ _ _ (f .holder) (f .high))
+with-prior-requires c κs = let b = c .before .before .before .before .before .before .args .self in let r = c .before .before .before .before .before .before .pre in let f = prior-facts _ _ _ _ _ _ (accepted-test b _ _ (c .before .before .before .before .before .prior-refusal .ensures) (c .before .before .before .before .if1 .left)) in (le-trans (f .holder) (reached-counts b r .0), le-trans (f .path) (reached-counts b r .3), f .part, room-for-more _ _ (allocated-fits b r _ _ (f .holder)) (f .high), room-for-more _ _ (renewable-fits b r _ _ (f .holder)) (f .high))
 
 returns-2 : tie.Need-returns-2
 returns-2 c = handed-accepted _ _ _ (c .before .before .before .before .before .before .before .before .prior-refusal .ensures) _ (c .before .before .before .before .before .before .before .if1 .left) (prior-book (c .before .before .before .before .before .before .before .before .before .args .self) _ _ _ _ _ (reached-shaped _ (c .before .before .before .before .before .before .before .before .before .pre)) (c .before .before .with-prior .ensures))
