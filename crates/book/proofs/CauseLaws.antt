@@ -1,11 +1,11 @@
 -- Laws of the causes, in the form in which code finds them. Assumes nothing.
 use Prim.Native.Nat.{ℕ}
 use mathlib.Core.Path.{_≡_, refl, sym, ap, _∙_}
-use mathlib.Core.Bool.{Bool, true, false, cond, not, _||_}
+use mathlib.Core.Bool.{Bool, cond, not}
 use mathlib.Core.List.{List, [], _∷_}
 use lib.Dec.{eqb}
 use borrow.Author.Tests.{eq-eqb, ne-eqb}
-use Rattle.ledger.specs.Opening.{Opening, holderKind, sinkKind, loadServing, schedulingPoint}
+use Rattle.ledger.specs.Opening.{Opening, holderKind, sinkKind}
 use Rattle.ledger.specs.Numbers.{Cause, cause, firstMet}
 use Rattle.ledger.specs.Causes.{sinkNotFor}
 

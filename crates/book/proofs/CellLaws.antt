@@ -1,17 +1,16 @@
 -- Laws of flat arrays: what is read out of the cells of a function, the cells of what is read, and one stored cell. One law for every width.
 -- Assumes nothing.
-use Prim.Native.Nat.{ℕ, zero, suc, _+_, _-_, _*_, _/_, _%_, _≤_, _<_, zero-le}
-use mathlib.Core.Path.{_≡_, refl, sym, ap, _∙_}
-use mathlib.Core.Bool.{Bool, true, false, cond, _&&_}
+use Prim.Native.Nat.{ℕ, suc, _+_, _-_, _*_, _/_, _%_, _≤_, _<_, zero-le}
+use mathlib.Core.Path.{_≡_, sym, ap, _∙_}
+use mathlib.Core.Bool.{true, false, cond, _&&_}
 use mathlib.Core.List.{List}
 use mathlib.Core.Logic.{_⊎_, inl, inr}
-use native.Mathlib.Nat.{mul-add-div-right, div-eq-of-lt, mul-add-mod-self-right, mod-eq-of-lt, add-zero, div-lt-iff-lt-mul, mod-lt, div-add-mod', mul-comm, mul-le-mul-right, suc-mul, le-trans, le-of-eq}
+use native.Mathlib.Nat.{mul-add-div-right, div-eq-of-lt, mul-add-mod-self-right, mod-eq-of-lt, div-lt-iff-lt-mul, mod-lt, div-add-mod', mul-le-mul-right, suc-mul, le-trans, le-of-eq}
 use native.Mathlib.Omega.{arith}
 use lib.ListN.{length, getD, set, take, length-take, List·getD-eq-default}
 use lib.Seq.{ext-getD, getD-set-same, getD-set-other, getD-take}
-use lib.Dec.{leb, ltb, eqb}
+use lib.Dec.{leb, ltb}
 use borrow.Author.Tests.{ltb-true, leb-true, lt-ltb, le-leb, eq-eqb}
-use Rattle.tariff.specs.Sum.{listTo}
 use Rattle.tariff.proofs.Tests.{and-both, and-join, decided, both-ways}
 use Rattle.tariff.proofs.Lists.{length-list-to, at-list-to, list-ext}
 use Rattle.ledger.specs.Effects.{same3}

@@ -1,21 +1,19 @@
 -- Every figure of a ledger that calls lead to has its cell in a book. Assumes nothing.
 use Prim.Native.Nat.{ℕ, _-_, _≤_, _<_, zero-le}
-use mathlib.Core.Path.{_≡_, refl, sym, ap, _∙_}
-use mathlib.Core.Bool.{Bool, true, false, cond, not, _&&_, _||_}
+use mathlib.Core.Path.{_≡_, refl, ap, _∙_}
+use mathlib.Core.Bool.{Bool, true, false, cond, not, _&&_}
 use mathlib.Core.List.{List}
 use native.Mathlib.Nat.{le-trans}
 use native.Mathlib.Omega.{arith}
 use lib.Dec.{eqb}
-use Rattle.tariff.specs.declared.migration.ClassLine.{ClassLine}
-use Rattle.tariff.specs.declared.evidence.Entry.{Entry}
 use Rattle.tariff.specs.Load.{loadPosted}
 use Rattle.tariff.specs.Terms.{termOf, hasMonth}
 use Rattle.tariff.specs.Evidence.{noEntry, entryOf}
 use Rattle.ledger.specs.Opening.{Opening, legal, endsAt}
 use Rattle.ledger.specs.Ledger.{Ledger, Loads, Rights, Priors, Papers, Tiers, emptyLedger, withLoads, withRights, withPriors, withPapers, withTiers}
 use Rattle.ledger.specs.Call.{Call, load, carry, prior, verify, migrate, openTier, nominate, award, closeTier}
-use Rattle.ledger.specs.Moves.{columnAfter, loadsAfter, rightsAfter, priorsAfter, migrated}
-use Rattle.ledger.specs.Effects.{same3, afterLoad, afterCarry, afterPrior, afterVerify, afterOpen, afterNominate, awardsAfter, holdingsAfter, afterClose, effect}
+use Rattle.ledger.specs.Moves.{loadsAfter, rightsAfter, priorsAfter, migrated}
+use Rattle.ledger.specs.Effects.{afterLoad, afterCarry, afterPrior, afterVerify, afterOpen, afterNominate, awardsAfter, holdingsAfter, afterClose, effect}
 use Rattle.ledger.specs.Season.{accepted, step, after}
 use Rattle.ledger.proofs.Steps.{step-keeps, after-keeps}
 use Rattle.ledger.proofs.Bounds.{legal-counts}

@@ -1,27 +1,18 @@
 -- Functions that have something only where there is a cell: what additions, marks and migrations keep of that. Assumes nothing.
-use Prim.Native.Nat.{ℕ, zero, suc, _+_, _-_, _*_, _/_, _≤_, _<_}
-use mathlib.Core.Path.{_≡_, refl, sym, ap, _∙_}
-use mathlib.Core.Bool.{Bool, true, false, cond, _&&_, _||_}
-use mathlib.Core.List.{List, [], _∷_}
+use Prim.Native.Nat.{ℕ, _-_, _<_}
+use mathlib.Core.Path.{_≡_, sym, _∙_}
+use mathlib.Core.Bool.{Bool, true, false, _&&_, _||_}
 use mathlib.Core.Logic.{_⊎_, inl, inr}
-use native.Mathlib.Nat.{mul-zero, zero-mul, zero-div}
 use native.Mathlib.Omega.{arith}
-use lib.Dec.{leb, ltb, eqb}
-use borrow.Author.Tests.{leb-false, leb-true, eqb-true, ne-eqb}
-use Rattle.tariff.specs.declared.migration.ClassLine.{ClassLine}
-use Rattle.tariff.specs.Sum.{countIf, sumTo, sumOver, anyOf}
+use lib.Dec.{leb, eqb}
+use borrow.Author.Tests.{leb-true, eqb-true}
 use Rattle.tariff.specs.Terms.{isMonth, hasMonth}
-use Rattle.tariff.specs.Migration.{wattsOneWay, netted, share, shares, shifted}
-use Rattle.tariff.proofs.Sums.{count-false, sum-zero}
-use Rattle.tariff.proofs.Tests.{or-unmet, and-both, and-left-false, and-right-false, decided, both-ways}
-use Rattle.ledger.specs.Opening.{Opening}
-use Rattle.ledger.specs.Ledger.{Ledger}
-use Rattle.ledger.specs.Ranges.{noHolder, strangerIn}
-use Rattle.ledger.specs.Moves.{loadBefore, columnAfter}
+use Rattle.tariff.proofs.Sums.{count-false}
+use Rattle.tariff.proofs.Tests.{and-both, decided, both-ways}
 use Rattle.ledger.specs.Effects.{same2, same3, plusAt2, plusAt3, plusInTerm}
 use Rattle.ledger.proofs.TiersSound.{same-place}
 use Rattle.book.specs.Cells.{hasCell, readAt, cellsOf}
-use Rattle.book.proofs.CellLaws.{cell-facts, has-cell, read-cells, read-none}
+use Rattle.book.proofs.CellLaws.{has-cell, read-cells, read-none}
 
 module _ {A : Type 0} where
   abbrev pub Inside : ℕ → ℕ → A → (ℕ → ℕ → ℕ → A) → Type 0

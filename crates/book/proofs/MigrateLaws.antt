@@ -1,27 +1,26 @@
 -- The book after an accepted migration, and what a migration hands back. Assumes nothing.
-use Prim.Native.Nat.{ℕ, _+_, _-_, _*_, _≤_, _<_}
+use Prim.Native.Nat.{ℕ, _+_, _-_, _≤_, _<_}
 use mathlib.Core.Path.{_≡_, refl, sym, ap, ap₂, _∙_}
-use mathlib.Core.Bool.{true, false, cond, not, _&&_, _||_}
-use mathlib.Core.List.{List, [], _∷_}
+use mathlib.Core.Bool.{true, false, cond, not, _&&_}
+use mathlib.Core.List.{List}
 use mathlib.Core.Logic.{_⊎_, inl, inr}
 use native.Mathlib.Nat.{le-trans, le-of-eq}
 use native.Mathlib.Omega.{arith}
 use lib.ListN.{length}
-use lib.Dec.{leb, eqb}
-use borrow.Author.Tests.{leb-false, eqb-true, ne-eqb}
+use lib.Dec.{eqb}
+use borrow.Author.Tests.{eqb-true}
 use Rattle.tariff.specs.declared.migration.ClassLine.{ClassLine}
-use Rattle.tariff.specs.Sum.{countIf, sumOver, anyOf}
 use Rattle.tariff.specs.Terms.{hasMonth}
-use Rattle.tariff.specs.Migration.{wattsOneWay, netted, lostBy, share, shares, shifted}
+use Rattle.tariff.specs.Migration.{netted, lostBy, share, shares, shifted}
 use Rattle.tariff.specs.Netting.{pairAt, holderAt, classLinesOf, linesFit, SameLengths}
-use Rattle.tariff.proofs.Sums.{count-false, sum-ext}
-use Rattle.tariff.proofs.Tests.{or-unmet, and-both, and-left-false, and-right-false, decided}
-use Rattle.ledger.specs.Opening.{Opening, endsAt}
-use Rattle.ledger.specs.Ranges.{noHolder, strangerIn}
+use Rattle.tariff.proofs.Sums.{sum-ext}
+use Rattle.tariff.proofs.Tests.{and-both, decided}
+use Rattle.ledger.specs.Opening.{endsAt}
 use Rattle.ledger.specs.Call.{migrate}
 use Rattle.ledger.specs.Moves.{loadBefore, loadsAfter, columnAfter, rightsAfter, priorsAfter, migrated}
 use Rattle.ledger.specs.Effects.{effect}
 use Rattle.ledger.proofs.TierFacts.{MigrateFacts}
+use Rattle.ledger.proofs.Outside.{netted-outside}
 use Rattle.book.specs.declared.book.Book.{Book}
 use Rattle.book.specs.declared.book.Answer.the-variants.{Refused}
 use Rattle.book.specs.declared.book.Answered.{Answered}
@@ -39,25 +38,6 @@ use Rattle.book.proofs.ReachedLaws.{reached-counts, reached-shaped}
 use Rattle.book.proofs.ReachedColumns.{loads-together, carried-together, awarded-together, allocated-together, renewable-together}
 use Rattle.book.proofs.ColumnLaws.{column-holder}
 use Rattle.book.proofs.MigrateCauses.{line-count, lines-fit, m-of-lines, load-before}
-
--- a holder who is on no line moves nothing
-watts-none : (o : Opening) (i j : ℕ) → (o .holders ≤ i) ⊎ (o .holders ≤ j) → (lines : List ClassLine) → anyOf lines (λ l. noHolder o (l .from) || noHolder o (l .to)) ≡ false → sumOver lines (λ l. countIf (eqb (l .from) i && eqb (l .to) j) (l .customers * l .watts)) ≡ 0
-unfolding sumOver anyOf noHolder
-watts-none o i j past [] e = refl
-watts-none o i j past (l ∷ ls) e =
-    let both = or-unmet (leb (o .holders) (l .from) || leb (o .holders) (l .to)) (anyOf ls (λ l. noHolder o (l .from) || noHolder o (l .to))) e in
-    let known = or-unmet (leb (o .holders) (l .from)) (leb (o .holders) (l .to)) (both .0) in
-    let own = count-false (l .customers * l .watts) (other past (leb-false (o .holders) (l .from) (known .0)) (leb-false (o .holders) (l .to) (known .1))) in
-    let rest = watts-none o i j past ls (both .1) in
-    omega arith
-  where
-    other : (o .holders ≤ i) ⊎ (o .holders ≤ j) → l .from < o .holders → l .to < o .holders → (eqb (l .from) i && eqb (l .to) j) ≡ false
-    other (inl a) x y = and-left-false (eqb (l .to) j) (ne-eqb (l .from) i (λ s. omega (arith, s)))
-    other (inr a) x y = and-right-false (eqb (l .from) i) (ne-eqb (l .to) j (λ s. omega (arith, s)))
-
-netted-none : (o : Opening) (lines : List ClassLine) (i j : ℕ) → strangerIn o lines ≡ false → (o .holders ≤ i) ⊎ (o .holders ≤ j) → netted lines i j ≡ 0
-unfolding netted wattsOneWay strangerIn
-netted-none o lines i j known past = let none = watts-none o i j past lines known in omega arith
 
 module _ (b : Book) (r : Reached b) (term sink : ℕ) (froms tos classes customers watts : List ℕ) (same : SameLengths froms tos classes customers watts) (facts : MigrateFacts (openedWith b) (ledgerOf b) term sink (classLinesOf froms tos classes customers watts)) where
   abbrev lines : List ClassLine
@@ -87,7 +67,7 @@ module _ (b : Book) (r : Reached b) (term sink : ℕ) (froms tos classes custome
         few = few;
         covered = λ i l. let n = few in le-trans (le-of-eq (sum-ext {f = λ j. pairAt (x .m) i j} {g = λ j. netted lines i j} (b .setup .holders) (λ j k. m-is i j (omega arith) (omega arith)))) (le-trans (facts .fits i l) (le-of-eq (sym (load-is i))));
         loads = le-trans (le-of-eq (sum-ext {f = holderAt (x .load)} {g = λ i. readAt 4 0 0 (b .loads .kw) i sink term} (b .setup .holders) (λ i l. column-holder 4 0 (b .loads .kw) sink term i))) (loads-together b r sink term);
-        others = λ i j li lj past. m-is i j li lj ∙ netted-none (openedWith b) lines i j (facts .holders) past;
+        others = λ i j li lj past. m-is i j li lj ∙ netted-outside (openedWith b) lines i j (facts .holders) past;
       }
 
   pub migration-moves : Moves b term sink x

@@ -1,20 +1,19 @@
 -- Figures added in the months of a term, one month after another. Assumes nothing.
-use Prim.Native.Nat.{ℕ, _+_, _*_, _^_, _≤_, _<_}
-use mathlib.Core.Path.{_≡_, refl, sym, ap, _∙_, subst}
-use mathlib.Core.Bool.{Bool, true, false, cond, _&&_, and-true}
+use Prim.Native.Nat.{ℕ, _+_, _^_, _≤_, _<_}
+use mathlib.Core.Path.{_≡_, refl, sym, ap, _∙_}
+use mathlib.Core.Bool.{Bool, true, false, _&&_, and-true}
 use mathlib.Core.List.{List}
-use mathlib.Core.Logic.{_⊎_, inl, inr}
 use native.Mathlib.Omega.{arith}
 use lib.ListN.{length}
 use lib.Dec.{eqb}
 use borrow.Author.Tests.{eqb-true, eqb-false, eq-eqb, ne-eqb}
-use Rattle.tariff.specs.Sum.{countIf, listTo}
+use Rattle.tariff.specs.Sum.{countIf}
 use Rattle.tariff.specs.Terms.{hasMonth}
-use Rattle.tariff.proofs.Sums.{count-true, count-false}
-use Rattle.tariff.proofs.Tests.{and-left-false, and-right-false, decided}
+use Rattle.tariff.proofs.Sums.{count-false}
+use Rattle.tariff.proofs.Tests.{and-left-false, and-right-false}
 use Rattle.ledger.specs.Effects.{same2, same3, plusAt3, plusInTerm}
 use Rattle.book.specs.Cells.{hasCell, readAt, cellsOf, plusMonth}
-use Rattle.book.proofs.CellLaws.{cell-facts, has-cell, read-cells, cells-ext, cells-read}
+use Rattle.book.proofs.CellLaws.{cell-facts, read-cells, cells-ext, cells-read}
 
 -- a month that the term has is added, and another is left
 pub month-added : (term h p month kw : ℕ) (cells next : List ℕ) → hasMonth term month ≡ true → next ≡ cellsOf 3 1 (plusAt3 h p month kw (readAt 3 1 0 cells)) → next ≡ cellsOf 3 1 (plusMonth term h p month kw (readAt 3 1 0 cells))

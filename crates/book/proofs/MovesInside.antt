@@ -1,41 +1,25 @@
 -- A migration moves nothing to where there is no cell. Assumes nothing.
-use Prim.Native.Nat.{ℕ, zero, suc, _+_, _-_, _*_, _/_, _≤_, _<_, zero-le}
-use mathlib.Core.Path.{_≡_, refl, sym, ap, _∙_}
-use mathlib.Core.Bool.{Bool, true, false, cond, _&&_, _||_}
-use mathlib.Core.List.{List, [], _∷_}
+use Prim.Native.Nat.{ℕ, _-_, _*_, _/_, _≤_, _<_, zero-le}
+use mathlib.Core.Path.{_≡_, sym, ap, _∙_}
+use mathlib.Core.Bool.{Bool, true, false, cond, _&&_}
+use mathlib.Core.List.{List}
 use mathlib.Core.Logic.{_⊎_, inl, inr}
-use native.Mathlib.Nat.{mul-zero, zero-mul, zero-div, sub-zero, sub-le}
+use native.Mathlib.Nat.{mul-zero, zero-mul, zero-div}
 use native.Mathlib.Omega.{arith}
-use lib.Dec.{leb, ltb, eqb}
-use borrow.Author.Tests.{leb-false, leb-true, ltb-true, ltb-false, eqb-true, ne-eqb}
+use lib.Dec.{ltb, eqb}
+use borrow.Author.Tests.{ltb-true, ltb-false, eqb-true}
 use Rattle.tariff.specs.declared.migration.ClassLine.{ClassLine}
-use Rattle.tariff.specs.Sum.{countIf, sumTo, sumOver, anyOf}
-use Rattle.tariff.specs.Migration.{wattsOneWay, netted, share, shares, shifted}
-use Rattle.tariff.proofs.Sums.{count-false, sum-zero}
-use Rattle.tariff.proofs.Tests.{or-unmet, and-both, and-right-false, decided, both-ways}
+use Rattle.tariff.specs.Migration.{netted, share, shares, shifted}
+use Rattle.tariff.proofs.Sums.{sum-zero}
+use Rattle.tariff.proofs.Tests.{and-both, decided, both-ways}
 use Rattle.ledger.specs.Opening.{Opening}
 use Rattle.ledger.specs.Ledger.{Ledger}
-use Rattle.ledger.specs.Ranges.{noHolder, strangerIn}
 use Rattle.ledger.specs.Moves.{loadBefore, loadsAfter, columnAfter}
 use Rattle.ledger.proofs.TierFacts.{MigrateFacts}
+use Rattle.ledger.proofs.Outside.{netted-outside}
 use Rattle.book.specs.Cells.{hasCell}
 use Rattle.book.proofs.CellLaws.{cell-facts, has-cell}
-use Rattle.book.proofs.Inside.{Inside, Inside2}
-
--- no line goes to a holder that is not in the book
-no-watts-to : (o : Opening) (lines : List ClassLine) (i h : ℕ) → strangerIn o lines ≡ false → o .holders ≤ h → wattsOneWay lines i h ≡ 0
-unfolding wattsOneWay sumOver strangerIn anyOf noHolder
-no-watts-to o [] i h e l = refl
-no-watts-to o (x ∷ xs) i h e l =
-    let both = or-unmet (leb (o .holders) (x .from) || leb (o .holders) (x .to)) (anyOf xs (λ x. leb (o .holders) (x .from) || leb (o .holders) (x .to))) e in
-    let there = leb-false (o .holders) (x .to) (or-unmet (leb (o .holders) (x .from)) (leb (o .holders) (x .to)) (both .0) .1) in
-    let rest = no-watts-to o xs i h (both .1) l in
-    let own = count-false (x .customers * x .watts) (and-right-false (eqb (x .from) i) (ne-eqb (x .to) h (λ q. omega (arith, q)))) in
-    omega arith
-
-pub netted-outside : (o : Opening) (lines : List ClassLine) (i h : ℕ) → strangerIn o lines ≡ false → o .holders ≤ h → netted lines i h ≡ 0
-unfolding netted
-netted-outside o lines i h e l = ap (λ w. (w - wattsOneWay lines h i) / 1000) (no-watts-to o lines i h e l) ∙ (let z = sub-le 0 (wattsOneWay lines h i) in omega arith)
+use Rattle.book.proofs.Inside.{Inside}
 
 -- a share of nothing, or with an m of 0, is 0
 share-zero : (v m L : ℕ) → (v ≡ 0) ⊎ (m ≡ 0) → share v m L ≡ 0
@@ -59,7 +43,7 @@ module _ (o : Opening) (L : Ledger) (term sink : ℕ) (lines : List ClassLine) (
         where
           which : (hasCell width low j p m ≡ true) ⊎ (hasCell width low j p m ≡ false) → (v j ≡ 0) ⊎ (netted lines j h ≡ 0)
           which (inr e) = inl (inside j e)
-          which (inl e) = inr (netted-outside o lines j h (f .holders) (far (decided (ltb h 8))))
+          which (inl e) = inr (netted-outside o lines j h (f .holders) (inr (far (decided (ltb h 8)))))
             where
               far : (ltb h 8 ≡ true) ⊎ (ltb h 8 ≡ false) → o .holders ≤ h
               far (inl u) = let k = cell-facts width low j p m e in absurd (both-ways (has-cell width low h p m (ltb-true h 8 u) (k .1) (k .2) (k .3)) none)
@@ -80,7 +64,7 @@ module _ (o : Opening) (L : Ledger) (term sink : ℕ) (lines : List ClassLine) (
           let sq = eqb-true s sink (both .0) in
           let tq = eqb-true t term (both .1) in
           ap (λ b. cond b (shifted (o .holders) (netted lines) (λ i. L .loads .kw i sink term) h) (L .loads .kw h s t)) e
-          ∙ shift-zero (o .holders) (netted lines) (λ i. L .loads .kw i sink term) h ((λ i. L .loads .kw h (sym sq i) (sym tq i)) ∙ inside h s t none) (λ j l. netted-outside o lines j h (f .holders) (far (decided (ltb h 8))))
+          ∙ shift-zero (o .holders) (netted lines) (λ i. L .loads .kw i sink term) h ((λ i. L .loads .kw h (sym sq i) (sym tq i)) ∙ inside h s t none) (λ j l. netted-outside o lines j h (f .holders) (inr (far (decided (ltb h 8)))))
         where
           far : (ltb h 8 ≡ true) ⊎ (ltb h 8 ≡ false) → o .holders ≤ h
           far (inl u) =

@@ -1,5 +1,5 @@
 -- A part of the book and the ledger's part that stands in it: from the arrays to the figures and back. Assumes nothing.
-use Prim.Native.Nat.{ℕ, _+_, _≤_, _<_}
+use Prim.Native.Nat.{ℕ}
 use mathlib.Core.Path.{_≡_, refl, sym, ap, _∙_}
 use mathlib.Core.Bool.{Bool, true, false, cond, _&&_, _||_, and-true}
 use mathlib.Core.List.{List}
@@ -9,11 +9,7 @@ use lib.Dec.{eqb}
 use borrow.Author.Tests.{eq-eqb}
 use Rattle.tariff.specs.Evidence.{noEntry}
 use Rattle.ledger.specs.Effects.{same2, same3, plusInTerm, afterCarry}
-use Rattle.book.specs.declared.loads.Loads.{Loads}
 use Rattle.book.specs.declared.rights.Rights.{Rights}
-use Rattle.book.specs.declared.priors.Priors.{Priors}
-use Rattle.book.specs.declared.papers.Papers.{Papers}
-use Rattle.book.specs.declared.tiers.Tiers.{Tiers}
 use Rattle.book.specs.declared.book.Book.{Book}
 use Rattle.book.specs.Cells.{hasCell, readAt, cellsOf}
 use Rattle.book.specs.Reading.{loadsIn, rightsIn, priorsIn, papersIn, tiersIn, ledgerOf, loadsOf, rightsOf, priorsOf, papersOf, tiersOf, bookOf}

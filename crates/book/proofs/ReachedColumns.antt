@@ -1,25 +1,19 @@
 -- In a book that opening or a call handed back, the records of all holders at one place fit together. Assumes nothing.
 use Prim.Native.Nat.{ℕ, _*_, _≤_, zero-le}
-use mathlib.Core.Path.{_≡_, refl, ap}
+use mathlib.Core.Path.{_≡_, ap}
 use mathlib.Core.Bool.{true, false}
 use mathlib.Core.List.{List}
 use mathlib.Core.Logic.{_⊎_, inl, inr}
 use native.Mathlib.Nat.{le-trans, le-of-eq}
-use native.Mathlib.Omega.{arith}
 use lib.Dec.{ltb}
-use borrow.Author.Tests.{ltb-true, ltb-false, ne-eqb}
+use borrow.Author.Tests.{ltb-true, ltb-false}
 use Rattle.tariff.specs.Sum.{sumTo}
-use Rattle.tariff.specs.Terms.{termOf, hasMonth}
-use Rattle.tariff.proofs.Sums.{count-false, sum-le, sum-zero}
-use Rattle.tariff.proofs.Tests.{and-left-false, decided}
-use Rattle.ledger.specs.Opening.{Opening}
-use Rattle.ledger.specs.Ledger.{Ledger, emptyLedger}
-use Rattle.ledger.specs.Call.{Call, load, carry, prior, verify, migrate, openTier, nominate, award, closeTier}
-use Rattle.ledger.specs.Season.{accepted, after}
-use Rattle.ledger.specs.Totals.{awardedBy}
-use Rattle.ledger.proofs.Steps.{step-keeps, after-keeps}
-use Rattle.ledger.proofs.TierFacts.{award-facts}
-use Rattle.ledger.proofs.Conserved.{carriedSum, awardedSum, loadSum, awarded-adds}
+use Rattle.tariff.proofs.Sums.{sum-le}
+use Rattle.tariff.proofs.Tests.{decided}
+use Rattle.ledger.specs.Ledger.{Ledger}
+use Rattle.ledger.specs.Season.{after}
+use Rattle.ledger.proofs.Conserved.{carriedSum, awardedSum, loadSum}
+use Rattle.ledger.proofs.Outside.{awarded-outside}
 use Rattle.ledger.proofs.Bounds.{mostTogether, Fits, figures-fit}
 use Rattle.book.specs.declared.book.Book.{Book}
 use Rattle.book.specs.Cells.{readAt, cellsOf}
@@ -32,26 +26,6 @@ column-below : (width low : ℕ) (f : ℕ → ℕ → ℕ → ℕ) (cells : List
 column-below width low f cells n m most p k e same fits =
     le-trans (le-of-eq (ap (λ c. sumTo n (λ i. readAt width low 0 c i p k)) e))
     (le-trans (sum-le n (λ i l. read-le width low f i p k)) (le-trans (le-of-eq (ap (λ x. sumTo x (λ i. f i p k)) same)) fits))
-
-module _ (o : Opening) (p m : ℕ) (past : o .paths ≤ p) where
-  -- no call awards anything on a path that is not in the book
-  none-awarded : (L : Ledger) (c : Call) → accepted o L c ≡ true → awardedBy p m L c ≡ 0
-  unfolding awardedBy
-  none-awarded L (load h s term contract n blocks) e = refl
-  none-awarded L (carry h q kw) e = refl
-  none-awarded L (prior h q a l) e = refl
-  none-awarded L (verify h s kind capacity right first last) e = refl
-  none-awarded L (migrate term sink lines) e = refl
-  none-awarded L (openTier tier) e = refl
-  none-awarded L (nominate h q kw) e = refl
-  none-awarded L (award h q kw) e =
-      let l = award-facts o L h q kw e .path in
-      count-false kw (and-left-false (hasMonth (termOf (L .tiers .openNow)) m) (ne-eqb p q (λ s. omega (arith, s))))
-  none-awarded L closeTier e = refl
-
-  awarded-past : (cs : List Call) → awardedSum o p m (after o cs) ≡ 0
-  unfolding awardedSum emptyLedger
-  awarded-past = after-keeps (λ L. awardedSum o p m L ≡ 0) o (λ L c k. step-keeps (λ L. awardedSum o p m L ≡ 0) o L c k (λ e. let a = awarded-adds o p m L c e in let b = none-awarded L c e in omega arith)) (sum-zero (o .holders) (λ h l. refl))
 
 module _ (b : Book) (r : Reached b) where
   abbrev now : Ledger
@@ -77,7 +51,7 @@ module _ (b : Book) (r : Reached b) where
     where
       go : (ltb p (r .opening .paths) ≡ true) ⊎ (ltb p (r .opening .paths) ≡ false) → awardedSum (r .opening) p k now ≤ 10 * mostTogether
       go (inl t) = fits .awardedFit p k (ltb-true p (r .opening .paths) t)
-      go (inr t) = le-trans (le-of-eq (awarded-past (r .opening) p k (ltb-false p (r .opening .paths) t) (r .calls))) zero-le
+      go (inr t) = le-trans (le-of-eq (awarded-outside (r .opening) p k (ltb-false p (r .opening .paths) t) (r .calls))) zero-le
 
   pub awarded-together : (p k : ℕ) → sumTo (b .setup .holders) (λ i. readAt 3 1 0 (b .rights .awarded) i p k) ≤ 10 * mostTogether
   unfolding bookOf rightsOf awardedSum

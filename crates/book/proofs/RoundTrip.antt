@@ -1,17 +1,14 @@
 -- Out of the book of a ledger that calls lead to comes that ledger. Assumes nothing.
-use Prim.Native.Nat.{ℕ, _≤_, _<_}
+use Prim.Native.Nat.{ℕ}
 use mathlib.Core.Path.{_≡_, refl, sym, ap, _∙_}
 use mathlib.Core.Bool.{Bool, true, false, cond}
-use mathlib.Core.List.{List}
 use native.Mathlib.Omega.{arith}
 use mathlib.Core.Logic.{_⊎_, inl, inr}
 use lib.Dec.{leb, eqb}
 use Rattle.tariff.proofs.Tests.{decided, both-ways}
 use borrow.Author.Tests.{eqb-true, eqb-false, leb-true, leb-false}
 use Rattle.tariff.specs.Evidence.{noEntry}
-use Rattle.ledger.specs.Opening.{Opening, legal}
 use Rattle.ledger.specs.Ledger.{Ledger, Tiers}
-use Rattle.ledger.specs.Call.{Call}
 use Rattle.ledger.specs.Season.{after}
 use Rattle.ledger.proofs.TiersSound.{TiersSound}
 use Rattle.book.specs.declared.setup.Setup.{Setup}
@@ -21,7 +18,7 @@ use Rattle.book.specs.Setup.{setupOf}
 use Rattle.book.specs.Reading.{loadsIn, rightsIn, priorsIn, papersIn, tiersIn, ledgerOf, loadsOf, rightsOf, priorsOf, papersOf, tiersOf, bookOf}
 use Rattle.book.specs.Reached.{Reached}
 use Rattle.book.proofs.CellLaws.{cell-facts, has-cell}
-use Rattle.book.proofs.Inside.{Inside, Inside2, inside-read, inside-read2}
+use Rattle.book.proofs.Inside.{Inside2, inside-read, inside-read2}
 use Rattle.book.proofs.Confined.{Confined, confined}
 
 -- in a tier that is not open the nominations are the awards

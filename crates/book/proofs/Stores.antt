@@ -1,5 +1,5 @@
 -- One stored cell, as the function that the array stands for afterwards. Assumes nothing.
-use Prim.Native.Nat.{ℕ, _+_, _*_, _^_, _≤_, _<_}
+use Prim.Native.Nat.{ℕ, _+_, _*_, _^_, _<_}
 use mathlib.Core.Path.{_≡_, refl, sym, ap, _∙_}
 use mathlib.Core.Bool.{Bool, true, false, cond, _||_}
 use mathlib.Core.List.{List}
@@ -12,7 +12,7 @@ use Rattle.tariff.proofs.Tests.{decided}
 use Rattle.ledger.specs.Effects.{same3, plusAt3}
 use Rattle.ledger.proofs.TiersSound.{same-place}
 use Rattle.book.specs.Cells.{cellOf, hasCell, readAt, cellsOf}
-use Rattle.book.proofs.CellLaws.{cell-facts, cell-below, array-is, read-here, read-stored}
+use Rattle.book.proofs.CellLaws.{cell-facts, array-is, read-here, read-stored}
 
 pub some-width : (width low h p m : ℕ) → hasCell width low h p m ≡ true → 0 < width
 some-width width low h p m e = let f = cell-facts width low h p m e in omega arith

@@ -1,22 +1,21 @@
 -- The book after a tier opens or closes. Assumes nothing.
 use Prim.Native.Nat.{ℕ, suc, _-_, _≤_, _<_}
-use mathlib.Core.Path.{_≡_, refl, sym, ap, _∙_, subst}
-use mathlib.Core.Bool.{Bool, true, false, cond}
-use mathlib.Core.List.{List}
+use mathlib.Core.Path.{_≡_, sym, ap, _∙_, subst}
+use mathlib.Core.Bool.{true, false, cond}
 use mathlib.Core.Logic.{_⊎_, inl, inr}
 use native.Mathlib.Omega.{arith}
-use lib.ListN.{length, getD, replicate, length-replicate, getD-replicate}
+use lib.ListN.{replicate, length-replicate, getD-replicate}
 use lib.Dec.{eqb}
 use borrow.Author.Tests.{eqb-true, eqb-false, eq-eqb, ne-eqb}
 use Rattle.tariff.proofs.Tests.{decided}
-use Rattle.ledger.specs.Ledger.{Ledger, withTiers}
+use Rattle.ledger.specs.Ledger.{withTiers}
 use Rattle.ledger.specs.Call.{openTier, closeTier}
 use Rattle.ledger.specs.Effects.{afterOpen, afterClose, effect}
-use Rattle.ledger.specs.Season.{accepted, after}
+use Rattle.ledger.specs.Season.{accepted}
 use Rattle.ledger.proofs.TiersSound.{TiersSound, tiers-sound}
 use Rattle.ledger.proofs.TierFacts.{open-facts, close-fact}
 use Rattle.book.specs.declared.book.Book.{Book}
-use Rattle.book.specs.Cells.{cellOf, hasCell, readAt, cellsOf}
+use Rattle.book.specs.Cells.{cellOf, readAt, cellsOf}
 use Rattle.book.specs.Reading.{tiersIn, ledgerOf, tiersOf, bookOf}
 use Rattle.book.specs.Handed.{openedWith}
 use Rattle.book.specs.Reached.{Reached}

@@ -1,7 +1,5 @@
 -- What a call hands back: the ledger's answer, and the book of the ledger's next step.
-use Prim.Native.Nat.{ℕ}
 use Rattle.ledger.specs.Call.{Call, Query}
-use Rattle.ledger.specs.Ledger.{Ledger}
 use Rattle.ledger.specs.Opening.{Opening}
 use Rattle.ledger.specs.Season as season
 use Rattle.book.specs.declared.book.Book.{Book}

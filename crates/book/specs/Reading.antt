@@ -1,6 +1,5 @@
 -- The ledger that stands in a book's arrays, and the arrays of a ledger.
-use Prim.Native.Nat.{ℕ}
-use mathlib.Core.Bool.{Bool, false, cond}
+use mathlib.Core.Bool.{false, cond}
 use lib.Dec.{eqb}
 use Rattle.tariff.specs.Evidence.{noEntry}
 use Rattle.ledger.specs.Ledger as ledger

@@ -1,6 +1,4 @@
 -- The opening that a book keeps.
-use Prim.Native.Nat.{ℕ}
-use mathlib.Core.List.{List}
 use lib.ListN.{take, getD}
 use Rattle.tariff.specs.Sum.{listTo}
 use Rattle.ledger.specs.Opening.{Opening}

@@ -6,7 +6,7 @@ use mathlib.Core.List.{List}
 use native.Mathlib.Nat.{le-of-lt, le-trans, le-of-eq, lt-of-le-of-lt, mul-le-mul}
 use native.Mathlib.Bridge.{le-by-compare, IsLe}
 use native.Mathlib.Omega.{arith}
-use lib.ListN.{length, getD}
+use lib.ListN.{length}
 use Rattle.tariff.specs.Sum.{sumTo}
 use Rattle.tariff.specs.Migration.{shares}
 use Rattle.tariff.specs.Netting.{pairAt, holderAt, ProductsFit, PartsFit, shareCells}

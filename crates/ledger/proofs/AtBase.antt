@@ -1,13 +1,12 @@
 -- Sums over the paths of a base, when kw is added on one path in one tier. Assumes nothing.
-use Prim.Native.Nat.{ℕ, _+_, _≤_, _<_}
-use mathlib.Core.Path.{_≡_, refl, sym, ap, _∙_}
-use mathlib.Core.Bool.{Bool, true, false, cond, _&&_}
-use native.Mathlib.Omega.{arith}
+use Prim.Native.Nat.{ℕ, _+_, _<_}
+use mathlib.Core.Path.{_≡_, refl, ap, _∙_}
+use mathlib.Core.Bool.{Bool, true, false, _&&_}
 use lib.Dec.{eqb}
 use borrow.Author.Tests.{eqb-true, eq-eqb}
-use Rattle.tariff.specs.Sum.{countIf, sumTo}
-use Rattle.tariff.proofs.Sums.{count-true, count-false, count-add, sum-ext, sum-le, term-le-sum}
-use Rattle.ledger.specs.Opening.{Opening, endsAt, pathBase}
+use Rattle.tariff.specs.Sum.{countIf}
+use Rattle.tariff.proofs.Sums.{count-add, sum-ext}
+use Rattle.ledger.specs.Opening.{Opening, endsAt}
 use Rattle.ledger.specs.Limits.{sumAtBase}
 use Rattle.ledger.specs.Effects.{same3, plusAt3}
 use Rattle.ledger.proofs.Columns.{column-plus}

@@ -1,18 +1,18 @@
 -- Bounds for code: in every ledger that calls lead to from a legal opening, each figure, and each sum or product that a method forms, fits 64 bits.
 -- Assumes nothing.
-use Prim.Native.Nat.{ℕ, suc, _+_, _*_, _^_, _≤_, _<_}
-use mathlib.Core.Path.{_≡_, refl, sym, ap, _∙_}
-use mathlib.Core.Bool.{Bool, true, _&&_}
+use Prim.Native.Nat.{ℕ, suc, _*_, _^_, _≤_, _<_}
+use mathlib.Core.Path.{_≡_, refl}
+use mathlib.Core.Bool.{true}
 use mathlib.Core.List.{List}
-use native.Mathlib.Nat.{le-trans, le-of-eq, mul-le-mul-right, mul-le-mul, lt-of-le-of-lt}
+use native.Mathlib.Nat.{le-trans, mul-le-mul-right, mul-le-mul, lt-of-le-of-lt}
 use native.Mathlib.Bridge.{le-by-compare, IsLe}
 use native.Mathlib.Omega.{arith}
-use lib.Dec.{leb, eqb}
+use lib.Dec.{eqb}
 use borrow.Author.Tests.{leb-true, eq-eqb}
 use Rattle.tariff.specs.Sum.{countIf, sumTo}
 use Rattle.tariff.proofs.Sums.{count-true, sum-le, sum-bound, term-le-sum}
 use Rattle.tariff.proofs.Tests.{and-both}
-use Rattle.ledger.specs.Opening.{Opening, countsFit, listsFit, legal, endsAt, pathBase}
+use Rattle.ledger.specs.Opening.{Opening, countsFit, legal, endsAt, pathBase}
 use Rattle.ledger.specs.Ledger.{Ledger}
 use Rattle.ledger.specs.Call.{Call}
 use Rattle.ledger.specs.Limits.{sumAtBase, nominatedAt}
@@ -20,7 +20,6 @@ use Rattle.tariff.specs.Ranges.{mostKw}
 use Rattle.ledger.specs.Season.{after}
 use Rattle.ledger.proofs.Conserved.{carriedSum, awardedSum, loadSum}
 use Rattle.ledger.proofs.Once.{once-bound}
-use Rattle.ledger.proofs.PostedOnce.{PostedOnce}
 use Rattle.ledger.proofs.TierBounds.{Bounded, bounded, nominatedSum, awardsSum}
 use Rattle.ledger.proofs.PaperBounds.{PapersInRange, papers-in-range}
 

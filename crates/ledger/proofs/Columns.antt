@@ -1,15 +1,13 @@
 -- A column is a record read for every holder. One entry more adds its kW to the column's sum; a migration keeps the sum. Assumes nothing.
-use Prim.Native.Nat.{ℕ, zero, suc, _+_, _≤_, _<_}
+use Prim.Native.Nat.{ℕ, _+_, _≤_, _<_}
 use mathlib.Core.Path.{_≡_, refl, sym, ap, _∙_}
 use mathlib.Core.Bool.{Bool, true, false, cond, _&&_, and-true}
 use mathlib.Core.List.{List}
-use native.Mathlib.Nat.{add-zero}
-use native.Mathlib.Omega.{arith}
 use lib.Dec.{eqb}
 use Rattle.tariff.specs.declared.migration.ClassLine.{ClassLine}
 use Rattle.tariff.specs.Sum.{countIf, sumTo}
 use Rattle.tariff.specs.Migration.{netted, lostBy, shares, shifted}
-use Rattle.tariff.proofs.Sums.{count-true, count-false, sum-ext, sum-add, sum-zero, sum-one, sum-plus}
+use Rattle.tariff.proofs.Sums.{count-true, count-false, sum-ext, sum-add, sum-zero, sum-one}
 use Rattle.tariff.proofs.Tests.{and-right-false}
 use Rattle.tariff.proofs.Shifts.{shares-fit, shift-sum}
 use Rattle.ledger.specs.Opening.{Opening}

@@ -1,13 +1,12 @@
 -- Rights and load are conserved over every list of calls: the holders' figures add up to what the accepted calls brought in. Assumes nothing.
-use Prim.Native.Nat.{ℕ, zero, suc, _+_, _≤_, _<_}
+use Prim.Native.Nat.{ℕ, _+_, _<_}
 use mathlib.Core.Path.{_≡_, refl, sym, ap, ap₂, _∙_}
-use mathlib.Core.Bool.{Bool, true, false, cond, not, _&&_, _||_, and-assoc, and-true}
-use mathlib.Core.List.{List, [], _∷_}
+use mathlib.Core.Bool.{true, not, _&&_, and-assoc, and-true}
+use mathlib.Core.List.{List}
 use native.Mathlib.Nat.{add-zero}
 use native.Mathlib.Omega.{arith}
 use lib.Dec.{eqb}
 use borrow.Author.Tests.{eqb-true}
-use Rattle.tariff.specs.declared.migration.ClassLine.{ClassLine}
 use Rattle.tariff.specs.Sum.{countIf, sumTo}
 use Rattle.tariff.specs.Load.{loadPosted}
 use Rattle.tariff.specs.Terms.{termOf, isMonth, hasMonth}
@@ -18,7 +17,7 @@ use Rattle.ledger.specs.Ledger.{Ledger, emptyLedger, withLoads, withRigh
 use Rattle.ledger.specs.Call.{Call, load, carry, prior, verify, migrate, openTier, nominate, award, closeTier}
 use Rattle.ledger.specs.Moves.{loadBefore, loadsAfter, rightsAfter, migrated}
 use Rattle.ledger.specs.Effects.{same2, same3, plusAt3, plusInTerm, afterLoad, afterCarry, holdingsAfter, effect}
-use Rattle.ledger.specs.Season.{accepted, after, held, net}
+use Rattle.ledger.specs.Season.{after, held, net}
 use Rattle.ledger.specs.Totals.{sumAccepted, carriedBy, awardedBy, postedBy, carriedIn, awardedIn, postedIn}
 use Rattle.ledger.proofs.Steps.{Adds, list-adds}
 use Rattle.ledger.proofs.Columns.{column-plus, column-kept, load-kept}

@@ -17,3 +17,4 @@ pub mod PaperBounds
 pub mod NeverBelowZero
 pub mod Bounds
 pub mod SumBounds
+pub mod Outside

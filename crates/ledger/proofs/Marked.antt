@@ -1,8 +1,6 @@
 -- The twelve marked cases of document 01 hold of the definitions, by computation. Assumes nothing.
 use mathlib.Core.Path.{_≡_, refl}
-use mathlib.Core.List.{List, map}
-use Rattle.ledger.specs.Season.{Answer}
-use Rattle.ledger.specs.Marked.{Case}
+use mathlib.Core.List.{map}
 use Rattle.tariff.specs.Sum.{countIf, sumTo, allBelow, anyBelow, sumOver, anyOf, only}
 use Rattle.tariff.specs.Load.{inOrder, isEmpty, blocksBroken, presentHours, missingHours, tooManyMissing, hoursAbove, mayExceed, seldomExceeded, smallest, metric, loadPosted}
 use Rattle.tariff.specs.Eligible.{seasonalEligible, priorityEligible}

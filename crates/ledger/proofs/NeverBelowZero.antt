@@ -5,7 +5,7 @@ use mathlib.Core.Bool.{true}
 use mathlib.Core.List.{List}
 use Rattle.tariff.specs.declared.migration.ClassLine.{ClassLine}
 use Rattle.tariff.specs.Sum.{sumTo}
-use Rattle.tariff.specs.Migration.{netted, lostBy, shares, shifted}
+use Rattle.tariff.specs.Migration.{netted, lostBy, shares}
 use Rattle.tariff.proofs.Shifts.{shift-entry}
 use Rattle.ledger.specs.Opening.{Opening}
 use Rattle.ledger.specs.Ledger.{Ledger}

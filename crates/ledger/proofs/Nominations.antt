@@ -1,10 +1,9 @@
 -- The nominations of a tier, from its accepted open to its close or so far, are within the limit before that open. Assumes nothing.
-use Prim.Native.Nat.{ℕ, suc, _+_, _≤_, _<_}
-use mathlib.Core.Path.{_≡_, refl, sym, ap, _∙_}
-use mathlib.Core.Bool.{Bool, true, false, cond, _&&_}
+use Prim.Native.Nat.{ℕ, _+_, _≤_}
+use mathlib.Core.Path.{_≡_, refl, ap}
+use mathlib.Core.Bool.{Bool, true, false}
 use mathlib.Core.List.{List, [], _∷_}
 use native.Mathlib.Omega.{arith}
-use Rattle.tariff.specs.Sum.{countIf}
 use Rattle.tariff.proofs.Sums.{count-true, count-false}
 use Rattle.tariff.proofs.Tests.{and-right-false}
 use Rattle.ledger.specs.Opening.{Opening}
@@ -18,7 +17,7 @@ use Rattle.ledger.proofs.Steps.{step-refused, step-accepted, after-keep
 use Rattle.ledger.proofs.PostingFacts.{load-facts, carry-facts, prior-facts, verify-facts}
 use Rattle.ledger.proofs.TierFacts.{migrate-facts, open-facts}
 use Rattle.ledger.proofs.TiersSound.{TiersSound, sound-effect, sound-step, sound-empty, tiers-sound}
-use Rattle.ledger.proofs.WithinLimit.{WithinLimit, closed-only, limit-steady, opened-empty, nominate-adds, award-leaves, within-effect, within-step}
+use Rattle.ledger.proofs.WithinLimit.{WithinLimit, closed-only, limit-steady, nominate-adds, award-leaves, within-effect, within-step}
 
 module _ (o : Opening) (h b : ℕ) where
   -- a refused call adds nothing and closes nothing

@@ -12,7 +12,7 @@ use Rattle.ledger.specs.Call.{Call, load, carry, prior, verify, migrate,
 use Rattle.ledger.specs.Moves.{migrated}
 use Rattle.tariff.specs.Ranges.{mostKw}
 use Rattle.ledger.specs.Effects.{same3, afterVerify, effect}
-use Rattle.ledger.specs.Season.{accepted, step, after}
+use Rattle.ledger.specs.Season.{accepted, after}
 use Rattle.ledger.proofs.Steps.{step-keeps, after-keeps}
 use Rattle.ledger.proofs.PostingFacts.{verify-facts}
 

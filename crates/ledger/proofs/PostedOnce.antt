@@ -1,12 +1,12 @@
 -- Loads, carried holdings and prior records are bounded in every ledger that calls lead to, since each is posted once. Assumes nothing.
-use Prim.Native.Nat.{ℕ, _+_, _-_, _*_, _≤_, _<_, zero-le}
-use mathlib.Core.Path.{_≡_, refl, sym, ap, _∙_}
-use mathlib.Core.Bool.{Bool, true, false, cond, not, _&&_, _||_, and-assoc}
+use Prim.Native.Nat.{ℕ, _+_, _-_, _≤_, zero-le}
+use mathlib.Core.Path.{_≡_, refl, ap, _∙_}
+use mathlib.Core.Bool.{true, _&&_, _||_, and-assoc}
 use mathlib.Core.List.{List}
-use native.Mathlib.Nat.{le-refl, le-trans, le-of-eq, sub-le}
+use native.Mathlib.Nat.{le-trans, le-of-eq, sub-le}
 use lib.Dec.{eqb}
 use borrow.Author.Tests.{eqb-true}
-use Rattle.tariff.specs.Sum.{countIf, sumTo}
+use Rattle.tariff.specs.Sum.{countIf}
 use Rattle.tariff.specs.declared.migration.ClassLine.{ClassLine}
 use Rattle.tariff.specs.Load.{Block, loadPosted}
 use Rattle.tariff.specs.Terms.{hasMonth}

@@ -1,28 +1,27 @@
 -- The sums that methods form over a ledger's figures and over a migration's lines fit 64 bits. Assumes nothing.
-use Prim.Native.Nat.{ℕ, suc, _+_, _*_, _^_, _≤_, _<_, zero-le}
-use mathlib.Core.Path.{_≡_, refl, sym, ap, _∙_}
+use Prim.Native.Nat.{ℕ, suc, _*_, _^_, _≤_, _<_, zero-le}
+use mathlib.Core.Path.{_≡_}
 use mathlib.Core.Bool.{Bool, true, false, not, _&&_, _||_}
 use mathlib.Core.List.{List, [], _∷_}
-use native.Mathlib.Nat.{le-refl, le-trans, le-of-eq, mul-le-mul, mul-le-mul-right, suc-mul, lt-of-le-of-lt, add-le-add}
+use native.Mathlib.Nat.{le-trans, mul-le-mul, mul-le-mul-right, suc-mul}
 use native.Mathlib.Bridge.{le-by-compare, IsLe}
 use native.Mathlib.Omega.{arith}
 use lib.ListN.{length}
 use lib.Dec.{ltb, eqb}
 use borrow.Author.Tests.{ltb-false}
 use Rattle.tariff.specs.declared.migration.ClassLine.{ClassLine}
-use Rattle.tariff.specs.Sum.{countIf, sumTo, sumOver, anyOf}
+use Rattle.tariff.specs.Sum.{countIf, sumOver, anyOf}
 use Rattle.tariff.specs.Migration.{wattsOneWay}
-use Rattle.tariff.proofs.Sums.{count-le, sum-le, sum-add}
+use Rattle.tariff.proofs.Sums.{count-le, sum-add}
 use Rattle.tariff.proofs.Tests.{or-unmet}
 use Rattle.tariff.proofs.EvidenceBounds.{entry-le}
-use Rattle.ledger.specs.Opening.{Opening, endsAt, comesFrom, legal, pathBase}
-use Rattle.ledger.specs.Ledger.{Ledger}
+use Rattle.ledger.specs.Opening.{Opening, endsAt, comesFrom, legal}
 use Rattle.ledger.specs.Call.{Call}
 use Rattle.ledger.specs.Limits.{sumAtBase, longTermAt, priorYearAt, awardsAt, nominatedAt}
-use Rattle.ledger.specs.Verification.{sumFromSource, verifiedKw, drawsOnSame, drawnBefore, drawn}
+use Rattle.ledger.specs.Verification.{sumFromSource, verifiedKw}
 use Rattle.tariff.specs.Ranges.{mostKw, within, wrongClassLine}
 use Rattle.ledger.specs.Season.{after, held, net}
-use Rattle.ledger.proofs.Conserved.{carriedSum, awardedSum, loadSum}
+use Rattle.ledger.proofs.Conserved.{carriedSum, awardedSum}
 use Rattle.ledger.proofs.TierBounds.{nominatedSum}
 use Rattle.ledger.proofs.Bounds.{mostTogether, legal-counts, Fits, figures-fit, one-fits, paths-fit}
 

@@ -1,18 +1,17 @@
 -- Nominations and awards are bounded in every ledger that calls lead to, by the loads that their limits come from. Assumes nothing.
-use Prim.Native.Nat.{ℕ, suc, _+_, _*_, _≤_, _<_, zero-le}
+use Prim.Native.Nat.{ℕ, _+_, _*_, _≤_, zero-le}
 use mathlib.Core.Path.{_≡_, refl, sym, ap, _∙_, subst}
 use mathlib.Core.Bool.{Bool, true, false, cond, _&&_, and-comm}
 use mathlib.Core.List.{List}
-use native.Mathlib.Nat.{le-refl, le-trans, le-of-eq, add-le-add}
+use native.Mathlib.Nat.{le-refl, le-trans, le-of-eq}
 use native.Mathlib.Omega.{arith}
 use lib.Dec.{eqb}
-use borrow.Author.Tests.{eqb-true, eqb-false, eq-eqb}
+use borrow.Author.Tests.{eqb-true, eqb-false}
 use Rattle.tariff.specs.Sum.{countIf, sumTo}
 use Rattle.tariff.specs.Terms.{termOf, hasMonth}
-use Rattle.tariff.proofs.Sums.{count-true, count-false, count-le, count-zero, sum-ext, sum-le, sum-zero, sum-add, sum-bound, term-le-sum}
-use Rattle.tariff.proofs.Tests.{and-both, decided}
+use Rattle.tariff.proofs.Sums.{count-true, count-le, count-zero, sum-ext, sum-le, sum-zero}
 use Rattle.tariff.proofs.Limits.{limit-le-load}
-use Rattle.ledger.specs.Opening.{Opening, endsAt, pathBase}
+use Rattle.ledger.specs.Opening.{Opening, endsAt}
 use Rattle.ledger.specs.Ledger.{Ledger, emptyLedger, withLoads, withRights, withPriors, withPapers, withTiers}
 use Rattle.ledger.specs.Call.{Call, load, carry, prior, verify, migrate, openTier, nominate, award, closeTier}
 use Rattle.ledger.specs.Limits.{sumAtBase, nominatedAt, limitSums, tierLimit}

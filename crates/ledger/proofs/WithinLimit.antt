@@ -1,31 +1,27 @@
 -- Nominations stay within the limit that the ledger before the tier's opening gives, over every list of calls. Assumes nothing.
-use Prim.Native.Nat.{ℕ, suc, _+_, _-_, _≤_, _<_, zero-le}
+use Prim.Native.Nat.{ℕ, _+_, _-_, _≤_, zero-le}
 use mathlib.Core.Path.{_≡_, refl, sym, ap, _∙_}
-use mathlib.Core.Bool.{Bool, true, false, cond, _&&_}
-use mathlib.Core.List.{List, [], _∷_}
+use mathlib.Core.Bool.{true, false, _&&_}
 use mathlib.Core.Logic.{_⊎_, inl, inr}
 use native.Mathlib.Nat.{le-trans, le-of-eq}
 use native.Mathlib.Omega.{arith}
 use lib.Dec.{eqb}
 use borrow.Author.Tests.{eqb-true}
-use Rattle.tariff.specs.Sum.{countIf, sumTo}
-use Rattle.tariff.specs.Terms.{termOf, carriedMonth}
-use Rattle.tariff.specs.Limit.{limit}
+use Rattle.tariff.specs.Sum.{countIf}
 use Rattle.tariff.proofs.Sums.{count-true, count-false, count-zero, sum-zero}
 use Rattle.tariff.proofs.Tests.{and-both, decided}
-use Rattle.tariff.proofs.Limits.{SameBefore, limit-reads-before}
+use Rattle.tariff.proofs.Limits.{limit-reads-before}
 use Rattle.ledger.specs.Opening.{Opening, endsAt, pathBase}
 use Rattle.ledger.specs.Ledger.{Ledger, withLoads, withRights, withPriors, withPapers, withTiers}
 use Rattle.ledger.specs.Call.{Call, load, carry, prior, verify, migrate, openTier, nominate, award, closeTier}
 use Rattle.ledger.specs.Limits.{sumAtBase, longTermAt, priorYearAt, awardsAt, nominatedAt, limitSums, tierLimit}
 use Rattle.ledger.specs.Moves.{migrated}
 use Rattle.ledger.specs.Effects.{afterOpen, afterNominate, awardsAfter, holdingsAfter, afterClose, effect}
-use Rattle.ledger.specs.Season.{accepted, step, after}
-use Rattle.ledger.specs.Totals.{sumAccepted, nominatedBy, isClose, untilClose, nominatedIn}
-use Rattle.ledger.proofs.Steps.{step-refused, step-accepted, step-keeps, after-keeps}
+use Rattle.ledger.specs.Season.{accepted, step}
+use Rattle.ledger.proofs.Steps.{step-keeps}
 use Rattle.ledger.proofs.PostingFacts.{load-facts, carry-facts, prior-facts, verify-facts}
-use Rattle.ledger.proofs.TierFacts.{migrate-facts, open-facts, nominate-facts, award-facts}
-use Rattle.ledger.proofs.TiersSound.{TiersSound, tiers-sound}
+use Rattle.ledger.proofs.TierFacts.{migrate-facts, open-facts, nominate-facts}
+use Rattle.ledger.proofs.TiersSound.{TiersSound}
 use Rattle.ledger.proofs.AtBase.{base-plus, base-other}
 
 -- no call of these is accepted while a tier is open

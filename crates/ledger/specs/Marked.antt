@@ -7,7 +7,7 @@ use Rattle.tariff.specs.Load.{Block, metric, loadPosted}
 use Rattle.tariff.specs.Eligible.{seasonalEligible, priorityEligible}
 use Rattle.tariff.specs.Migration.{netted}
 use Rattle.ledger.specs.Opening.{Opening, loadServing, outsideEntity, defaultLap, schedulingPoint}
-use Rattle.ledger.specs.Call.{Call, load, carry, prior, verify, migrate, openTier, nominate, award, closeTier, Query, limitOf, heldOn, netOn}
+use Rattle.ledger.specs.Call.{load, carry, prior, verify, migrate, openTier, nominate, award, closeTier, limitOf, heldOn, netOn}
 use Rattle.ledger.specs.Season.{Ask, call, query, Answer, done, value, refused, season}
 
 pub record Case : Type 0 where

@@ -1,6 +1,6 @@
 -- A migration at a sink and term, over the ledger's records (01, Migration).
 use Prim.Native.Nat.{ℕ}
-use mathlib.Core.Bool.{Bool, cond, not, _&&_}
+use mathlib.Core.Bool.{cond, not, _&&_}
 use mathlib.Core.List.{List}
 use lib.Dec.{eqb}
 use Rattle.tariff.specs.declared.migration.ClassLine.{ClassLine}

@@ -1,8 +1,7 @@
 -- Evidence whose numbers are in range gives no more than the most kW. Assumes nothing.
-use Prim.Native.Nat.{ℕ, _*_, _/_, _≤_, zero-le}
-use mathlib.Core.Path.{_≡_, refl}
+use Prim.Native.Nat.{ℕ, _≤_, zero-le}
 use mathlib.Core.Bool.{Bool, true, false, cond}
-use native.Mathlib.Nat.{le-refl, le-trans, div-le-of-le-mul, mul-le-mul, mul-comm, le-of-eq}
+use native.Mathlib.Nat.{le-trans, div-le-of-le-mul, mul-le-mul, mul-comm, le-of-eq}
 use lib.Dec.{eqb}
 use Rattle.tariff.specs.declared.evidence.Evidence.{Evidence}
 use Rattle.tariff.specs.declared.evidence.Evidence.the-variants.{Empty, Ownership, Contract}

@@ -1,10 +1,8 @@
 -- What is known of numbers that are those of an evidence. Assumes nothing.
-use Prim.Native.Nat.{ℕ, _≤_, _<_, _^_}
-use mathlib.Core.Path.{_≡_, refl, sym, ap, _∙_}
-use mathlib.Core.Bool.{Bool, true, false, cond, not, _&&_, _||_}
-use native.Mathlib.Nat.{le-trans}
-use native.Mathlib.Omega.{arith}
-use lib.Dec.{leb, ltb, eqb}
+use Prim.Native.Nat.{ℕ, _≤_}
+use mathlib.Core.Path.{_≡_, sym}
+use mathlib.Core.Bool.{true, false, not, _&&_}
+use lib.Dec.{leb}
 use borrow.Author.Tests.{leb-true, ltb-false, eq-eqb, ne-eqb, not-false}
 use Rattle.tariff.specs.Terms.{isMonth}
 use Rattle.tariff.specs.declared.evidence.Evidence.the-variants.{Ownership, Contract}

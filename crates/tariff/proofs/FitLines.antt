@@ -1,17 +1,16 @@
 -- Class lines that are fit to be netted: the tests of the code, and the facts behind them. Assumes nothing.
-use Prim.Native.Nat.{ℕ, _+_, _*_, _≤_, _<_}
-use mathlib.Core.Path.{_≡_, refl, sym, ap, _∙_}
-use mathlib.Core.Bool.{Bool, true, false, not, _&&_, _||_, and-assoc}
+use Prim.Native.Nat.{ℕ, _≤_, _<_}
+use mathlib.Core.Path.{_≡_, sym, ap, _∙_}
+use mathlib.Core.Bool.{Bool, true, false, not, _&&_, and-assoc}
 use mathlib.Core.List.{List}
 use native.Mathlib.Omega.{arith}
-use lib.ListN.{length, getD}
+use lib.ListN.{length}
 use lib.Dec.{leb, ltb, eqb}
-use borrow.Author.Tests.{leb-true, leb-false, ltb-false, eqb-true, not-true, not-false}
-use Rattle.tariff.specs.declared.migration.ClassLine.{ClassLine}
-use Rattle.tariff.specs.Sum.{anyBelow, anyOf, listTo}
+use borrow.Author.Tests.{eqb-true}
+use Rattle.tariff.specs.Sum.{anyBelow, anyOf}
 use Rattle.tariff.specs.Ranges.{within, wrongClassLine}
 use Rattle.tariff.specs.Netting.{SameLengths, classLineAt, classLinesOf, unfitLine, linesFit}
-use Rattle.tariff.proofs.Tests.{any-at, or-unmet, and-both, none-below, not-or, not-not, not-ltb, not-leb}
+use Rattle.tariff.proofs.Tests.{any-at, and-both, not-or, not-not, not-ltb, not-leb}
 use Rattle.tariff.proofs.Lists.{any-list-to}
 
 -- the tests on one line, as the code joins them, are those of the definition

@@ -1,19 +1,18 @@
 -- Laws of the formula and the term that a tier's number selects. Assumes nothing.
 use Prim.Native.Nat.{ℕ, _+_, _-_, _/_, _%_, _≤_, _<_}
-use mathlib.Core.Path.{_≡_, refl, sym, ap, _∙_}
-use mathlib.Core.Bool.{Bool, true, false, cond, _&&_}
+use mathlib.Core.Path.{_≡_, refl, sym, ap}
+use mathlib.Core.Bool.{Bool, false, cond}
 use native.Mathlib.Omega.{arith}
-use lib.ListN.{getD, List·getD-eq-default}
+use lib.ListN.{List·getD-eq-default}
 use lib.Dec.{leb, eqb}
-use borrow.Author.Tests.{eq-eqb, ne-eqb, le-leb, lt-leb, eqb-true}
-use Rattle.tariff.specs.declared.limit.Sums.{Sums}
+use borrow.Author.Tests.{eq-eqb, ne-eqb, lt-leb, eqb-true}
 use Rattle.tariff.specs.declared.limit.Formula.{Formula}
 use Rattle.tariff.specs.declared.limit.Formula.the-variants.{First, Second, Third, Even, Odd}
 use Rattle.tariff.specs.declared.limit.TierRule.{TierRule}
 use Rattle.tariff.specs.Sum.{allBelow}
 use Rattle.tariff.specs.Terms.{termTable, termOf}
 use Rattle.tariff.specs.Ranges.{within}
-use Rattle.tariff.specs.Limit.{limitTier1, limitTier2, limitTier3, limitEvenTier, limitOddTier, limitBy, formulaOf, ruleOf, limit}
+use Rattle.tariff.specs.Limit.{formulaOf, ruleOf}
 use Rattle.tariff.proofs.Tests.{all-below, and-right-false, and-left-false}
 
 pub formula-first : (tier : ℕ) → tier ≡ 1 → formulaOf tier ≡ First

@@ -1,8 +1,7 @@
 -- Laws of the limit by tier: it is at most the load, it reads only earlier tiers, and the tariff's 50% cap is never the tighter one. Assumes nothing.
-use Prim.Native.Nat.{ℕ, suc, _+_, _*_, _-_, _/_, _%_, _≤_, _<_, min}
-use mathlib.Core.Path.{_≡_, refl, sym, ap, ap₂, _∙_, subst}
-use mathlib.Core.Bool.{Bool, true, false, cond}
-use native.Mathlib.Nat.{le-trans, min-le-left, sub-le}
+use Prim.Native.Nat.{ℕ, _-_, _/_, _%_, _≤_, _<_}
+use mathlib.Core.Path.{_≡_, refl, sym, ap, subst}
+use mathlib.Core.Bool.{Bool, true, false}
 use native.Mathlib.Omega.{arith}
 use lib.Dec.{leb, eqb}
 use borrow.Author.Tests.{eqb-true, eqb-false, ne-eqb, leb-true, leb-false, le-leb, lt-leb}

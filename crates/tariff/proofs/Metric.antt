@@ -1,5 +1,5 @@
 -- The load metric is no more than the highest block. Assumes nothing.
-use Prim.Native.Nat.{ℕ, _-_, _≤_, min, zero-le}
+use Prim.Native.Nat.{ℕ, _-_, _≤_, zero-le}
 use mathlib.Core.Path.{_≡_, refl}
 use mathlib.Core.Bool.{Bool, true, false, cond, _||_}
 use mathlib.Core.List.{List, [], _∷_, map}

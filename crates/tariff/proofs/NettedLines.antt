@@ -1,15 +1,14 @@
 -- From the fit lines to the netting that the definition gives. Assumes nothing.
-use Prim.Native.Nat.{ℕ, _+_, _-_, _*_, _/_, _%_, _≤_, _<_}
-use mathlib.Core.Path.{_≡_, refl, sym, ap, ap₂, _∙_}
-use mathlib.Core.Bool.{Bool, true, false, cond, not, _&&_, _||_}
+use Prim.Native.Nat.{ℕ, _-_, _*_, _/_, _%_, _≤_, _<_}
+use mathlib.Core.Path.{_≡_, sym, ap, _∙_}
+use mathlib.Core.Bool.{true, false, cond, not, _&&_, _||_}
 use mathlib.Core.List.{List}
-use native.Mathlib.Omega.{arith}
-use lib.ListN.{length, getD, replicate, length-replicate, getD-replicate}
+use lib.ListN.{length, replicate, length-replicate, getD-replicate}
 use lib.Dec.{leb, ltb, eqb}
-use borrow.Author.Tests.{leb-true, leb-false, ltb-false, eqb-true, not-true}
+use borrow.Author.Tests.{leb-true, leb-false, ltb-false, not-true}
 use Rattle.tariff.specs.declared.migration.ClassLine.{ClassLine}
 use Rattle.tariff.specs.declared.migration.Netting.{Netting}
-use Rattle.tariff.specs.Sum.{countIf, sumTo, sumOver, anyOf, listTo}
+use Rattle.tariff.specs.Sum.{countIf, anyOf}
 use Rattle.tariff.specs.Migration.{wattsOneWay, netted}
 use Rattle.tariff.specs.Ranges.{within, wrongClassLine}
 use Rattle.tariff.specs.Netting.{pairAt, pairCells, Summable, classLineAt, classLinesOf, unfitLine, linesFit, wattsTo, nettingOf}

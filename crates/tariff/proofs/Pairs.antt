@@ -1,7 +1,7 @@
 -- The cells of the pairs of eight holders: which cell is whose, and what one line more adds to them. Assumes nothing.
-use Prim.Native.Nat.{ℕ, zero, suc, _+_, _-_, _*_, _/_, _%_, _^_, _≤_, _<_, zero-le}
-use mathlib.Core.Path.{_≡_, refl, sym, ap, ap₂, _∙_}
-use mathlib.Core.Bool.{Bool, true, false, cond, _&&_}
+use Prim.Native.Nat.{ℕ, _+_, _-_, _*_, _/_, _%_, _^_, _≤_, _<_}
+use mathlib.Core.Path.{_≡_, sym, ap, ap₂, _∙_}
+use mathlib.Core.Bool.{true, false, _&&_}
 use mathlib.Core.List.{List}
 use mathlib.Core.Logic.{_⊎_, inl, inr}
 use native.Mathlib.Nat.{le-trans, mul-le-mul}
@@ -10,7 +10,7 @@ use native.Mathlib.Omega.{arith}
 use lib.ListN.{length, getD, set, replicate, getD-replicate}
 use lib.Seq.{getD-set-same, getD-set-other}
 use lib.Dec.{eqb}
-use borrow.Author.Tests.{eqb-true, eq-eqb, eqb-false}
+use borrow.Author.Tests.{eqb-true, eq-eqb}
 use Rattle.tariff.specs.Sum.{countIf, sumTo, listTo}
 use Rattle.tariff.specs.Netting.{pairAt, pairCells, Summable, wattsTo}
 use Rattle.tariff.proofs.Sums.{count-true, count-false, count-le, sum-bound}

@@ -1,8 +1,8 @@
 -- The three readings that document 01 rules out, each beside the rule, at the marked case where the two give different figures.
 -- Proved by computation. Assumes nothing.
-use Prim.Native.Nat.{ℕ, _+_, _*_, _-_, _/_, min}
+use Prim.Native.Nat.{ℕ, _-_, _/_}
 use mathlib.Core.Path.{_≡_, refl}
-use mathlib.Core.Bool.{Bool, cond, _&&_}
+use mathlib.Core.Bool.{cond, _&&_}
 use mathlib.Core.List.{List, [], _∷_, map}
 use lib.Dec.{leb, ltb, eqb}
 use Rattle.tariff.specs.declared.migration.ClassLine.{ClassLine}

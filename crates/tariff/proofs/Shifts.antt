@@ -1,8 +1,7 @@
 -- Laws of a migration's shift of a column: the shares of a record are at most the record, and a shift keeps the column's sum. Assumes nothing.
 use Prim.Native.Nat.{ℕ, zero, suc, _+_, _*_, _-_, _/_, _≤_, _<_, zero-le}
-use mathlib.Core.Path.{_≡_, refl, sym, ap, _∙_, subst}
-use mathlib.Core.Logic.{_⊎_, inl, inr}
-use native.Mathlib.Nat.{le-refl, le-trans, le-of-eq, add-le-add, mul-add, mul-zero, div-zero, add-mul, le-div-iff-mul-le, div-mul-le-self, div-le-of-le-mul, mul-le-mul-left, mul-comm, zero-lt-suc}
+use mathlib.Core.Path.{_≡_, ap}
+use native.Mathlib.Nat.{le-trans, le-of-eq, add-le-add, mul-add, div-zero, add-mul, le-div-iff-mul-le, div-mul-le-self, div-le-of-le-mul, mul-le-mul-left, mul-comm, zero-lt-suc}
 use native.Mathlib.Omega.{arith}
 use Rattle.tariff.specs.Sum.{sumTo}
 use Rattle.tariff.specs.Migration.{share, shares, shifted, lostBy}

@@ -1,7 +1,7 @@
 -- Laws of the sums that the rules are written with: by their terms, two sums in one, the order of two sums, and one changed term. Assumes nothing.
 use Prim.Native.Nat.{ℕ, zero, suc, _+_, _*_, _-_, _≤_, _<_, zero-le}
-use mathlib.Core.Path.{_≡_, refl, sym, ap, _∙_, ap₂, subst}
-use mathlib.Core.Bool.{Bool, true, false, cond}
+use mathlib.Core.Path.{_≡_, refl, sym, ap, _∙_, ap₂}
+use mathlib.Core.Bool.{Bool, true, false}
 use mathlib.Core.Logic.{_⊎_, inl, inr}
 use native.Mathlib.Nat.{le-refl, le-trans, add-le-add, suc-mul, not-suc-le-zero, le-suc}
 use native.Mathlib.Numerals.{add-one}

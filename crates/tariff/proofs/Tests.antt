@@ -1,16 +1,15 @@
 -- What the tests of the rules tell, taken apart and put together. Assumes nothing.
-use Prim.Native.Nat.{ℕ, _≤_, _<_}
+use Prim.Native.Nat.{ℕ, _<_}
 use mathlib.Core.Path.{_≡_, refl, sym, ap, _∙_}
-use mathlib.Core.Bool.{Bool, true, false, cond, not, _&&_, _||_, or-true}
-use mathlib.Core.List.{List, [], _∷_}
+use mathlib.Core.Bool.{Bool, true, false, not, _&&_, _||_, or-true}
 use mathlib.Core.Logic.{_⊎_, inl, inr}
-use native.Mathlib.Nat.{not-suc-le-zero, le-refl}
+use native.Mathlib.Nat.{not-suc-le-zero}
 use native.Mathlib.Omega.{arith}
 use Prim.Native.Nat.{zero, suc, _+_}
 use native.Mathlib.Numerals.{add-one}
 use lib.Dec.{leb, ltb}
 use borrow.Author.Tests.{ltb-true, ltb-false, leb-true, leb-false, le-leb, lt-leb, le-ltb, lt-ltb}
-use Rattle.tariff.specs.Sum.{allBelow, anyBelow, anyOf}
+use Rattle.tariff.specs.Sum.{allBelow, anyBelow}
 use Rattle.tariff.proofs.Sums.{below-suc}
 
 pub or-unmet : (a b : Bool) → (a || b) ≡ false → (a ≡ false) × (b ≡ false)

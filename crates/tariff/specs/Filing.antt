@@ -1,6 +1,6 @@
 -- What a caller's numbers for verify come to: an entry, or a field outside its range (01, Posting, Verify; cause 3).
 use Prim.Native.Nat.{ℕ}
-use mathlib.Core.Bool.{Bool, cond}
+use mathlib.Core.Bool.{cond}
 use Rattle.tariff.specs.declared.evidence.Filing.{Filing}
 use Rattle.tariff.specs.declared.evidence.Filing.the-variants.{OutOfRange, Filed}
 use Rattle.tariff.specs.Evidence.{entryOf}

@@ -1,6 +1,6 @@
 -- The limit on a holder's nominations at a base in a tier (01, Limits). Differences end at 0.
 use Prim.Native.Nat.{ℕ, _+_, _-_, _%_, min}
-use mathlib.Core.Bool.{Bool, cond}
+use mathlib.Core.Bool.{cond}
 use lib.Dec.{eqb}
 use Rattle.tariff.specs.declared.limit.Sums.{Sums}
 use Rattle.tariff.specs.declared.limit.Formula.{Formula}

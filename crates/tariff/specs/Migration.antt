@@ -1,6 +1,6 @@
 -- What a migration moves (01, Migration). Holders are numbered; `m i j` is the kW that go from holder i to holder j.
 use Prim.Native.Nat.{ℕ, _+_, _*_, _-_, _/_}
-use mathlib.Core.Bool.{Bool, _&&_}
+use mathlib.Core.Bool.{_&&_}
 use mathlib.Core.List.{List}
 use lib.Dec.{eqb}
 use Rattle.tariff.specs.declared.migration.ClassLine.{ClassLine}

@@ -3,7 +3,6 @@ use mathlib.Core.Path.{ap₂}
 use Prim.Native.Nat.{_+_}
 use native.Mathlib.Omega.{arith}
 use Rattle.ledger.specs.Season.{held}
-use Rattle.ledger.proofs.Bounds.{mostTogether}
 use Rattle.book.specs.Reading.{rightsIn, ledgerOf}
 use Rattle.book.proofs.ReachedFigures.{carried-fits, awarded-fits}
 use borrow.Author.Needs.{needs}

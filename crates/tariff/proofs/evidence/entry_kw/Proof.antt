@@ -1,7 +1,6 @@
 -- `tariff::evidence::entry_kw` meets its contract, from those of the two that it calls. Assumes nothing.
 use Rattle.tariff.proofs.Sums.{count-true, count-false}
-use mathlib.Core.Path.{sym, ap, _∙_}
-use Rattle.tariff.specs.Sum.{countIf}
+use mathlib.Core.Path.{sym, _∙_}
 use Rattle.tariff.specs.Evidence.{entryKw}
 use borrow.Author.Needs.{needs}
 use Rattle.tariff.proofs.evidence.entry_kw.Statement.{statement}

@@ -1,6 +1,4 @@
 -- `tariff::evidence::evidence_in_range` meets its contract: its six tests are those of the definition. Assumes nothing.
-use mathlib.Core.Bool.{_&&_}
-use mathlib.Core.Path.{_∙_, ap}
 use Rattle.tariff.proofs.EvidenceRange.{all-six}
 use borrow.Author.Needs.{needs}
 use Rattle.tariff.proofs.evidence.evidence_in_range.Statement.{statement}

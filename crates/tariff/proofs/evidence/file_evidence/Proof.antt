@@ -4,7 +4,7 @@ use native.Mathlib.Omega.{arith}
 use mathlib.Core.Path.{sym, _∙_}
 use borrow.Author.Tests.{not-true, not-false, eq-eqb, ne-eqb}
 use Rattle.tariff.specs.Evidence.{highestRight}
-use Rattle.tariff.proofs.EvidenceRange.{EvidenceFacts, evidence-facts}
+use Rattle.tariff.proofs.EvidenceRange.{evidence-facts}
 use borrow.Author.Needs.{needs}
 use Rattle.tariff.proofs.evidence.file_evidence.Statement.{statement}
 use Rattle.tariff.proofs.evidence.file_evidence.Tie as tie

@@ -2,8 +2,8 @@
 use borrow.Author.Tests.{not-true, not-false}
 use Rattle.tariff.proofs.FitLines.{some-unfit, none-unfit}
 use lib.ListN.{length}
-use mathlib.Core.Bool.{false, not}
-use mathlib.Core.Path.{_≡_, refl, sym, ap, _∙_}
+use mathlib.Core.Bool.{false}
+use mathlib.Core.Path.{_≡_, refl, sym, _∙_}
 use Prim.Native.Nat.{_≤_, _-_, zero-le}
 use Rattle.tariff.specs.Sum.{anyBelow}
 use Rattle.tariff.proofs.Tests.{none-more}

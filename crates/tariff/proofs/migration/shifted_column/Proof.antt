@@ -2,9 +2,8 @@
 use Rattle.tariff.proofs.ShareCells.{shifted-value}
 use native.Mathlib.Omega.{arith}
 use lib.ListN.{length, length-set}
-use mathlib.Core.Path.{_≡_, refl, _∙_}
+use mathlib.Core.Path.{_≡_}
 use Prim.Native.Nat.{_≤_, _-_, zero-le}
-use Rattle.tariff.specs.Migration.{shifted}
 use Rattle.tariff.specs.Netting.{holderAt}
 use Rattle.tariff.proofs.ShareCells.{ShiftedTo, none-shifted, one-more-shifted, all-shifted, given-fits, gained-fits, shifted-fits}
 use borrow.Author.Needs.{needs}

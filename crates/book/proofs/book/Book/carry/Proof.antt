@@ -1,5 +1,4 @@
 -- `book::Book::carry` meets its contract: a refusal leaves the book, and an accepted carry changes the rights alone. Assumes nothing.
-use mathlib.Core.Path.{_∙_}
 use native.Mathlib.Nat.{le-trans}
 use Rattle.book.specs.Handed.{openedWith}
 use Rattle.book.specs.Setup.{openingOf}
