@@ -1,7 +1,7 @@
 -- Laws of the causes, in the form in which code finds them. Assumes nothing.
 use Prim.Native.Nat.{ℕ}
 use mathlib.Core.Path.{_≡_, refl, sym, ap, _∙_}
-use mathlib.Core.Bool.{Bool, cond, not}
+use mathlib.Core.Bool.{Bool, true, false, cond, not}
 use mathlib.Core.List.{List, [], _∷_}
 use lib.Dec.{eqb}
 use borrow.Author.Tests.{eq-eqb, ne-eqb}
@@ -17,6 +17,15 @@ link number met test rows {later} e t l = e ∙ (λ i. cond (t i) number (l i))
 pub no-more : 0 ≡ firstMet []
 unfolding firstMet
 no-more = refl
+
+-- a cause put before later ones that are only asked where it is not met
+pub link-unless : (number : ℕ) (met test : Bool) (rows : List Cause) {later r : ℕ} → r ≡ cond met number later → met ≡ test → (test ≡ false → later ≡ firstMet rows) → r ≡ firstMet (cause number test ∷ rows)
+unfolding firstMet
+link-unless number met test rows {later} e t l = e ∙ ap (λ b. cond b number later) t ∙ go test l
+  where
+    go : (b : Bool) → (b ≡ false → later ≡ firstMet rows) → cond b number later ≡ cond b number (firstMet rows)
+    go true k = refl
+    go false k = k refl
 
 -- which sinks are for a holder
 pub sink-of-supplier : (o : Opening) (h s kind : ℕ) → holderKind o h ≡ 1 → kind ≡ sinkKind o s → eqb kind 4 ≡ sinkNotFor o h s

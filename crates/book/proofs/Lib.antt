@@ -1,5 +1,6 @@
 pub mod CellLaws
 pub mod CauseLaws
+pub mod CalendarLaws
 pub mod Stores
 pub mod Months
 pub mod Parts

@@ -19,7 +19,6 @@ use Rattle.tariff.proofs.Tests.{or-unmet, and-both, and-join, decided}
 use Rattle.tariff.proofs.Lists.{length-list-to, any-list-to}
 use Rattle.tariff.proofs.Pairs.{pair-of-cells}
 use Rattle.ledger.specs.Opening.{Opening}
-use Rattle.ledger.specs.Numbers.{Cause, cause, firstMet}
 use Rattle.ledger.specs.Ranges.{noHolder, strangerIn, wrongMigration}
 use Rattle.ledger.specs.Moves.{loadBefore}
 use Rattle.ledger.specs.Causes.{notBetweenSuppliers, losesTooMuch}
@@ -31,15 +30,6 @@ use Rattle.book.specs.Reading.{loadsIn, ledgerOf}
 use Rattle.book.specs.Handed.{openedWith}
 use Rattle.book.specs.Lines.{strangerAt, wrongLineAt, outsiderAt, movedBy}
 use Rattle.book.proofs.ColumnLaws.{column-holder}
-
--- a cause put before later ones that are only asked where it is not met
-pub link-unless : (number : ℕ) (met test : Bool) (rows : List Cause) {later r : ℕ} → r ≡ cond met number later → met ≡ test → (test ≡ false → later ≡ firstMet rows) → r ≡ firstMet (cause number test ∷ rows)
-unfolding firstMet
-link-unless number met test rows {later} e t l = e ∙ ap (λ b. cond b number later) t ∙ go test l
-  where
-    go : (b : Bool) → (b ≡ false → later ≡ firstMet rows) → cond b number later ≡ cond b number (firstMet rows)
-    go true k = refl
-    go false k = k refl
 
 -- tests that agree below n
 pub any-ext : (n : ℕ) (s t : ℕ → Bool) → ((i : ℕ) → i < n → s i ≡ t i) → anyBelow n s ≡ anyBelow n t
@@ -82,12 +72,12 @@ module _ (froms tos classes customers watts : List ℕ) where
   range-cause term inTerm lines-wrong e a b = λ i. (a i || ltb 64 (sym line-count i)) || (b ∙ wrong-lines e) i
 
   -- a migration in range has at most 64 lines, none wrong, and a term that there is
-  pub in-range : (term : ℕ) → wrongMigration term lines ≡ false → (term ≤ 3) × (length froms ≤ 64) × (anyOf lines wrongClassLine ≡ false)
-  unfolding wrongMigration wrongTerm
+  pub in-range : (term : ℕ) → wrongMigration term lines ≡ false → (length froms ≤ 64) × (anyOf lines wrongClassLine ≡ false)
+  unfolding wrongMigration
   in-range term e =
       let both = or-unmet (wrongTerm term || ltb 64 (length lines)) (anyOf lines wrongClassLine) e in
       let first = or-unmet (wrongTerm term) (ltb 64 (length lines)) (both .0) in
-      (ltb-false 3 term (first .0), le-trans (le-of-eq (sym line-count)) (ltb-false 64 (length lines) (first .1)), both .1)
+      (le-trans (le-of-eq (sym line-count)) (ltb-false 64 (length lines) (first .1)), both .1)
 
   -- lines with holders in the book and fields in range are fit to be netted
   pub lines-fit : (o : Opening) → o .holders ≤ 8 → SameLengths froms tos classes customers watts → strangerIn o lines ≡ false → length froms ≤ 64 → anyOf lines wrongClassLine ≡ false → linesFit froms tos classes customers watts ≡ true

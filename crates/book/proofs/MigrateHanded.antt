@@ -26,10 +26,10 @@ use Rattle.book.specs.Handed.{openedWith}
 use Rattle.book.specs.Reached.{Reached}
 use Rattle.book.specs.Columns.{bookMoved, Moves}
 use Rattle.book.specs.Lines.{strangerAt, wrongLineAt, outsiderAt, sameCounts, movedBy, handedLines}
-use Rattle.book.proofs.CauseLaws.{link, no-more}
+use Rattle.book.proofs.CauseLaws.{link, link-unless, no-more}
 use Rattle.book.proofs.HandedLaws.{accepted-test, handed-refused, handed-accepted}
 use Rattle.book.proofs.ReachedLaws.{reached-counts, reached-shaped}
-use Rattle.book.proofs.MigrateCauses.{link-unless, stranger-cause, outsider-cause, range-cause, in-range, lines-fit, loss-cause}
+use Rattle.book.proofs.MigrateCauses.{stranger-cause, outsider-cause, range-cause, in-range, lines-fit, loss-cause}
 use Rattle.book.proofs.MigrateLaws.{migration-moves, migrate-book, handed-uneven, handed-even, counts-same}
 
 module _ (b : Book) (term sink : ℕ) (froms tos classes customers watts : List ℕ) where
@@ -39,7 +39,7 @@ module _ (b : Book) (term sink : ℕ) (froms tos classes customers watts : List 
     pub ofStranger : stranger ≡ anyBelow (length froms) (strangerAt (openingOf (b .setup)) froms tos)
     pub ofTerm : wrongOfTerm ≡ wrongTerm term
     pub ofLines : wrongLine ≡ anyBelow (length classes) (wrongLineAt classes customers watts)
-    pub ofTime : term ≤ 3 → inTime ≡ ((not (not (eqb (b .tiers .«open_now») 0)) && ltb (b .tiers .«last_closed») (firstTierOf term)) && (eqb term 0 || leb 3 (b .tiers .«last_closed»)))
+    pub ofTime : inTime ≡ ((not (not (eqb (b .tiers .«open_now») 0)) && ltb (b .tiers .«last_closed») (firstTierOf term)) && (eqb term 0 || leb 3 (b .tiers .«last_closed»)))
     pub ofOutsider : outsider ≡ anyBelow (length froms) (outsiderAt (openingOf (b .setup)) froms tos)
     pub ofLoss : loss ≡ anyBelow (x .holders) (λ i. ltb (holderAt (x .load) i) (sumTo (x .holders) (λ j. pairAt (x .m) i j)))
 
@@ -51,8 +51,8 @@ module _ (b : Book) (term sink : ℕ) (froms tos classes customers watts : List 
       link-unless 3 _ _ _ e3 (range-cause froms tos classes customers watts term wrongOfTerm wrongLine (pre .1 .ofClasses) (t .ofTerm) (t .ofLines))
       (λ right.
       let range = in-range froms tos classes customers watts term right in
-      let fit = lines-fit froms tos classes customers watts (openedWith b) (pre .0) (pre .1) (or-unmet (noSink (openedWith b) sink) _ known .1) (range .1) (range .2) in
-      link 4 _ _ _ e4 (ap not (t .ofTime (range .0)))
+      let fit = lines-fit froms tos classes customers watts (openedWith b) (pre .0) (pre .1) (or-unmet (noSink (openedWith b) sink) _ known .1) (range .0) (range .1) in
+      link 4 _ _ _ e4 (ap not (t .ofTime))
       (link 8 _ _ _ e8 (t .ofOutsider ∙ outsider-cause froms tos classes customers watts (openedWith b))
       (link 9 _ _ _ e9 (t .ofLoss ∙ loss-cause froms tos classes customers watts b term sink x (pre .2) (pre .0) fit) no-more))))
 

@@ -1,8 +1,9 @@
 // When a call can run, by the tier last closed and the open one (01, Tiers; cause 4).
 ghost use mathlib.Core.Path.{_≡_};
-ghost use mathlib.Core.Bool.{not, _&&_};
-ghost use lib.Dec.{ltb, eqb};
+ghost use mathlib.Core.Bool.{not, _&&_, _||_};
+ghost use lib.Dec.{leb, ltb, eqb};
 ghost use Prim.Native.Nat.{suc};
+ghost use Rattle.tariff.specs.Terms.{firstTierOf};
 
 // A tier is open.
 pub fn is_open(open_now: u64) -> bool
@@ -16,6 +17,25 @@ pub fn before_tier(tier: u64, last_closed: u64, open_now: u64) -> bool
     ensures { λ r. ⌜ r ≡ (not (not (eqb «open_now» 0)) && ltb «last_closed» tier) ⌝ }
 {
     !is_open(open_now) & (last_closed < tier)
+}
+
+// The postings for a term have not ended: no tier is open, and tier 1, or for month k tier 2k + 2, has never been.
+// Half of the tier last closed is compared with the month, as twice a caller's number may not fit.
+pub fn before_term(term: u64, last_closed: u64, open_now: u64) -> bool
+    ensures { λ r. ⌜ r ≡ (not (not (eqb «open_now» 0)) && ltb «last_closed» (firstTierOf term)) ⌝ }
+{
+    if term == 0 {
+        return before_tier(1, last_closed, open_now);
+    }
+    !is_open(open_now) & (last_closed / 2 <= term)
+}
+
+// A migration comes at its time: as a posting for its term, and for a month after tier 3.
+pub fn migration_in_time(term: u64, last_closed: u64, open_now: u64) -> bool
+    ensures { λ r. ⌜ r ≡ ((not (not (eqb «open_now» 0)) && ltb «last_closed» (firstTierOf term)) && (eqb term 0 || leb 3 «last_closed»)) ⌝ }
+{
+    let early = before_term(term, last_closed, open_now);
+    early & ((term == 0) | (3 <= last_closed))
 }
 
 // A tier is the one after the last closed.

@@ -2,7 +2,7 @@
 use crate::book::Answer;
 use crate::book::Answered;
 use crate::book::Book;
-use crate::calendar::before_tier;
+use crate::calendar::migration_in_time;
 use crate::moves::Moved;
 use crate::moves::column_at;
 use crate::moves::move_loads;
@@ -14,12 +14,11 @@ use crate::setup::Setup;
 use tariff::migration::given_by;
 use tariff::migration::net_lines;
 ghost use mathlib.Core.Path.{_≡_};
-ghost use mathlib.Core.Bool.{not, _&&_, _||_};
+ghost use mathlib.Core.Bool.{_||_};
 ghost use Prim.Native.Nat.{ℕ, _^_, _<_, _≤_};
 ghost use lib.ListN.{length};
-ghost use lib.Dec.{ltb, leb, eqb};
+ghost use lib.Dec.{ltb, eqb};
 ghost use Rattle.tariff.specs.Sum.{sumTo, anyBelow};
-ghost use Rattle.tariff.specs.Terms.{firstTierOf};
 ghost use Rattle.tariff.specs.Ranges.{wrongClassLine};
 ghost use Rattle.tariff.specs.Netting.{pairAt, holderAt, classLinesOf, SameLengths};
 ghost use Rattle.ledger.specs.Opening.{holderKind};
@@ -132,28 +131,6 @@ fn loses_too_much(x: Moved) -> bool
         i += 1;
     }
     false
-}
-
-// The tier whose opening ends the postings for a term that there is.
-fn first_tier(term: u64) -> u64
-    ensures { λ r. ⌜ (term ≤ 3 → r ≡ firstTierOf term) ⌝ }
-{
-    if term == 0 {
-        return 1;
-    }
-    if 3 < term {
-        return 1;
-    }
-    2 * term + 2
-}
-
-// Whether a migration comes at its time: before the term's first tier, and for a month after tier 3.
-fn migration_in_time(term: u64, last_closed: u64, open_now: u64) -> bool
-    ensures { λ r. ⌜ (term ≤ 3 → r ≡ ((not (not (eqb «open_now» 0)) && ltb «last_closed» (firstTierOf term)) && (eqb term 0 || leb 3 «last_closed»))) ⌝ }
-{
-    let first = first_tier(term);
-    let early = before_tier(first, last_closed, open_now);
-    early & ((term == 0) | (3 <= last_closed))
 }
 
 // What the lines move at a sink and term.
