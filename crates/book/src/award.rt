@@ -10,7 +10,7 @@ use crate::refusals::wrong_kw;
 use crate::rights::Rights;
 use crate::rights::add_in_term;
 use crate::tiers::Tiers;
-use tariff::limit::term_of;
+use tariff::terms::term_of;
 ghost use mathlib.Core.Path.{_≡_};
 ghost use Prim.Native.Nat.{ℕ, _+_, _^_, _<_, _≤_};
 ghost use Rattle.ledger.specs.Call.{award};

@@ -19,4 +19,5 @@ pub mod rights;
 pub mod setup;
 pub mod tiers;
 pub mod turns;
+pub mod verification;
 pub mod verify;

@@ -7,17 +7,16 @@ use crate::refusals::refuse;
 use crate::setup::Setup;
 use tariff::limit::Sums;
 use tariff::limit::less;
-use tariff::limit::term_of;
 use tariff::limit::tier_limit;
+use tariff::terms::carried_month;
+use tariff::terms::term_of;
 ghost use mathlib.Core.Path.{_≡_};
 ghost use Prim.Native.Nat.{ℕ, _+_, _*_, _<_, _≤_};
 ghost use lib.ListN.{length};
 ghost use Rattle.tariff.specs.Sum.{countIf};
-ghost use Rattle.tariff.specs.Terms.{carriedMonth};
 ghost use Rattle.ledger.specs.Call.{limitOf};
 ghost use Rattle.ledger.specs.Causes.{queryRefusal};
 ghost use Rattle.ledger.specs.Limits.{sumAtBase, longTermAt, priorYearAt, awardsAt, nominatedAt, limitSums, tierLimit};
-ghost use Rattle.ledger.specs.Verification.{sumFromSource};
 ghost use Rattle.book.specs.Cells.{readAt};
 ghost use Rattle.book.specs.Setup.{openingOf};
 ghost use Rattle.book.specs.Reading.{ledgerOf};
@@ -43,35 +42,6 @@ pub fn sum_at_base(setup: Setup, cells: &[u64], width: u64, low: u64, h: u64, m:
         sum += count_if(there, read(cells, width, low, h, p, m));
     }
     sum
-}
-
-// What a holder has in cells on the paths from this source.
-pub fn sum_from_source(
-    setup: Setup,
-    cells: &[u64],
-    width: u64,
-    low: u64,
-    h: u64,
-    m: u64,
-    s: u64,
-) -> u64
-    requires { ⌜ (length (now cells) ≡ 128 * width) × (low + width ≤ 16) × (setup .paths ≤ 16) × ((p : ℕ) → p < setup .paths → readAt width low 0 (now cells) h p m ≤ 10 * (8 * 99999999)) ⌝ }
-    ensures { λ r. ⌜ r ≡ sumFromSource (openingOf setup) s (λ p. readAt width low 0 (now (cells .entry)) h p m) ⌝ }
-{
-    let paths = setup.paths;
-    let mut sum: u64 = 0;
-    for p in 0..paths {
-        let there = setup.path_source(p) == s;
-        sum += count_if(there, read(cells, width, low, h, p, m));
-    }
-    sum
-}
-
-// The month whose carried rights count in a term's limits: month 1 for the season.
-fn carried_month(term: u64) -> u64
-    ensures { λ r. ⌜ r ≡ carriedMonth term ⌝ }
-{
-    if term == 0 { 1 } else { term }
 }
 
 // LT: a holder's carried holding at a base in a month.

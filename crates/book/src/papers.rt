@@ -1,7 +1,9 @@
 // Evidence by holder, source and kind, and whether one was posted: cell (holder * 16 + source) * 2 + kind - 1.
 use crate::cells::cell;
+use crate::cells::has_cell;
 use crate::cells::mark;
 use tariff::evidence::Entry;
+use tariff::evidence::Evidence;
 ghost use mathlib.Core.Path.{_≡_};
 ghost use mathlib.Core.Bool.{true, cond};
 ghost use Prim.Native.Nat.{_<_, _≤_};
@@ -13,6 +15,21 @@ ghost use Rattle.book.specs.Reading.{papersIn, papersOf};
 pub struct Papers {
     pub entries: [Entry; 256],
     pub posted: [bool; 256],
+}
+
+// What a holder filed for a source, of one kind of evidence.
+pub fn filed(papers: Papers, h: u64, s: u64, kind: u64) -> Entry
+    ensures { λ r. ⌜ r ≡ readAt 2 1 noEntry (papers .entries) h s kind ⌝ }
+{
+    if has_cell(2, 1, h, s, kind) {
+        let at = cell(2, 1, h, s, kind);
+        return papers.entries[at];
+    }
+    Entry {
+        evidence: Evidence::Empty,
+        first: 0,
+        last: 0,
+    }
 }
 
 // An entry put in the cell of a holder, a source and a kind.

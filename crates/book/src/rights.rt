@@ -9,21 +9,14 @@ pub struct Rights {
 
 use crate::cells::add;
 use crate::cells::mark;
+use tariff::terms::has_month;
 ghost use mathlib.Core.Path.{_≡_};
 ghost use Prim.Native.Nat.{ℕ, _+_, _^_, _<_};
 ghost use lib.ListN.{length};
 ghost use mathlib.Core.Bool.{true};
-ghost use Rattle.tariff.specs.Terms.{hasMonth};
 ghost use Rattle.ledger.specs.Effects.{plusInTerm, afterCarry};
 ghost use Rattle.book.specs.Cells.{hasCell, readAt, cellsOf, plusMonth};
 ghost use Rattle.book.specs.Reading.{rightsIn, rightsOf};
-
-// Whether a term has a month: the season has all three.
-pub fn has_month(term: u64, month: u64) -> bool
-    ensures { λ r. ⌜ r ≡ hasMonth term month ⌝ }
-{
-    ((1 <= month) & (month <= 3)) & ((term == 0) | (term == month))
-}
 
 // kw more for a holder on a path in one month, if the term has it.
 fn add_month(cells: &mut [u64], term: u64, h: u64, p: u64, month: u64, kw: u64)

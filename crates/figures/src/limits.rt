@@ -6,8 +6,8 @@ use crate::write;
 use tariff::limit::Sums;
 use tariff::limit::priority_eligible;
 use tariff::limit::seasonal_eligible;
-use tariff::limit::term_of;
 use tariff::limit::tier_limit;
+use tariff::terms::term_of;
 
 // How many numbers a row has.
 pub const WIDTH: usize = 8;

@@ -1,8 +1,8 @@
 // Eligible quantities and the limit by tier (01, Limits).
+use crate::terms::term_of;
 ghost use mathlib.Core.Path.{_≡_};
 ghost use Prim.Native.Nat.{_-_};
 ghost use Rattle.tariff.specs.Eligible.{seasonalEligible, priorityEligible};
-ghost use Rattle.tariff.specs.Terms.{termOf};
 ghost use Rattle.tariff.specs.Limit.{limitTier1, limitTier2, limitTier3, limitEvenTier, limitOddTier, limitBy, ruleOf, limit};
 
 // What a limit is made of, for one holder, base and tier.
@@ -34,22 +34,6 @@ pub enum Formula {
 pub struct TierRule {
     pub formula: Formula,
     pub term: u64,
-}
-
-// The term of each tier, tier 1 first.
-const TERMS: [u64; 9] = [0, 0, 0, 1, 1, 2, 2, 3, 3];
-
-// The term of a tier; 0 for a number that is no tier.
-pub fn term_of(tier: u64) -> u64
-    ensures { λ r. ⌜ r ≡ termOf tier ⌝ }
-{
-    if tier < 1 {
-        return 0;
-    }
-    if 9 < tier {
-        return 0;
-    }
-    TERMS[(tier - 1) as usize]
 }
 
 // The formula and the term, by the tier's number.

@@ -1,4 +1,4 @@
--- `book::nominate::drawn_before` meets its contract: before tier n the sum is that of the tiers below n. Assumes nothing.
+-- `book::verification::drawn_before` meets its contract: before tier n the sum is that of the tiers below n. Assumes nothing.
 use Prim.Native.Nat.{_-_, _≤_}
 use mathlib.Core.Path.{_≡_, refl}
 use native.Mathlib.Omega.{arith}
@@ -9,8 +9,8 @@ use Rattle.book.specs.Reading.{ledgerOf}
 use Rattle.book.specs.Handed.{openedWith}
 use Rattle.book.proofs.DrawnLaws.{drawnIn, next-drawn, drawn-room}
 use borrow.Author.Needs.{needs}
-use Rattle.book.proofs.nominate.drawn_before.Statement.{statement}
-use Rattle.book.proofs.nominate.drawn_before.Tie as tie
+use Rattle.book.proofs.verification.drawn_before.Statement.{statement}
+use Rattle.book.proofs.verification.drawn_before.Tie as tie
 
 abbrev Inv-loop : tie.InvT-loop
 Inv-loop b tier h s sum₀ n₀ sum n = (n ≤ tier) × (sum ≡ sumTo n (drawnIn (openedWith b) (ledgerOf b) tier h s))

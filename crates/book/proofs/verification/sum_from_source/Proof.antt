@@ -1,4 +1,4 @@
--- `book::limits::sum_from_source` meets its contract: before path p the sum is that of the paths below p. Assumes nothing.
+-- `book::verification::sum_from_source` meets its contract: before path p the sum is that of the paths below p. Assumes nothing.
 use Prim.Native.Nat.{_-_, _≤_}
 use mathlib.Core.Path.{_≡_, refl}
 use native.Mathlib.Omega.{arith}
@@ -8,8 +8,8 @@ use Rattle.ledger.specs.Verification.{sumFromSource}
 use Rattle.book.specs.Setup.{openingOf}
 use Rattle.book.proofs.PathSums.{figureFromSource, next-from-source, room-from-source}
 use borrow.Author.Needs.{needs}
-use Rattle.book.proofs.limits.sum_from_source.Statement.{statement}
-use Rattle.book.proofs.limits.sum_from_source.Tie as tie
+use Rattle.book.proofs.verification.sum_from_source.Statement.{statement}
+use Rattle.book.proofs.verification.sum_from_source.Tie as tie
 
 abbrev Inv-loop : tie.InvT-loop
 Inv-loop setup cells width low h m s paths sum₀ p₀ sum p = (p ≤ paths) × (sum ≡ sumTo p (figureFromSource (openingOf setup) s cells width low h m))

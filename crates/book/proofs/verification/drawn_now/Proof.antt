@@ -1,12 +1,12 @@
--- `book::nominate::drawn_now` meets its contract. Assumes nothing.
+-- `book::verification::drawn_now` meets its contract. Assumes nothing.
 use Prim.Native.Nat.{_+_}
 use native.Mathlib.Omega.{arith}
 use Rattle.ledger.specs.Verification.{drawn}
 use Rattle.book.proofs.DrawnLaws.{nominated-from-fit, drawn-before-fits}
 use Rattle.book.proofs.ReachedFigures.{open-last}
 use borrow.Author.Needs.{needs}
-use Rattle.book.proofs.nominate.drawn_now.Statement.{statement}
-use Rattle.book.proofs.nominate.drawn_now.Tie as tie
+use Rattle.book.proofs.verification.drawn_now.Statement.{statement}
+use Rattle.book.proofs.verification.drawn_now.Tie as tie
 
 drawn-before-requires : tie.Need-drawn-before-requires
 drawn-before-requires c κs = (open-last _ (c .before .pre .0), c .before .pre)

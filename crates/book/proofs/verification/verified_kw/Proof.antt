@@ -1,4 +1,4 @@
--- `book::nominate::verified_kw` meets its contract. Assumes nothing.
+-- `book::verification::verified_kw` meets its contract. Assumes nothing.
 use Prim.Native.Nat.{_+_}
 use mathlib.Core.Path.{ap, _∙_}
 use native.Mathlib.Omega.{arith}
@@ -7,8 +7,8 @@ use Rattle.ledger.specs.Verification.{verifiedKw}
 use Rattle.book.specs.Reading.{papersIn, ledgerOf}
 use Rattle.book.proofs.DrawnLaws.{entry-fits}
 use borrow.Author.Needs.{needs}
-use Rattle.book.proofs.nominate.verified_kw.Statement.{statement}
-use Rattle.book.proofs.nominate.verified_kw.Tie as tie
+use Rattle.book.proofs.verification.verified_kw.Statement.{statement}
+use Rattle.book.proofs.verification.verified_kw.Tie as tie
 
 filed-requires : tie.Need-filed-requires
 filed-requires c κs = search needs

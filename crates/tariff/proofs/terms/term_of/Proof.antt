@@ -1,10 +1,10 @@
--- `tariff::limit::term_of` meets its contract: the table is that of the definition. Assumes nothing.
+-- `tariff::terms::term_of` meets its contract: the table is that of the definition. Assumes nothing.
 use mathlib.Core.Path.{refl, sym}
 use Rattle.tariff.proofs.Formulas.{term-none, term-past}
 use Rattle.tariff.specs.Terms.{termTable, termOf}
 use borrow.Author.Needs.{needs}
-use Rattle.tariff.proofs.limit.term_of.Statement.{statement}
-use Rattle.tariff.proofs.limit.term_of.Tie as tie
+use Rattle.tariff.proofs.terms.term_of.Statement.{statement}
+use Rattle.tariff.proofs.terms.term_of.Tie as tie
 
 returns : tie.Need-returns
 returns c = sym (term-none _ (c .if1 .taken))

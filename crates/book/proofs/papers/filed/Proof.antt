@@ -1,11 +1,11 @@
--- `book::nominate::filed` meets its contract. Assumes nothing.
+-- `book::papers::filed` meets its contract. Assumes nothing.
 use mathlib.Core.Path.{sym, _∙_}
 use native.Mathlib.Omega.{arith}
 use Rattle.tariff.specs.Evidence.{noEntry}
 use Rattle.book.proofs.CellLaws.{cell-below, read-cell, read-none}
 use borrow.Author.Needs.{needs}
-use Rattle.book.proofs.nominate.filed.Statement.{statement}
-use Rattle.book.proofs.nominate.filed.Tie as tie
+use Rattle.book.proofs.papers.filed.Statement.{statement}
+use Rattle.book.proofs.papers.filed.Tie as tie
 
 has-cell-requires : tie.Need-has-cell-requires
 has-cell-requires c κs = search needs

@@ -1,8 +1,8 @@
--- `book::nominate::draws_on_same` meets its contract. Assumes nothing.
+-- `book::verification::draws_on_same` meets its contract. Assumes nothing.
 use Rattle.book.proofs.DrawnLaws.{same-drawn}
 use borrow.Author.Needs.{needs}
-use Rattle.book.proofs.nominate.draws_on_same.Statement.{statement}
-use Rattle.book.proofs.nominate.draws_on_same.Tie as tie
+use Rattle.book.proofs.verification.draws_on_same.Statement.{statement}
+use Rattle.book.proofs.verification.draws_on_same.Tie as tie
 
 term-of-requires : tie.Need-term-of-requires
 term-of-requires c κs = search needs

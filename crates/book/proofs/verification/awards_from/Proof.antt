@@ -1,12 +1,12 @@
--- `book::nominate::awards_from` meets its contract. Assumes nothing.
+-- `book::verification::awards_from` meets its contract. Assumes nothing.
 use native.Mathlib.Omega.{arith}
 use Rattle.book.specs.Handed.{openedWith}
 use Rattle.book.proofs.ReachedLaws.{reached-counts}
 use Rattle.book.proofs.ReachedFigures.{awards-fit}
 use Rattle.book.specs.Reading.{tiersIn, ledgerOf}
 use borrow.Author.Needs.{needs}
-use Rattle.book.proofs.nominate.awards_from.Statement.{statement}
-use Rattle.book.proofs.nominate.awards_from.Tie as tie
+use Rattle.book.proofs.verification.awards_from.Statement.{statement}
+use Rattle.book.proofs.verification.awards_from.Tie as tie
 
 sum-from-source-requires : tie.Need-sum-from-source-requires
 sum-from-source-requires c κs =

@@ -1,10 +1,10 @@
--- `book::limits::carried_month` meets its contract. Assumes nothing.
+-- `tariff::terms::carried_month` meets its contract. Assumes nothing.
 use mathlib.Core.Path.{sym, ap}
 use mathlib.Core.Bool.{cond}
 use borrow.Author.Tests.{eq-eqb, ne-eqb}
 use Rattle.tariff.specs.Terms.{carriedMonth}
-use Rattle.book.proofs.limits.carried_month.Statement.{statement}
-use Rattle.book.proofs.limits.carried_month.Tie as tie
+use Rattle.tariff.proofs.terms.carried_month.Statement.{statement}
+use Rattle.tariff.proofs.terms.carried_month.Tie as tie
 
 returns : tie.Need-returns
 unfolding carriedMonth

@@ -1,12 +1,12 @@
--- `book::nominate::nominated_from` meets its contract. Assumes nothing.
+-- `book::verification::nominated_from` meets its contract. Assumes nothing.
 use native.Mathlib.Omega.{arith}
 use Rattle.book.specs.Handed.{openedWith}
 use Rattle.book.proofs.ReachedLaws.{reached-counts}
 use Rattle.book.proofs.ReachedFigures.{nominated-fits}
 use Rattle.book.proofs.DrawnLaws.{nominated-source}
 use borrow.Author.Needs.{needs}
-use Rattle.book.proofs.nominate.nominated_from.Statement.{statement}
-use Rattle.book.proofs.nominate.nominated_from.Tie as tie
+use Rattle.book.proofs.verification.nominated_from.Statement.{statement}
+use Rattle.book.proofs.verification.nominated_from.Tie as tie
 
 sum-from-source-requires : tie.Need-sum-from-source-requires
 sum-from-source-requires c κs =
