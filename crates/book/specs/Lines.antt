@@ -4,7 +4,7 @@ use mathlib.Core.Bool.{Bool, cond, _&&_, _||_}
 use mathlib.Core.List.{List}
 use lib.ListN.{length, getD}
 use lib.Dec.{eqb}
-use Rattle.tariff.specs.Ranges.{wrongClassLine}
+use Rattle.tariff.specs.Ranges.{wrongClassFields}
 use Rattle.tariff.specs.Netting.{classLinesOf, nettingOf}
 use Rattle.ledger.specs.Opening.{Opening, holderKind}
 use Rattle.ledger.specs.Ranges.{noHolder}
@@ -22,7 +22,7 @@ strangerAt o froms tos k = noHolder o (getD froms k 0) || noHolder o (getD tos k
 
 -- a line with a field outside its range
 unfoldable pub wrongLineAt : List ℕ → List ℕ → List ℕ → ℕ → Bool
-wrongLineAt classes customers watts k = wrongClassLine (record { from = 0; to = 0; class = getD classes k 0; customers = getD customers k 0; watts = getD watts k 0 })
+wrongLineAt classes customers watts k = wrongClassFields (getD classes k 0) (getD customers k 0) (getD watts k 0)
 
 -- a line from a holder to itself, or with a holder outside the balancing area
 unfoldable pub outsiderAt : Opening → List ℕ → List ℕ → ℕ → Bool

@@ -13,13 +13,13 @@ use crate::refusals::wrong_term;
 use crate::setup::Setup;
 use tariff::migration::given_by;
 use tariff::migration::net_lines;
+use tariff::migration::wrong_class_fields;
 ghost use mathlib.Core.Path.{_≡_};
 ghost use mathlib.Core.Bool.{_||_};
 ghost use Prim.Native.Nat.{ℕ, _^_, _<_, _≤_};
 ghost use lib.ListN.{length};
 ghost use lib.Dec.{ltb, eqb};
 ghost use Rattle.tariff.specs.Sum.{sumTo, anyBelow};
-ghost use Rattle.tariff.specs.Ranges.{wrongClassLine};
 ghost use Rattle.tariff.specs.Netting.{pairAt, holderAt, classLinesOf, SameLengths};
 ghost use Rattle.ledger.specs.Opening.{holderKind};
 ghost use Rattle.ledger.specs.Ranges.{noHolder};
@@ -68,13 +68,6 @@ fn any_stranger(setup: Setup, froms: &[u64], tos: &[u64]) -> bool
     false
 }
 
-// A line with a field outside its range: class 1 to 8, customers and average watts up to 9,999,999.
-fn wrong_line(class: u64, customers: u64, watts: u64) -> bool
-    ensures { λ r. ⌜ r ≡ wrongClassLine (record { from = 0; to = 0; class = class; customers = customers; watts = watts }) ⌝ }
-{
-    !((1 <= class) & (class <= 8)) | (9_999_999 < customers) | (9_999_999 < watts)
-}
-
 // Whether some line has a field outside its range.
 fn any_wrong_line(classes: &[u64], customers: &[u64], watts: &[u64]) -> bool
     requires { ⌜ (length (now customers) ≡ length (now classes)) × (length (now watts) ≡ length (now classes)) ⌝ }
@@ -82,7 +75,7 @@ fn any_wrong_line(classes: &[u64], customers: &[u64], watts: &[u64]) -> bool
 {
     let mut k = 0;
     while k < classes.len() {
-        if wrong_line(classes[k], customers[k], watts[k]) {
+        if wrong_class_fields(classes[k], customers[k], watts[k]) {
             return true;
         }
         k += 1;

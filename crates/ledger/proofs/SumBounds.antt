@@ -19,7 +19,7 @@ use Rattle.ledger.specs.Opening.{Opening, endsAt, comesFrom, legal}
 use Rattle.ledger.specs.Call.{Call}
 use Rattle.ledger.specs.Limits.{sumAtBase, longTermAt, priorYearAt, awardsAt, nominatedAt}
 use Rattle.ledger.specs.Verification.{sumFromSource, verifiedKw}
-use Rattle.tariff.specs.Ranges.{mostKw, within, wrongClassLine}
+use Rattle.tariff.specs.Ranges.{mostKw, within, wrongClassLine, wrongClassFields}
 use Rattle.ledger.specs.Season.{after, held, net}
 use Rattle.ledger.proofs.Conserved.{carriedSum, awardedSum}
 use Rattle.ledger.proofs.TierBounds.{nominatedSum}
@@ -38,7 +38,7 @@ module _ {A : Type 0} (bad : A → Bool) (f : A → ℕ) (most : ℕ) (each : (x
 
 -- the products of at most 64 class lines in range, summed one way between two holders
 pub watts-fit : (lines : List ClassLine) (i j : ℕ) → length lines ≤ 64 → anyOf lines wrongClassLine ≡ false → wattsOneWay lines i j ≤ 64 * (9999999 * 9999999)
-unfolding wattsOneWay wrongClassLine
+unfolding wattsOneWay wrongClassLine wrongClassFields
 watts-fit lines i j few e =
     le-trans (lines-bound wrongClassLine (λ l. countIf (eqb (l .from) i && eqb (l .to) j) (l .customers * l .watts)) (9999999 * 9999999) product lines e)
     (mul-le-mul-right (9999999 * 9999999) few)

@@ -1,22 +1,22 @@
 -- Class lines that are fit to be netted: the tests of the code, and the facts behind them. Assumes nothing.
 use Prim.Native.Nat.{ℕ, _≤_, _<_}
 use mathlib.Core.Path.{_≡_, sym, ap, _∙_}
-use mathlib.Core.Bool.{Bool, true, false, not, _&&_, and-assoc}
+use mathlib.Core.Bool.{Bool, true, false, not, _&&_}
 use mathlib.Core.List.{List}
 use native.Mathlib.Omega.{arith}
 use lib.ListN.{length}
 use lib.Dec.{leb, ltb, eqb}
 use borrow.Author.Tests.{eqb-true}
 use Rattle.tariff.specs.Sum.{anyBelow, anyOf}
-use Rattle.tariff.specs.Ranges.{within, wrongClassLine}
+use Rattle.tariff.specs.Ranges.{wrongClassLine, wrongClassFields}
 use Rattle.tariff.specs.Netting.{SameLengths, classLineAt, classLinesOf, unfitLine, linesFit}
-use Rattle.tariff.proofs.Tests.{any-at, and-both, not-or, not-not, not-ltb, not-leb}
+use Rattle.tariff.proofs.Tests.{any-at, and-both, not-or, not-leb}
 use Rattle.tariff.proofs.Lists.{any-list-to}
 
 -- the tests on one line, as the code joins them, are those of the definition
-pub line-tests : (from to class customers watts : ℕ) → ((ltb from 8 && ltb to 8) && (leb 1 class && leb class 8) && leb customers 9999999 && leb watts 9999999) ≡ not (unfitLine (record { from = from; to = to; class = class; customers = customers; watts = watts }))
-unfolding unfitLine wrongClassLine within
-line-tests from to class customers watts = simp (not-or, not-not, not-ltb, not-leb, and-assoc)
+pub line-tests : (from to class customers watts : ℕ) → ((ltb from 8 && ltb to 8) && not (wrongClassFields class customers watts)) ≡ not (unfitLine (record { from = from; to = to; class = class; customers = customers; watts = watts }))
+unfolding unfitLine wrongClassLine
+line-tests from to class customers watts = simp (not-or, not-leb)
 
 module _ (froms tos classes customers watts : List ℕ) where
   -- the test on the lines, line by line

@@ -10,7 +10,7 @@ use Rattle.tariff.specs.declared.migration.ClassLine.{ClassLine}
 use Rattle.tariff.specs.declared.migration.Netting.{Netting}
 use Rattle.tariff.specs.Sum.{countIf, anyOf}
 use Rattle.tariff.specs.Migration.{wattsOneWay, netted}
-use Rattle.tariff.specs.Ranges.{within, wrongClassLine}
+use Rattle.tariff.specs.Ranges.{within, wrongClassLine, wrongClassFields}
 use Rattle.tariff.specs.Netting.{pairAt, pairCells, Summable, classLineAt, classLinesOf, unfitLine, linesFit, wattsTo, nettingOf}
 use Rattle.tariff.proofs.Tests.{or-unmet, and-both, none-below}
 use Rattle.tariff.proofs.Lists.{sum-list-to, list-is}
@@ -19,7 +19,7 @@ use Rattle.tariff.proofs.Pairs.{HoldsWatts, same-cells}
 
 -- what is known of a line that is not unfit
 line-facts : (l : ClassLine) → unfitLine l ≡ false → (l .from < 8) × (l .to < 8) × (l .customers ≤ 9999999) × (l .watts ≤ 9999999)
-unfolding unfitLine wrongClassLine
+unfolding unfitLine wrongClassLine wrongClassFields
 line-facts l e =
     let range = or-unmet (leb 8 (l .from) || leb 8 (l .to)) (not (within 1 8 (l .class)) || ltb 9999999 (l .customers) || ltb 9999999 (l .watts)) e in
     let holders = or-unmet (leb 8 (l .from)) (leb 8 (l .to)) (range .0) in

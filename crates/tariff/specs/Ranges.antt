@@ -33,5 +33,8 @@ wrongEvidence kind capacity right first last =
     || ltb last first
 
 -- a class line: class 1 to 8, customers and average watts up to 9,999,999
+unfoldable pub wrongClassFields : ℕ → ℕ → ℕ → Bool
+wrongClassFields class customers watts = not (within 1 8 class) || ltb 9999999 customers || ltb 9999999 watts
+
 unfoldable pub wrongClassLine : ClassLine → Bool
-wrongClassLine l = not (within 1 8 (l .class)) || ltb 9999999 (l .customers) || ltb 9999999 (l .watts)
+wrongClassLine l = wrongClassFields (l .class) (l .customers) (l .watts)

@@ -5,6 +5,7 @@ ghost use Prim.Native.Nat.{ℕ, _+_, _-_, _*_, _^_, _/_, _<_, _≤_};
 ghost use lib.ListN.{length, set};
 ghost use Rattle.tariff.specs.Sum.{anyOf, sumTo};
 ghost use Rattle.tariff.specs.Migration.{share};
+ghost use Rattle.tariff.specs.Ranges.{wrongClassFields};
 ghost use Rattle.tariff.specs.Netting.{SameLengths, Summable, pairAt, pairCells, nettingOf, classLinesOf, unfitLine, linesFit, wattsTo, ProductsFit, PartsFit, shareCells, shiftedCells};
 use crate::limit::less;
 
@@ -23,13 +24,19 @@ pub struct Netting {
     pub m: [u64; 64],
 }
 
-// A line that can be netted: holders below 8, class 1 to 8, customers and watts up to 9,999,999.
+// A line with a field outside its range: class 1 to 8, customers and average watts up to 9,999,999.
+pub fn wrong_class_fields(class: u64, customers: u64, watts: u64) -> bool
+    ensures { λ r. ⌜ r ≡ wrongClassFields class customers watts ⌝ }
+{
+    !((1 <= class) & (class <= 8)) | (9_999_999 < customers) | (9_999_999 < watts)
+}
+
+// A line that can be netted: holders below 8, and every field in its range.
 fn line_fits(from: u64, to: u64, class: u64, customers: u64, watts: u64) -> bool
     ensures { λ r. ⌜ r ≡ not (unfitLine (record { from = from; to = to; class = class; customers = customers; watts = watts })) ⌝ }
 {
     let holders = (from < 8) & (to < 8);
-    let class_fits = (1 <= class) & (class <= 8);
-    holders & class_fits & (customers <= 9_999_999) & (watts <= 9_999_999)
+    holders & !wrong_class_fields(class, customers, watts)
 }
 
 // Whether every one of n lines can be netted.

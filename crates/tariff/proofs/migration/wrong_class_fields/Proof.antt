@@ -1,0 +1,12 @@
+-- `tariff::migration::wrong_class_fields` meets its contract: the tests are those of the definition. Assumes nothing.
+use mathlib.Core.Path.{refl}
+use Rattle.tariff.specs.Ranges.{within, wrongClassFields}
+use Rattle.tariff.proofs.migration.wrong_class_fields.Statement.{statement}
+use Rattle.tariff.proofs.migration.wrong_class_fields.Tie as tie
+
+returns : tie.Need-returns
+unfolding wrongClassFields within
+returns c = refl
+
+pub wrong-class-fields-spec : {M : Type 1} → statement M
+wrong-class-fields-spec = tie.close (tie.spec returns)
