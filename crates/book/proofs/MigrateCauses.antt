@@ -7,17 +7,18 @@ use mathlib.Core.Logic.{_⊎_, inl, inr}
 use native.Mathlib.Nat.{le-trans, le-of-eq, le-refl, le-suc, div-le-self}
 use native.Mathlib.Omega.{arith}
 use lib.ListN.{length}
-use lib.Dec.{leb, ltb, eqb}
-use borrow.Author.Tests.{leb-true, leb-false, le-leb, lt-leb, ltb-false, eq-eqb, not-true}
+use lib.Dec.{leb, ltb}
+use borrow.Author.Tests.{leb-true, leb-false, le-leb, lt-leb, ltb-false, not-true}
 use Rattle.tariff.specs.declared.migration.ClassLine.{ClassLine}
 use Rattle.tariff.specs.Sum.{sumTo, anyBelow, anyOf}
 use Rattle.tariff.specs.Ranges.{wrongTerm, wrongClassLine}
 use Rattle.tariff.specs.Migration.{netted, lostBy, wattsOneWay}
-use Rattle.tariff.specs.Netting.{pairAt, holderAt, classLineAt, classLinesOf, unfitLine, linesFit, nettingOf, SameLengths}
+use Rattle.tariff.specs.Netting.{sameCounts, pairAt, holderAt, classLineAt, classLinesOf, unfitLine, linesFit, nettingOf, SameLengths}
 use Rattle.tariff.proofs.Sums.{sum-ext, sum-bound}
 use Rattle.tariff.proofs.Tests.{or-unmet, and-both, and-join, decided}
 use Rattle.tariff.proofs.Lists.{length-list-to, any-list-to}
 use Rattle.tariff.proofs.Pairs.{pair-of-cells}
+use Rattle.tariff.proofs.FitLines.{counted}
 use Rattle.ledger.specs.Opening.{Opening}
 use Rattle.ledger.specs.Ranges.{noHolder, strangerIn, wrongMigration}
 use Rattle.ledger.specs.Moves.{loadBefore}
@@ -83,7 +84,7 @@ module _ (froms tos classes customers watts : List ℕ) where
   pub lines-fit : (o : Opening) → o .holders ≤ 8 → SameLengths froms tos classes customers watts → strangerIn o lines ≡ false → length froms ≤ 64 → anyOf lines wrongClassLine ≡ false → linesFit froms tos classes customers watts ≡ true
   unfolding linesFit strangerIn noHolder unfitLine
   lines-fit o few same known short right =
-      and-join (and-join (and-join (and-join (and-join (le-leb (length froms) 64 short) (eq-eqb (length tos) (length froms) (same .ofTos))) (eq-eqb (length classes) (length froms) (same .ofClasses))) (eq-eqb (length customers) (length froms) (same .ofCustomers))) (eq-eqb (length watts) (length froms) (same .ofWatts)))
+      and-join (and-join (le-leb (length froms) 64 short) (counted froms tos classes customers watts same))
       (ap not (any-none lines (λ l. noHolder o (l .from) || noHolder o (l .to)) wrongClassLine unfitLine fit known right))
     where
       fit : (l : ClassLine) → (leb (o .holders) (l .from) || leb (o .holders) (l .to)) ≡ false → wrongClassLine l ≡ false → (leb 8 (l .from) || leb 8 (l .to) || wrongClassLine l) ≡ false
@@ -108,8 +109,8 @@ module _ (froms tos classes customers watts : List ℕ) where
     where
       go : (linesFit froms tos classes customers watts ≡ true) ⊎ (linesFit froms tos classes customers watts ≡ false) → cond (linesFit froms tos classes customers watts) (netted lines i j) 0 ≤ 64 * (9999999 * 9999999)
       go (inl e) =
-          let both = and-both (leb (length froms) 64 && eqb (length tos) (length froms) && eqb (length classes) (length froms) && eqb (length customers) (length froms) && eqb (length watts) (length froms)) (not (anyOf lines unfitLine)) e in
-          let short = leb-true (length froms) 64 (and-both _ (eqb (length tos) (length froms)) (and-both _ (eqb (length classes) (length froms)) (and-both _ (eqb (length customers) (length froms)) (and-both _ (eqb (length watts) (length froms)) (both .0) .0) .0) .0) .0) in
+          let both = and-both (leb (length froms) 64 && sameCounts froms tos classes customers watts) (not (anyOf lines unfitLine)) e in
+          let short = leb-true (length froms) 64 (and-both (leb (length froms) 64) (sameCounts froms tos classes customers watts) (both .0) .0) in
           let none = not-true (anyOf lines unfitLine) (both .1) in
           let right = any-none lines unfitLine unfitLine wrongClassLine (λ l a b. or-unmet (leb 8 (l .from) || leb 8 (l .to)) (wrongClassLine l) a .1) none none in
           let all = watts-fit lines i j (le-trans (le-of-eq line-count) short) right in

@@ -9,8 +9,9 @@ use borrow.Author.Tests.{not-true, not-false}
 use Rattle.tariff.specs.Sum.{sumTo, anyBelow}
 use Rattle.tariff.specs.Terms.{firstTierOf}
 use Rattle.tariff.specs.Ranges.{wrongTerm}
-use Rattle.tariff.specs.Netting.{pairAt, holderAt, classLinesOf, SameLengths}
+use Rattle.tariff.specs.Netting.{sameCounts, pairAt, holderAt, classLinesOf, SameLengths}
 use Rattle.tariff.proofs.Tests.{or-unmet}
+use Rattle.tariff.proofs.FitLines.{same-lengths}
 use Rattle.ledger.specs.Ranges.{noSink}
 use Rattle.ledger.specs.Calendar.{tierIsOpen, beforeTier, migrationInTime}
 use Rattle.ledger.specs.Call.{migrate}
@@ -25,12 +26,12 @@ use Rattle.book.specs.Reading.{tiersIn, ledgerOf}
 use Rattle.book.specs.Handed.{openedWith}
 use Rattle.book.specs.Reached.{Reached}
 use Rattle.book.specs.Columns.{bookMoved, Moves}
-use Rattle.book.specs.Lines.{strangerAt, wrongLineAt, outsiderAt, sameCounts, movedBy, handedLines}
+use Rattle.book.specs.Lines.{strangerAt, wrongLineAt, outsiderAt, movedBy, handedLines}
 use Rattle.book.proofs.CauseLaws.{link, link-unless, no-more}
 use Rattle.book.proofs.HandedLaws.{accepted-test, handed-refused, handed-accepted}
 use Rattle.book.proofs.ReachedLaws.{reached-counts, reached-shaped}
 use Rattle.book.proofs.MigrateCauses.{stranger-cause, outsider-cause, range-cause, in-range, lines-fit, loss-cause}
-use Rattle.book.proofs.MigrateLaws.{migration-moves, migrate-book, handed-uneven, handed-even, counts-same}
+use Rattle.book.proofs.MigrateLaws.{migration-moves, migrate-book, handed-uneven, handed-even}
 
 module _ (b : Book) (term sink : ℕ) (froms tos classes customers watts : List ℕ) where
   -- the tests of the code, in the order of the causes
@@ -66,7 +67,7 @@ module _ (b : Book) (term sink : ℕ) (froms tos classes customers watts : List 
       counts = sym counted ∙ not-false even equal
 
       pub refusal-needs : (x : Moved) → x ≡ movedBy b term sink froms tos classes customers watts → (b .setup .holders ≤ 8) × SameLengths froms tos classes customers watts × (x ≡ movedBy b term sink froms tos classes customers watts)
-      refusal-needs x is = (reached-counts b r .0, counts-same froms tos classes customers watts counts, is)
+      refusal-needs x is = (reached-counts b r .0, same-lengths froms tos classes customers watts counts, is)
 
       module _ (number : ℕ) (found : number ≡ refusal (openedWith b) (ledgerOf b) (migrate term sink (classLinesOf froms tos classes customers watts))) where
         pub lines-refused : (number ≡ 0 → ⊥) → _≡_ {A = Answered} (record { answer = Refused number; book = b }) (handedLines b term sink froms tos classes customers watts)
@@ -77,9 +78,9 @@ module _ (b : Book) (term sink : ℕ) (froms tos classes customers watts : List 
           facts = migrate-facts (openedWith b) (ledgerOf b) term sink (classLinesOf froms tos classes customers watts) (accepted-test b (migrate term sink (classLinesOf froms tos classes customers watts)) number found none)
 
           pub lines-move : Moves b term sink x
-          lines-move = subst (λ y. Moves b term sink y) (sym is) (migration-moves b r term sink froms tos classes customers watts (counts-same froms tos classes customers watts counts) facts)
+          lines-move = subst (λ y. Moves b term sink y) (sym is) (migration-moves b r term sink froms tos classes customers watts (same-lengths froms tos classes customers watts counts) facts)
 
           pub lines-accepted : (next : Book) → next ≡ bookMoved b term sink x → _≡_ {A = Answered} (record { answer = Done; book = next }) (handedLines b term sink froms tos classes customers watts)
           lines-accepted next made =
-              handed-accepted b _ number found next none (migrate-book b r term sink froms tos classes customers watts (counts-same froms tos classes customers watts counts) facts x next is made)
+              handed-accepted b _ number found next none (migrate-book b r term sink froms tos classes customers watts (same-lengths froms tos classes customers watts counts) facts x next is made)
               ∙ handed-even b term sink froms tos classes customers watts counts

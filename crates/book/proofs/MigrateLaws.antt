@@ -6,13 +6,12 @@ use mathlib.Core.List.{List}
 use mathlib.Core.Logic.{_⊎_, inl, inr}
 use native.Mathlib.Nat.{le-trans, le-of-eq}
 use native.Mathlib.Omega.{arith}
-use lib.ListN.{length}
 use lib.Dec.{eqb}
 use borrow.Author.Tests.{eqb-true}
 use Rattle.tariff.specs.declared.migration.ClassLine.{ClassLine}
 use Rattle.tariff.specs.Terms.{hasMonth}
 use Rattle.tariff.specs.Migration.{netted, lostBy, share, shares, shifted}
-use Rattle.tariff.specs.Netting.{pairAt, holderAt, classLinesOf, linesFit, SameLengths}
+use Rattle.tariff.specs.Netting.{sameCounts, pairAt, holderAt, classLinesOf, linesFit, SameLengths}
 use Rattle.tariff.proofs.Sums.{sum-ext}
 use Rattle.tariff.proofs.Tests.{and-both, decided}
 use Rattle.ledger.specs.Opening.{endsAt}
@@ -31,7 +30,7 @@ use Rattle.book.specs.Reading.{loadsIn, loadsOf, rightsIn, rightsOf, pri
 use Rattle.book.specs.Handed.{openedWith, handed}
 use Rattle.book.specs.Reached.{Reached}
 use Rattle.book.specs.Columns.{changedWhere, columnMoved, Movable, loadsMoved, rightsMoved, priorsMoved, bookMoved, Moves}
-use Rattle.book.specs.Lines.{sameCounts, movedBy, handedLines}
+use Rattle.book.specs.Lines.{movedBy, handedLines}
 use Rattle.book.proofs.CellLaws.{cell-facts, cells-ext}
 use Rattle.book.proofs.Parts.{papers-back, tiers-back}
 use Rattle.book.proofs.ReachedLaws.{reached-counts, reached-shaped}
@@ -146,11 +145,3 @@ module _ (b : Book) (term sink : ℕ) (froms tos classes customers watts : List 
   pub handed-even : sameCounts froms tos classes customers watts ≡ true → handed b (migrate term sink (classLinesOf froms tos classes customers watts)) ≡ handedLines b term sink froms tos classes customers watts
   unfolding handedLines
   handed-even e = sym (ap (λ t. cond t (handed b (migrate term sink (classLinesOf froms tos classes customers watts))) (record { answer = Refused 1; book = b })) e)
-
-pub counts-same : (froms tos classes customers watts : List ℕ) → sameCounts froms tos classes customers watts ≡ true → SameLengths froms tos classes customers watts
-unfolding sameCounts
-counts-same froms tos classes customers watts e =
-    let three = and-both _ (eqb (length watts) (length froms)) e in
-    let two = and-both _ (eqb (length customers) (length froms)) (three .0) in
-    let one = and-both (eqb (length tos) (length froms)) (eqb (length classes) (length froms)) (two .0) in
-    record { ofTos = eqb-true _ _ (one .0); ofClasses = eqb-true _ _ (one .1); ofCustomers = eqb-true _ _ (two .1); ofWatts = eqb-true _ _ (three .1) }

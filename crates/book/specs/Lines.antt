@@ -1,11 +1,11 @@
 -- Class lines whose fields stand in five slices: the tests on each, what they move, and what a migration of them hands back.
 use Prim.Native.Nat.{ℕ}
-use mathlib.Core.Bool.{Bool, cond, _&&_, _||_}
+use mathlib.Core.Bool.{Bool, cond, _||_}
 use mathlib.Core.List.{List}
-use lib.ListN.{length, getD}
+use lib.ListN.{getD}
 use lib.Dec.{eqb}
 use Rattle.tariff.specs.Ranges.{wrongClassFields}
-use Rattle.tariff.specs.Netting.{classLinesOf, nettingOf}
+use Rattle.tariff.specs.Netting.{classLinesOf, sameCounts, nettingOf}
 use Rattle.ledger.specs.Opening.{Opening, holderKind}
 use Rattle.ledger.specs.Ranges.{noHolder}
 use Rattle.ledger.specs.Call.{migrate}
@@ -27,11 +27,6 @@ wrongLineAt classes customers watts k = wrongClassFields (getD classes k 0) (get
 -- a line from a holder to itself, or with a holder outside the balancing area
 unfoldable pub outsiderAt : Opening → List ℕ → List ℕ → ℕ → Bool
 outsiderAt o froms tos k = eqb (getD froms k 0) (getD tos k 0) || eqb (holderKind o (getD froms k 0)) 2 || eqb (holderKind o (getD tos k 0)) 2
-
--- each slice has as many numbers as the first
-unfoldable pub sameCounts : List ℕ → List ℕ → List ℕ → List ℕ → List ℕ → Bool
-sameCounts froms tos classes customers watts =
-    eqb (length tos) (length froms) && eqb (length classes) (length froms) && eqb (length customers) (length froms) && eqb (length watts) (length froms)
 
 -- what a migration moves: the m of each pair, and the loads at the sink and term before it
 unfoldable pub movedBy : Book → ℕ → ℕ → List ℕ → List ℕ → List ℕ → List ℕ → List ℕ → Moved

@@ -13,6 +13,7 @@ use crate::refusals::wrong_term;
 use crate::setup::Setup;
 use tariff::migration::given_by;
 use tariff::migration::net_lines;
+use tariff::migration::same_counts;
 use tariff::migration::wrong_class_fields;
 ghost use mathlib.Core.Path.{_≡_};
 ghost use mathlib.Core.Bool.{_||_};
@@ -30,21 +31,7 @@ ghost use Rattle.book.specs.Reading.{ledgerOf};
 ghost use Rattle.book.specs.Handed.{openedWith};
 ghost use Rattle.book.specs.Columns.{Moves, bookMoved};
 ghost use Rattle.book.specs.Reached.{Reached};
-ghost use Rattle.book.specs.Lines.{strangerAt, wrongLineAt, outsiderAt, sameCounts, movedBy, handedLines};
-
-// Whether each slice has as many numbers as the first.
-fn same_counts(
-    froms: &[u64],
-    tos: &[u64],
-    classes: &[u64],
-    customers: &[u64],
-    watts: &[u64],
-) -> bool
-    ensures { λ r. ⌜ r ≡ sameCounts (now (froms .entry)) (now (tos .entry)) (now (classes .entry)) (now (customers .entry)) (now (watts .entry)) ⌝ }
-{
-    let n = froms.len();
-    (tos.len() == n) & (classes.len() == n) & (customers.len() == n) & (watts.len() == n)
-}
+ghost use Rattle.book.specs.Lines.{strangerAt, wrongLineAt, outsiderAt, movedBy, handedLines};
 
 // A line that names a holder who is not in the book.
 fn names_stranger(setup: Setup, from: u64, to: u64) -> bool

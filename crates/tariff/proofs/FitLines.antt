@@ -6,11 +6,11 @@ use mathlib.Core.List.{List}
 use native.Mathlib.Omega.{arith}
 use lib.ListN.{length}
 use lib.Dec.{leb, ltb, eqb}
-use borrow.Author.Tests.{eqb-true}
+use borrow.Author.Tests.{eq-eqb, eqb-true}
 use Rattle.tariff.specs.Sum.{anyBelow, anyOf}
 use Rattle.tariff.specs.Ranges.{wrongClassLine, wrongClassFields}
-use Rattle.tariff.specs.Netting.{SameLengths, classLineAt, classLinesOf, unfitLine, linesFit}
-use Rattle.tariff.proofs.Tests.{any-at, and-both, not-or, not-leb}
+use Rattle.tariff.specs.Netting.{sameCounts, SameLengths, classLineAt, classLinesOf, unfitLine, linesFit}
+use Rattle.tariff.proofs.Tests.{and-join, any-at, and-both, not-or, not-leb}
 use Rattle.tariff.proofs.Lists.{any-list-to}
 
 -- the tests on one line, as the code joins them, are those of the definition
@@ -35,15 +35,25 @@ module _ (froms tos classes customers watts : List ℕ) where
 
   -- the tests on the lengths
   abbrev pub lengthTests : Bool
-  lengthTests = leb (length froms) 64 && eqb (length tos) (length froms) && eqb (length classes) (length froms) && eqb (length customers) (length froms) && eqb (length watts) (length froms)
+  lengthTests = leb (length froms) 64 && sameCounts froms tos classes customers watts
 
-  pub same-lengths : lengthTests ≡ true → SameLengths froms tos classes customers watts
+  pub same-lengths : sameCounts froms tos classes customers watts ≡ true → SameLengths froms tos classes customers watts
+  unfolding sameCounts
   same-lengths e =
-      let four = and-both _ _ e in
-      let three = and-both _ _ (four .0) in
-      let two = and-both _ _ (three .0) in
-      let one = and-both (leb (length froms) 64) (eqb (length tos) (length froms)) (two .0) in
-      record { ofTos = eqb-true _ _ (one .1); ofClasses = eqb-true _ _ (two .1); ofCustomers = eqb-true _ _ (three .1); ofWatts = eqb-true _ _ (four .1) }
+      let three = and-both _ (eqb (length watts) (length froms)) e in
+      let two = and-both _ (eqb (length customers) (length froms)) (three .0) in
+      let one = and-both (eqb (length tos) (length froms)) (eqb (length classes) (length froms)) (two .0) in
+      record { ofTos = eqb-true _ _ (one .0); ofClasses = eqb-true _ _ (one .1); ofCustomers = eqb-true _ _ (two .1); ofWatts = eqb-true _ _ (three .1) }
+
+  pub counted : SameLengths froms tos classes customers watts → sameCounts froms tos classes customers watts ≡ true
+  unfolding sameCounts
+  counted same = and-join (and-join (and-join (eq-eqb (length tos) (length froms) (same .ofTos)) (eq-eqb (length classes) (length froms) (same .ofClasses))) (eq-eqb (length customers) (length froms) (same .ofCustomers))) (eq-eqb (length watts) (length froms) (same .ofWatts))
+
+  pub by-counts : (same t : Bool) → same ≡ sameCounts froms tos classes customers watts → (leb (length froms) 64 && same) ≡ t → lengthTests ≡ t
+  by-counts same t e q = ap (λ b. leb (length froms) 64 && b) (sym e) ∙ q
+
+  pub lengths-by-counts : (same : Bool) → same ≡ sameCounts froms tos classes customers watts → (leb (length froms) 64 && same) ≡ true → SameLengths froms tos classes customers watts
+  lengths-by-counts same e q = same-lengths (and-both (leb (length froms) 64) (sameCounts froms tos classes customers watts) (by-counts same true e q) .1)
 
   pub fit-by-lines : (all : Bool) → lengthTests ≡ true → all ≡ not (anyOf (classLinesOf froms tos classes customers watts) unfitLine) → all ≡ linesFit froms tos classes customers watts
   unfolding linesFit

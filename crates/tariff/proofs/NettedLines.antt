@@ -11,7 +11,7 @@ use Rattle.tariff.specs.declared.migration.Netting.{Netting}
 use Rattle.tariff.specs.Sum.{countIf, anyOf}
 use Rattle.tariff.specs.Migration.{wattsOneWay, netted}
 use Rattle.tariff.specs.Ranges.{within, wrongClassLine, wrongClassFields}
-use Rattle.tariff.specs.Netting.{pairAt, pairCells, Summable, classLineAt, classLinesOf, unfitLine, linesFit, wattsTo, nettingOf}
+use Rattle.tariff.specs.Netting.{sameCounts, pairAt, pairCells, Summable, classLineAt, classLinesOf, unfitLine, linesFit, wattsTo, nettingOf}
 use Rattle.tariff.proofs.Tests.{or-unmet, and-both, none-below}
 use Rattle.tariff.proofs.Lists.{sum-list-to, list-is}
 use Rattle.tariff.proofs.FitLines.{unfitAt, any-unfit, lengthTests, same-lengths}
@@ -33,11 +33,12 @@ module _ (froms tos classes customers watts : List ℕ) where
   unfolding linesFit
   summable e =
       let both = and-both (lengthTests froms tos classes customers watts) (not (anyOf (classLinesOf froms tos classes customers watts) unfitLine)) e in
-      let same = same-lengths froms tos classes customers watts (both .0) in
+      let counted = and-both (leb (length froms) 64) (sameCounts froms tos classes customers watts) (both .0) in
+      let same = same-lengths froms tos classes customers watts (counted .1) in
       let none : (k : ℕ) → k < length froms → unfitAt froms tos classes customers watts k ≡ false =
       none-below (length froms) (unfitAt froms tos classes customers watts) (sym (any-unfit froms tos classes customers watts) ∙ not-true (anyOf (classLinesOf froms tos classes customers watts) unfitLine) (both .1)) in
       record {
-        few = leb-true (length froms) 64 (and-both _ (eqb (length tos) (length froms)) (and-both _ (eqb (length classes) (length froms)) (and-both _ (eqb (length customers) (length froms)) (and-both _ (eqb (length watts) (length froms)) (both .0) .0) .0) .0) .0);
+        few = leb-true (length froms) 64 (counted .0);
         ofTos = same .ofTos;
         ofCustomers = same .ofCustomers;
         ofWatts = same .ofWatts;

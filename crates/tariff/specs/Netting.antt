@@ -43,14 +43,18 @@ pub record SameLengths (froms tos classes customers watts : List ℕ) : Type 0 w
   pub ofCustomers : length customers ≡ length froms
   pub ofWatts : length watts ≡ length froms
 
+unfoldable pub sameCounts : List ℕ → List ℕ → List ℕ → List ℕ → List ℕ → Bool
+sameCounts froms tos classes customers watts =
+    eqb (length tos) (length froms)
+    && eqb (length classes) (length froms)
+    && eqb (length customers) (length froms)
+    && eqb (length watts) (length froms)
+
 -- at most 64 lines, each list as long as the first, and no unfit line
 unfoldable pub linesFit : List ℕ → List ℕ → List ℕ → List ℕ → List ℕ → Bool
 linesFit froms tos classes customers watts =
     leb (length froms) 64
-    && eqb (length tos) (length froms)
-    && eqb (length classes) (length froms)
-    && eqb (length customers) (length froms)
-    && eqb (length watts) (length froms)
+    && sameCounts froms tos classes customers watts
     && not (anyOf (classLinesOf froms tos classes customers watts) unfitLine)
 
 -- lines whose products can be summed: what is known of lines that are fit

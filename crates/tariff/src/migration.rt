@@ -6,7 +6,7 @@ ghost use lib.ListN.{length, set};
 ghost use Rattle.tariff.specs.Sum.{anyOf, sumTo};
 ghost use Rattle.tariff.specs.Migration.{share};
 ghost use Rattle.tariff.specs.Ranges.{wrongClassFields};
-ghost use Rattle.tariff.specs.Netting.{SameLengths, Summable, pairAt, pairCells, nettingOf, classLinesOf, unfitLine, linesFit, wattsTo, ProductsFit, PartsFit, shareCells, shiftedCells};
+ghost use Rattle.tariff.specs.Netting.{SameLengths, sameCounts, Summable, pairAt, pairCells, nettingOf, classLinesOf, unfitLine, linesFit, wattsTo, ProductsFit, PartsFit, shareCells, shiftedCells};
 use crate::limit::less;
 
 // One line of a migration: customers of a class who left one supplier for another, and their average watts.
@@ -54,14 +54,26 @@ fn all_fit(froms: &[u64], tos: &[u64], classes: &[u64], customers: &[u64], watts
     true
 }
 
+// Whether each slice has as many numbers as the first.
+pub fn same_counts(
+    froms: &[u64],
+    tos: &[u64],
+    classes: &[u64],
+    customers: &[u64],
+    watts: &[u64],
+) -> bool
+    ensures { λ r. ⌜ r ≡ sameCounts (now (froms .entry)) (now (tos .entry)) (now (classes .entry)) (now (customers .entry)) (now (watts .entry)) ⌝ }
+{
+    let n = froms.len();
+    (tos.len() == n) & (classes.len() == n) & (customers.len() == n) & (watts.len() == n)
+}
+
 // Whether the lines can be netted: at most 64, as many numbers of each field, each line fit.
 fn lines_fit(froms: &[u64], tos: &[u64], classes: &[u64], customers: &[u64], watts: &[u64]) -> bool
     ensures { λ r. ⌜ r ≡ linesFit (now (froms .entry)) (now (tos .entry)) (now (classes .entry)) (now (customers .entry)) (now (watts .entry)) ⌝ }
 {
-    let n = froms.len();
-    let holders = (n <= 64) & (tos.len() == n);
-    let lengths = holders & (classes.len() == n) & (customers.len() == n) & (watts.len() == n);
-    if lengths {
+    let counted = same_counts(froms, tos, classes, customers, watts);
+    if (froms.len() <= 64) & counted {
         return all_fit(froms, tos, classes, customers, watts);
     }
     false

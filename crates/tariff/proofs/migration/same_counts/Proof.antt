@@ -1,0 +1,12 @@
+-- `tariff::migration::same_counts` meets its contract: the tests are those of the definition. Assumes nothing.
+use mathlib.Core.Path.{refl}
+use Rattle.tariff.specs.Netting.{sameCounts}
+use Rattle.tariff.proofs.migration.same_counts.Statement.{statement}
+use Rattle.tariff.proofs.migration.same_counts.Tie as tie
+
+returns : tie.Need-returns
+unfolding sameCounts
+returns c = refl
+
+pub same-counts-spec : {M : Type 1} → statement M
+same-counts-spec = tie.close (tie.spec returns)
