@@ -14,7 +14,8 @@ use Rattle.tariff.proofs.Tests.{and-both, decided}
 use Rattle.tariff.proofs.Lists.{length-list-to, at-list-to}
 use Rattle.ledger.specs.Effects.{same3}
 use Rattle.book.specs.Cells.{cellOf, hasCell, readAt, cellsOf}
-use Rattle.book.specs.Columns.{Flat, HasColumn, columnAt, withColumn, changedWhere}
+use Rattle.ledger.specs.Moves.{movedWhere}
+use Rattle.book.specs.Columns.{Flat, HasColumn, columnAt, withColumn}
 use Rattle.book.proofs.CellLaws.{cell-facts, has-cell, read-none, read-cells, length-cells, cells-ext, array-is, read-stored}
 
 -- what stands in a column
@@ -88,40 +89,40 @@ module _ (width low p k : ℕ) (column cells : List ℕ) where
 module _ (width low : ℕ) (change : (ℕ → ℕ) → ℕ → ℕ) where
   -- an array whose columns were changed where a test passes
   abbrev pub Changed : (ℕ → ℕ → Bool) → List ℕ → List ℕ → Type 0
-  Changed test cells next = next ≡ cellsOf width low (changedWhere test change (readAt width low 0 cells))
+  Changed test cells next = next ≡ cellsOf width low (movedWhere test change (readAt width low 0 cells))
 
   -- a column that was not changed is read as it was
   pub read-changed : (test : ℕ → ℕ → Bool) (cells next : List ℕ) (p k : ℕ) → test p k ≡ false → Changed test cells next → (i : ℕ) → readAt width low 0 next i p k ≡ readAt width low 0 cells i p k
-  unfolding changedWhere
+  unfolding movedWhere
   read-changed test cells next p k off e i = go (decided (hasCell width low i p k))
     where
       go : (hasCell width low i p k ≡ true) ⊎ (hasCell width low i p k ≡ false) → readAt width low 0 next i p k ≡ readAt width low 0 cells i p k
       go (inl here) =
           ap (λ c. readAt width low 0 c i p k) e
-          ∙ read-cells width low 0 (changedWhere test change (readAt width low 0 cells)) i p k here
+          ∙ read-cells width low 0 (movedWhere test change (readAt width low 0 cells)) i p k here
           ∙ ap (λ b. cond b (change (λ n. readAt width low 0 cells n p k) i) (readAt width low 0 cells i p k)) off
       go (inr none) = read-none width low 0 next i p k none ∙ sym (read-none width low 0 cells i p k none)
 
   -- nothing is changed yet
   pub changed-none : (test : ℕ → ℕ → Bool) (cells : List ℕ) → Flat width low cells → ((h p k : ℕ) → hasCell width low h p k ≡ true → test p k ≡ false) → Changed test cells cells
-  unfolding changedWhere
+  unfolding movedWhere
   changed-none test cells flat off =
-      array-is width low 0 cells (changedWhere test change (readAt width low 0 cells)) (flat .some) (flat .sized)
+      array-is width low 0 cells (movedWhere test change (readAt width low 0 cells)) (flat .some) (flat .sized)
       (λ h p k here. sym (ap (λ b. cond b (change (λ n. readAt width low 0 cells n p k) h) (readAt width low 0 cells h p k)) (off h p k here)))
 
   -- the same test, said otherwise
   pub changed-ext : (s t : ℕ → ℕ → Bool) (cells next : List ℕ) → 1 ≤ width → ((h p k : ℕ) → hasCell width low h p k ≡ true → s p k ≡ t p k) → Changed s cells next → Changed t cells next
-  unfolding changedWhere
+  unfolding movedWhere
   changed-ext s t cells next pos same e =
       e
-      ∙ cells-ext width low (changedWhere s change (readAt width low 0 cells)) (changedWhere t change (readAt width low 0 cells)) pos
+      ∙ cells-ext width low (movedWhere s change (readAt width low 0 cells)) (movedWhere t change (readAt width low 0 cells)) pos
       (λ h p k here. ap (λ b. cond b (change (λ n. readAt width low 0 cells n p k) h) (readAt width low 0 cells h p k)) (same h p k here))
 
   -- changed here and then there: no column twice
   pub changed-more : (s t u : ℕ → ℕ → Bool) (cells one two : List ℕ) → 1 ≤ width → ((p k : ℕ) → t p k ≡ true → s p k ≡ false) → ((h p k : ℕ) → hasCell width low h p k ≡ true → (s p k || t p k) ≡ u p k) → Changed s cells one → Changed t one two → Changed u cells two
-  unfolding changedWhere
+  unfolding movedWhere
   changed-more s t u cells one two pos once both first second =
-      second ∙ cells-ext width low (changedWhere t change (readAt width low 0 one)) (changedWhere u change (readAt width low 0 cells)) pos (λ h p k here. go h p k here (decided (t p k)))
+      second ∙ cells-ext width low (movedWhere t change (readAt width low 0 one)) (movedWhere u change (readAt width low 0 cells)) pos (λ h p k here. go h p k here (decided (t p k)))
     where
       value : (h p k : ℕ) → Bool → ℕ
       value h p k b = cond b (change (λ n. readAt width low 0 cells n p k) h) (readAt width low 0 cells h p k)
@@ -134,7 +135,7 @@ module _ (width low : ℕ) (change : (ℕ → ℕ) → ℕ → ℕ) where
       go h p k here (inr off) =
           ap (λ b. cond b (change (λ n. readAt width low 0 one n p k) h) (readAt width low 0 one h p k)) off
           ∙ ap (λ c. readAt width low 0 c h p k) first
-          ∙ read-cells width low 0 (changedWhere s change (readAt width low 0 cells)) h p k here
+          ∙ read-cells width low 0 (movedWhere s change (readAt width low 0 cells)) h p k here
           ∙ ap (value h p k) (sym (or-off (s p k)) ∙ ap (λ b. s p k || b) (sym off) ∙ both h p k here)
         where
           or-off : (a : Bool) → (a || false) ≡ a
@@ -142,11 +143,11 @@ module _ (width low : ℕ) (change : (ℕ → ℕ) → ℕ → ℕ) where
           or-off false = refl
 
 -- a column stored in an array, as a change of that column
-pub column-stored : (width low : ℕ) (change : (ℕ → ℕ) → ℕ → ℕ) (p k : ℕ) (cells next after : List ℕ) → 1 ≤ width → ((h : ℕ) → h < 8 → holderAt next h ≡ change (λ i. readAt width low 0 cells i p k) h) → after ≡ cellsOf width low (withColumn p k (holderAt next) (readAt width low 0 cells)) → after ≡ cellsOf width low (changedWhere (λ q j. eqb q p && eqb j k) change (readAt width low 0 cells))
-unfolding withColumn changedWhere
+pub column-stored : (width low : ℕ) (change : (ℕ → ℕ) → ℕ → ℕ) (p k : ℕ) (cells next after : List ℕ) → 1 ≤ width → ((h : ℕ) → h < 8 → holderAt next h ≡ change (λ i. readAt width low 0 cells i p k) h) → after ≡ cellsOf width low (withColumn p k (holderAt next) (readAt width low 0 cells)) → after ≡ cellsOf width low (movedWhere (λ q j. eqb q p && eqb j k) change (readAt width low 0 cells))
+unfolding withColumn movedWhere
 column-stored width low change p k cells next after pos is e =
     e
-    ∙ cells-ext width low (withColumn p k (holderAt next) (readAt width low 0 cells)) (changedWhere (λ q j. eqb q p && eqb j k) change (readAt width low 0 cells)) pos
+    ∙ cells-ext width low (withColumn p k (holderAt next) (readAt width low 0 cells)) (movedWhere (λ q j. eqb q p && eqb j k) change (readAt width low 0 cells)) pos
     (λ h q j here. go h q j (cell-facts width low h q j here .0) (decided (eqb q p && eqb j k)))
   where
     go : (h q j : ℕ) → h < 8 → ((eqb q p && eqb j k) ≡ true) ⊎ ((eqb q p && eqb j k) ≡ false) → cond (eqb q p && eqb j k) (holderAt next h) (readAt width low 0 cells h q j) ≡ cond (eqb q p && eqb j k) (change (λ i. readAt width low 0 cells i q j) h) (readAt width low 0 cells h q j)

@@ -12,7 +12,7 @@ use Rattle.tariff.specs.Evidence.{noEntry, entryOf}
 use Rattle.ledger.specs.Opening.{Opening, legal, endsAt}
 use Rattle.ledger.specs.Ledger.{Ledger, Loads, Rights, Priors, Papers, Tiers, emptyLedger, withLoads, withRights, withPriors, withPapers, withTiers}
 use Rattle.ledger.specs.Call.{Call, load, carry, prior, verify, migrate, openTier, nominate, award, closeTier}
-use Rattle.ledger.specs.Moves.{loadsAfter, rightsAfter, priorsAfter, migrated}
+use Rattle.ledger.specs.Moves.{movedWhere, loadsAfter, rightsAfter, priorsAfter, migrated}
 use Rattle.ledger.specs.Effects.{afterLoad, afterCarry, afterPrior, afterVerify, afterOpen, afterNominate, awardsAfter, holdingsAfter, afterClose, effect}
 use Rattle.ledger.specs.Season.{accepted, step, after}
 use Rattle.ledger.proofs.Steps.{step-keeps, after-keeps}
@@ -64,7 +64,7 @@ module _ (o : Opening) (ok : legal o ≡ true) (L : Ledger) (k : Confined L) whe
   two-cell h p a b = has-cell 1 0 h p 0 (le-trans a (counts .0)) (le-trans b (counts .3)) zero-le (omega arith)
 
   in-loads : (c : Call) → accepted o L c ≡ true → LoadsInside (effect o L c .loads)
-  unfolding effect withLoads withRights withPriors withPapers withTiers migrated loadsAfter afterLoad
+  unfolding effect withLoads withRights withPriors withPapers withTiers migrated movedWhere loadsAfter afterLoad
   in-loads (load h s term contract n blocks) e =
       let f = load-facts o L h s term contract n blocks e in
       let there = has-cell 4 0 h s term (le-trans (f .holder) (counts .0)) (le-trans (f .sink) (counts .2)) zero-le (let t = f .termInRange in omega arith) in
@@ -79,7 +79,7 @@ module _ (o : Opening) (ok : legal o ≡ true) (L : Ledger) (k : Confined L) whe
   in-loads closeTier e = k .loads
 
   in-rights : (c : Call) → accepted o L c ≡ true → RightsInside (effect o L c .rights)
-  unfolding effect withLoads withRights withPriors withPapers withTiers migrated rightsAfter afterCarry holdingsAfter
+  unfolding effect withLoads withRights withPriors withPapers withTiers migrated movedWhere rightsAfter afterCarry holdingsAfter
   in-rights (load h s term contract n blocks) e = k .rights
   in-rights (carry h p kw) e =
       let f = carry-facts o L h p kw e in

@@ -1,22 +1,20 @@
 -- The book after an accepted migration, and what a migration hands back. Assumes nothing.
 use Prim.Native.Nat.{ℕ, _+_, _-_, _≤_, _<_}
 use mathlib.Core.Path.{_≡_, refl, sym, ap, ap₂, _∙_}
-use mathlib.Core.Bool.{true, false, cond, not, _&&_}
+use mathlib.Core.Bool.{Bool, true, false, cond, not, _&&_}
 use mathlib.Core.List.{List}
-use mathlib.Core.Logic.{_⊎_, inl, inr}
 use native.Mathlib.Nat.{le-trans, le-of-eq}
 use native.Mathlib.Omega.{arith}
 use lib.Dec.{eqb}
-use borrow.Author.Tests.{eqb-true}
 use Rattle.tariff.specs.declared.migration.ClassLine.{ClassLine}
 use Rattle.tariff.specs.Terms.{hasMonth}
 use Rattle.tariff.specs.Migration.{netted, lostBy, share, shares, shifted}
 use Rattle.tariff.specs.Netting.{sameCounts, pairAt, holderAt, classLinesOf, linesFit, SameLengths}
 use Rattle.tariff.proofs.Sums.{sum-ext}
-use Rattle.tariff.proofs.Tests.{and-both, decided}
-use Rattle.ledger.specs.Opening.{endsAt}
+use Rattle.ledger.specs.Opening.{Opening, endsAt}
 use Rattle.ledger.specs.Call.{migrate}
-use Rattle.ledger.specs.Moves.{loadBefore, loadsAfter, columnAfter, rightsAfter, priorsAfter, migrated}
+use Rattle.ledger.specs.Ledger as ledger
+use Rattle.ledger.specs.Moves.{movedWhere, loadsAfter, rightsAfter, priorsAfter, loadBefore, loadAfter, columnAfter, migrated}
 use Rattle.ledger.specs.Effects.{effect}
 use Rattle.ledger.proofs.TierFacts.{MigrateFacts}
 use Rattle.ledger.proofs.Outside.{netted-outside}
@@ -29,7 +27,7 @@ use Rattle.book.specs.Setup.{openingOf}
 use Rattle.book.specs.Reading.{loadsIn, loadsOf, rightsIn, rightsOf, priorsIn, priorsOf, ledgerOf, bookOf}
 use Rattle.book.specs.Handed.{openedWith, handed}
 use Rattle.book.specs.Reached.{Reached}
-use Rattle.book.specs.Columns.{changedWhere, columnMoved, Movable, loadsMoved, rightsMoved, priorsMoved, bookMoved, Moves}
+use Rattle.book.specs.Columns.{columnMoved, Movable, bookMoved, Moves, loadMoved}
 use Rattle.book.specs.Lines.{movedBy, handedLines}
 use Rattle.book.proofs.CellLaws.{cell-facts, cells-ext}
 use Rattle.book.proofs.Parts.{papers-back, tiers-back}
@@ -37,6 +35,37 @@ use Rattle.book.proofs.ReachedLaws.{reached-counts, reached-shaped}
 use Rattle.book.proofs.ReachedColumns.{loads-together, carried-together, awarded-together, allocated-together, renewable-together}
 use Rattle.book.proofs.ColumnLaws.{column-holder}
 use Rattle.book.proofs.MigrateCauses.{line-count, lines-fit, m-of-lines, load-before}
+
+-- two ways to move a column that agree on the eight holders move the same into the arrays
+module _ (term sink : ℕ) (one two : (ℕ → ℕ) → ℕ → ℕ) (alike : (v : ℕ → ℕ) (h : ℕ) → h < 8 → one v h ≡ two v h) where
+  cells-alike : (width low : ℕ) (takesPart : ℕ → ℕ → Bool) (f : ℕ → ℕ → ℕ → ℕ) → 1 ≤ width → cellsOf width low (movedWhere takesPart one f) ≡ cellsOf width low (movedWhere takesPart two f)
+  unfolding movedWhere
+  cells-alike width low takesPart f pos = cells-ext width low (movedWhere takesPart one f) (movedWhere takesPart two f) pos (λ h p k here. ap (λ a. cond (takesPart p k) a (f h p k)) (alike (λ i. f i p k) h (cell-facts width low h p k here .0)))
+
+  loads-alike : (l : ledger.Loads) → loadsOf (loadsAfter term sink one l) ≡ loadsOf (loadsAfter term sink two l)
+  unfolding loadsOf loadsAfter
+  loads-alike l = λ i. record { kw = cells-alike 4 0 (λ s t. eqb s sink && eqb t term) (l .kw) (omega arith) i; posted = cellsOf 4 0 (l .posted) }
+
+module _ (o : Opening) (term sink : ℕ) (one two : (ℕ → ℕ) → ℕ → ℕ) (alike : (v : ℕ → ℕ) (h : ℕ) → h < 8 → one v h ≡ two v h) where
+  rights-alike : (r : ledger.Rights) → rightsOf (rightsAfter o term sink one r) ≡ rightsOf (rightsAfter o term sink two r)
+  unfolding rightsOf rightsAfter
+  rights-alike r =
+      λ i.
+      record {
+        carried = cells-alike term sink one two alike 3 1 (λ p m. endsAt o sink p && hasMonth term m) (r .carried) (omega arith) i;
+        awarded = cells-alike term sink one two alike 3 1 (λ p m. endsAt o sink p && hasMonth term m && not (eqb term 0)) (r .awarded) (omega arith) i;
+        posted = cellsOf 1 0 (λ h p z. r .posted h p);
+      }
+
+  priors-alike : (r : ledger.Priors) → priorsOf (priorsAfter o term sink one r) ≡ priorsOf (priorsAfter o term sink two r)
+  unfolding priorsOf priorsAfter movedWhere
+  priors-alike r =
+      λ i.
+      record {
+        allocated = cells-alike term sink one two alike 1 0 (λ p z. endsAt o sink p && eqb term 0) (λ h p z. r .allocated h p) (omega arith) i;
+        renewable = cells-alike term sink one two alike 1 0 (λ p z. endsAt o sink p && eqb term 0) (λ h p z. r .renewable h p) (omega arith) i;
+        posted = cellsOf 1 0 (λ h p z. r .posted h p);
+      }
 
 module _ (b : Book) (r : Reached b) (term sink : ℕ) (froms tos classes customers watts : List ℕ) (same : SameLengths froms tos classes customers watts) (facts : MigrateFacts (openedWith b) (ledgerOf b) term sink (classLinesOf froms tos classes customers watts)) where
   abbrev lines : List ClassLine
@@ -84,9 +113,9 @@ module _ (b : Book) (r : Reached b) (term sink : ℕ) (froms tos classes custome
       }
 
   -- what moved is what the ledger moves
-  m-after : (v : ℕ → ℕ) (h : ℕ) → h < 8 → shifted (x .holders) (pairAt (x .m)) v h ≡ shifted (openedWith b .holders) (netted lines) v h
-  unfolding movedBy openedWith openingOf shifted
-  m-after v h l =
+  load-after : (v : ℕ → ℕ) (h : ℕ) → h < 8 → loadMoved x v h ≡ loadAfter (openedWith b) lines v h
+  unfolding movedBy openedWith openingOf loadMoved loadAfter shifted
+  load-after v h l =
       λ i. v h - sum-ext {f = λ j. pairAt (x .m) h j} {g = λ j. netted lines h j} (b .setup .holders) (λ j k. m-is h j l (let n = few in omega arith)) i + sum-ext {f = λ j. pairAt (x .m) j h} {g = λ j. netted lines j h} (b .setup .holders) (λ j k. m-is j h (let n = few in omega arith) l) i
 
   column-after : (v : ℕ → ℕ) (h : ℕ) → h < 8 → columnMoved x v h ≡ columnAfter (openedWith b) (ledgerOf b) term sink lines v h
@@ -94,47 +123,20 @@ module _ (b : Book) (r : Reached b) (term sink : ℕ) (froms tos classes custome
   column-after v h l =
       λ i. v h - sum-ext {f = λ j. share (v h) (pairAt (x .m) h j) (holderAt (x .load) h)} {g = λ j. share (v h) (netted lines h j) (loadBefore (ledgerOf b) term sink h)} (b .setup .holders) (λ j k. ap₂ (share (v h)) (m-is h j l (let n = few in omega arith)) (load-is h)) i + sum-ext {f = λ j. share (v j) (pairAt (x .m) j h) (holderAt (x .load) j)} {g = λ j. share (v j) (netted lines j h) (loadBefore (ledgerOf b) term sink j)} (b .setup .holders) (λ j k. ap₂ (share (v j)) (m-is j h (let n = few in omega arith) l) (load-is j)) i
 
-  loads-is : loadsOf (loadsMoved x term sink (loadsIn (b .loads))) ≡ loadsOf (loadsAfter (openedWith b) (ledgerOf b) term sink lines)
-  unfolding loadsOf loadsMoved loadsAfter loadsIn ledgerOf changedWhere loadBefore
-  loads-is =
-      λ i. record { kw = cells-ext 4 0 (changedWhere (λ s t. eqb s sink && eqb t term) (shifted (x .holders) (pairAt (x .m))) (readAt 4 0 0 (b .loads .kw))) (loadsAfter (openedWith b) (ledgerOf b) term sink lines .kw) (omega arith) (λ h s t here. go h s t (cell-facts 4 0 h s t here .0) (decided (eqb s sink && eqb t term))) i; posted = cellsOf 4 0 (readAt 4 0 false (b .loads .posted)) }
-    where
-      go : (h s t : ℕ) → h < 8 → ((eqb s sink && eqb t term) ≡ true) ⊎ ((eqb s sink && eqb t term) ≡ false) → cond (eqb s sink && eqb t term) (shifted (x .holders) (pairAt (x .m)) (λ i. readAt 4 0 0 (b .loads .kw) i s t) h) (readAt 4 0 0 (b .loads .kw) h s t) ≡ cond (eqb s sink && eqb t term) (shifted (openedWith b .holders) (netted lines) (λ i. readAt 4 0 0 (b .loads .kw) i sink term) h) (readAt 4 0 0 (b .loads .kw) h s t)
-      go h s t l (inl e) =
-          let both = and-both (eqb s sink) (eqb t term) e in
-          let p = eqb-true s sink (both .0) in
-          let q = eqb-true t term (both .1) in
-          ap (λ a. cond (eqb s sink && eqb t term) a (readAt 4 0 0 (b .loads .kw) h s t)) (m-after (λ i. readAt 4 0 0 (b .loads .kw) i s t) h l ∙ (λ i. shifted (openedWith b .holders) (netted lines) (λ n. readAt 4 0 0 (b .loads .kw) n (p i) (q i)) h))
-      go h s t l (inr e) =
-          ap (λ c. cond c (shifted (x .holders) (pairAt (x .m)) (λ i. readAt 4 0 0 (b .loads .kw) i s t) h) (readAt 4 0 0 (b .loads .kw) h s t)) e
-          ∙ sym (ap (λ c. cond c (shifted (openedWith b .holders) (netted lines) (λ i. readAt 4 0 0 (b .loads .kw) i sink term) h) (readAt 4 0 0 (b .loads .kw) h s t)) e)
-
-  rights-is : rightsOf (rightsMoved (openedWith b) x term sink (rightsIn (b .rights))) ≡ rightsOf (rightsAfter (openedWith b) (ledgerOf b) term sink lines)
-  unfolding rightsOf rightsMoved rightsAfter rightsIn ledgerOf changedWhere
-  rights-is =
-      λ i.
-      record {
-        carried = cells-ext 3 1 (rightsMoved (openedWith b) x term sink (rightsIn (b .rights)) .carried) (rightsAfter (openedWith b) (ledgerOf b) term sink lines .carried) (omega arith) (λ h p k here. ap (λ a. cond (endsAt (openedWith b) sink p && hasMonth term k) a (readAt 3 1 0 (b .rights .carried) h p k)) (column-after (λ n. readAt 3 1 0 (b .rights .carried) n p k) h (cell-facts 3 1 h p k here .0))) i;
-        awarded = cells-ext 3 1 (rightsMoved (openedWith b) x term sink (rightsIn (b .rights)) .awarded) (rightsAfter (openedWith b) (ledgerOf b) term sink lines .awarded) (omega arith) (λ h p k here. ap (λ a. cond (endsAt (openedWith b) sink p && hasMonth term k && not (eqb term 0)) a (readAt 3 1 0 (b .rights .awarded) h p k)) (column-after (λ n. readAt 3 1 0 (b .rights .awarded) n p k) h (cell-facts 3 1 h p k here .0))) i;
-        posted = cellsOf 1 0 (λ h p z. readAt 1 0 false (b .rights .posted) h p 0);
-      }
-
-  priors-is : priorsOf (priorsMoved (openedWith b) x term sink (priorsIn (b .priors))) ≡ priorsOf (priorsAfter (openedWith b) (ledgerOf b) term sink lines)
-  unfolding priorsOf priorsMoved priorsAfter priorsIn ledgerOf
-  priors-is =
-      λ i.
-      record {
-        allocated = cells-ext 1 0 (λ h p z. priorsMoved (openedWith b) x term sink (priorsIn (b .priors)) .allocated h p) (λ h p z. priorsAfter (openedWith b) (ledgerOf b) term sink lines .allocated h p) (omega arith) (λ h p k here. ap (λ a. cond (endsAt (openedWith b) sink p && eqb term 0) a (readAt 1 0 0 (b .priors .allocated) h p 0)) (column-after (λ n. readAt 1 0 0 (b .priors .allocated) n p 0) h (cell-facts 1 0 h p k here .0))) i;
-        renewable = cells-ext 1 0 (λ h p z. priorsMoved (openedWith b) x term sink (priorsIn (b .priors)) .renewable h p) (λ h p z. priorsAfter (openedWith b) (ledgerOf b) term sink lines .renewable h p) (omega arith) (λ h p k here. ap (λ a. cond (endsAt (openedWith b) sink p && eqb term 0) a (readAt 1 0 0 (b .priors .renewable) h p 0)) (column-after (λ n. readAt 1 0 0 (b .priors .renewable) n p 0) h (cell-facts 1 0 h p k here .0))) i;
-        posted = cellsOf 1 0 (λ h p z. readAt 1 0 false (b .priors .posted) h p 0);
-      }
-
   pub migrate-book : (y : Moved) (next : Book) → y ≡ x → next ≡ bookMoved b term sink y → next ≡ bookOf (b .setup) (effect (openedWith b) (ledgerOf b) (migrate term sink lines))
   unfolding bookMoved bookOf effect migrated ledgerOf openedWith
   migrate-book y next is made =
       made
       ∙ ap (bookMoved b term sink) is
-      ∙ (λ i. record { setup = b .setup; loads = loads-is i; rights = rights-is i; priors = priors-is i; papers = sym (papers-back b (reached-shaped b r)) i; tiers = sym (tiers-back b (reached-shaped b r)) i })
+      ∙ (λ i.
+      record {
+        setup = b .setup;
+        loads = loads-alike term sink (loadMoved x) (loadAfter (openedWith b) lines) load-after (loadsIn (b .loads)) i;
+        rights = rights-alike (openedWith b) term sink (columnMoved x) (columnAfter (openedWith b) (ledgerOf b) term sink lines) column-after (rightsIn (b .rights)) i;
+        priors = priors-alike (openedWith b) term sink (columnMoved x) (columnAfter (openedWith b) (ledgerOf b) term sink lines) column-after (priorsIn (b .priors)) i;
+        papers = sym (papers-back b (reached-shaped b r)) i;
+        tiers = sym (tiers-back b (reached-shaped b r)) i;
+      })
 
 module _ (b : Book) (term sink : ℕ) (froms tos classes customers watts : List ℕ) where
   -- slices of unequal and of equal length

@@ -10,7 +10,8 @@ use borrow.Author.Tests.{ltb-true, leb-true, lt-ltb, le-leb, le-ltb, eqb-true, e
 use Rattle.tariff.specs.Terms.{isMonth, hasMonth}
 use Rattle.tariff.proofs.Tests.{and-both, and-join, and-right-false, decided}
 use Rattle.book.specs.Cells.{hasCell, readAt, cellsOf}
-use Rattle.book.specs.Columns.{isFrom, changedWhere}
+use Rattle.ledger.specs.Moves.{movedWhere}
+use Rattle.book.specs.Columns.{isFrom}
 use Rattle.book.proofs.CellLaws.{cell-facts, cells-ext}
 use Rattle.book.proofs.ColumnLaws.{Changed, changed-ext}
 use Rattle.book.proofs.Parts.{third-zero}
@@ -63,10 +64,10 @@ module _ (change : (ℕ → ℕ) → ℕ → ℕ) (ends : ℕ → Bool) (term fi
 
 -- in term 0 the one third number, else none
 pub prior-columns : (change : (ℕ → ℕ) → ℕ → ℕ) (ends : ℕ → Bool) (term past : ℕ) (cells next : List ℕ) → past ≡ cond (eqb term 0) 1 0 → Changed 1 0 change (λ q j. ends q && isFrom 0 past j) cells next → next ≡ cellsOf 1 0 (λ h p z. cond (ends p && eqb term 0) (change (λ i. readAt 1 0 0 cells i p 0) h) (readAt 1 0 0 cells h p 0))
-unfolding changedWhere isFrom
+unfolding movedWhere isFrom
 prior-columns change ends term past cells next a e =
     e
-    ∙ cells-ext 1 0 (changedWhere (λ q j. ends q && isFrom 0 past j) change (readAt 1 0 0 cells)) (λ h p z. cond (ends p && eqb term 0) (change (λ i. readAt 1 0 0 cells i p 0) h) (readAt 1 0 0 cells h p 0)) (omega arith) each
+    ∙ cells-ext 1 0 (movedWhere (λ q j. ends q && isFrom 0 past j) change (readAt 1 0 0 cells)) (λ h p z. cond (ends p && eqb term 0) (change (λ i. readAt 1 0 0 cells i p 0) h) (readAt 1 0 0 cells h p 0)) (omega arith) each
   where
     range : (t : Bool) → isFrom 0 (cond t 1 0) 0 ≡ t
     range true = refl

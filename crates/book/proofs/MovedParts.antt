@@ -14,21 +14,22 @@ use Rattle.book.specs.declared.rights.Rights.{Rights}
 use Rattle.book.specs.declared.priors.Priors.{Priors}
 use Rattle.book.specs.Cells.{readAt, cellsOf}
 use Rattle.book.specs.Reading.{loadsIn, loadsOf, rightsIn, rightsOf, priorsIn, priorsOf}
-use Rattle.book.specs.Columns.{columnAt, withColumn, isFrom, columnMoved, Movable, loadsMoved, rightsMoved, priorsMoved}
+use Rattle.ledger.specs.Moves.{loadsAfter, rightsAfter, priorsAfter}
+use Rattle.book.specs.Columns.{columnAt, withColumn, isFrom, columnMoved, Movable, loadMoved}
 use Rattle.book.proofs.CellLaws.{cells-read}
 use Rattle.book.proofs.ShiftLaws.{load-shifted}
 use Rattle.book.proofs.Parts.{narrow-read}
 use Rattle.book.proofs.ColumnLaws.{Changed}
 use Rattle.book.proofs.MonthRanges.{carried-months, awarded-months, prior-columns}
 
-pub loads-made : (l : Loads) (x : Moved) (term sink : ℕ) (kw next : List ℕ) → Movable x → length (l .posted) ≡ 512 → x .load ≡ columnAt 4 0 (l .kw) sink term → next ≡ shiftedCells (x .holders) (x .load) (x .m) → kw ≡ cellsOf 4 0 (withColumn sink term (holderAt next) (readAt 4 0 0 (l .kw))) → _≡_ {A = Loads} (record { kw = kw; posted = l .posted }) (loadsOf (loadsMoved x term sink (loadsIn l)))
-unfolding loadsOf loadsMoved loadsIn
+pub loads-made : (l : Loads) (x : Moved) (term sink : ℕ) (kw next : List ℕ) → Movable x → length (l .posted) ≡ 512 → x .load ≡ columnAt 4 0 (l .kw) sink term → next ≡ shiftedCells (x .holders) (x .load) (x .m) → kw ≡ cellsOf 4 0 (withColumn sink term (holderAt next) (readAt 4 0 0 (l .kw))) → _≡_ {A = Loads} (record { kw = kw; posted = l .posted }) (loadsOf (loadsAfter term sink (loadMoved x) (loadsIn l)))
+unfolding loadsOf loadsAfter loadsIn loadMoved
 loads-made l x term sink kw next ok len read made stored =
     λ i. record { kw = load-shifted x ok sink term (l .kw) next kw read made stored i; posted = sym (cells-read 4 0 false (l .posted) (omega arith) len) i }
 
 module _ (o : Opening) (x : Moved) (term sink : ℕ) where
-  pub rights-made : (r : Rights) (first past awardedPast : ℕ) (carried awarded : List ℕ) → length (r .posted) ≡ 128 → first ≡ cond (eqb term 0) 1 term → past ≡ cond (eqb term 0) 4 (term + 1) → awardedPast ≡ cond (eqb term 0) 1 (term + 1) → Changed 3 1 (columnMoved x) (λ q j. endsAt o sink q && isFrom first past j) (r .carried) carried → Changed 3 1 (columnMoved x) (λ q j. endsAt o sink q && isFrom first awardedPast j) (r .awarded) awarded → _≡_ {A = Rights} (record { carried = carried; awarded = awarded; posted = r .posted }) (rightsOf (rightsMoved o x term sink (rightsIn r)))
-  unfolding rightsOf rightsMoved rightsIn
+  pub rights-made : (r : Rights) (first past awardedPast : ℕ) (carried awarded : List ℕ) → length (r .posted) ≡ 128 → first ≡ cond (eqb term 0) 1 term → past ≡ cond (eqb term 0) 4 (term + 1) → awardedPast ≡ cond (eqb term 0) 1 (term + 1) → Changed 3 1 (columnMoved x) (λ q j. endsAt o sink q && isFrom first past j) (r .carried) carried → Changed 3 1 (columnMoved x) (λ q j. endsAt o sink q && isFrom first awardedPast j) (r .awarded) awarded → _≡_ {A = Rights} (record { carried = carried; awarded = awarded; posted = r .posted }) (rightsOf (rightsAfter o term sink (columnMoved x) (rightsIn r)))
+  unfolding rightsOf rightsAfter rightsIn
   rights-made r first past awardedPast carried awarded len a b c moved also =
       λ i.
       record {
@@ -37,8 +38,8 @@ module _ (o : Opening) (x : Moved) (term sink : ℕ) where
         posted = sym (narrow-read false (r .posted) len) i;
       }
 
-  pub priors-made : (r : Priors) (past : ℕ) (allocated renewable : List ℕ) → length (r .posted) ≡ 128 → past ≡ cond (eqb term 0) 1 0 → Changed 1 0 (columnMoved x) (λ q j. endsAt o sink q && isFrom 0 past j) (r .allocated) allocated → Changed 1 0 (columnMoved x) (λ q j. endsAt o sink q && isFrom 0 past j) (r .renewable) renewable → _≡_ {A = Priors} (record { allocated = allocated; renewable = renewable; posted = r .posted }) (priorsOf (priorsMoved o x term sink (priorsIn r)))
-  unfolding priorsOf priorsMoved priorsIn
+  pub priors-made : (r : Priors) (past : ℕ) (allocated renewable : List ℕ) → length (r .posted) ≡ 128 → past ≡ cond (eqb term 0) 1 0 → Changed 1 0 (columnMoved x) (λ q j. endsAt o sink q && isFrom 0 past j) (r .allocated) allocated → Changed 1 0 (columnMoved x) (λ q j. endsAt o sink q && isFrom 0 past j) (r .renewable) renewable → _≡_ {A = Priors} (record { allocated = allocated; renewable = renewable; posted = r .posted }) (priorsOf (priorsAfter o term sink (columnMoved x) (priorsIn r)))
+  unfolding priorsOf priorsAfter priorsIn
   priors-made r past allocated renewable len a moved also =
       λ i.
       record {

@@ -1,6 +1,6 @@
 -- A migration moves nothing to where there is no cell. Assumes nothing.
 use Prim.Native.Nat.{ℕ, _-_, _*_, _/_, _≤_, _<_, zero-le}
-use mathlib.Core.Path.{_≡_, sym, ap, _∙_}
+use mathlib.Core.Path.{_≡_, ap, _∙_}
 use mathlib.Core.Bool.{Bool, true, false, cond, _&&_}
 use mathlib.Core.List.{List}
 use mathlib.Core.Logic.{_⊎_, inl, inr}
@@ -14,7 +14,7 @@ use Rattle.tariff.proofs.Sums.{sum-zero}
 use Rattle.tariff.proofs.Tests.{and-both, decided, both-ways}
 use Rattle.ledger.specs.Opening.{Opening}
 use Rattle.ledger.specs.Ledger.{Ledger}
-use Rattle.ledger.specs.Moves.{loadBefore, loadsAfter, columnAfter}
+use Rattle.ledger.specs.Moves.{movedWhere, loadAfter, loadBefore, loadsAfter, columnAfter}
 use Rattle.ledger.proofs.TierFacts.{MigrateFacts}
 use Rattle.ledger.proofs.Outside.{netted-outside}
 use Rattle.book.specs.Cells.{hasCell}
@@ -54,17 +54,14 @@ module _ (o : Opening) (L : Ledger) (term sink : ℕ) (lines : List ClassLine) (
       go false = inside h none
 
   -- the loads
-  pub loads-inside : o .sinks ≤ 16 → Inside 4 0 0 (L .loads .kw) → Inside 4 0 0 (loadsAfter o L term sink lines .kw)
-  unfolding loadsAfter loadBefore
+  pub loads-inside : o .sinks ≤ 16 → Inside 4 0 0 (L .loads .kw) → Inside 4 0 0 (loadsAfter term sink (loadAfter o lines) (L .loads) .kw)
+  unfolding loadsAfter movedWhere loadAfter
   loads-inside sinks inside h s t none = go (decided (eqb s sink && eqb t term))
     where
-      go : (eqb s sink && eqb t term ≡ true) ⊎ (eqb s sink && eqb t term ≡ false) → cond (eqb s sink && eqb t term) (shifted (o .holders) (netted lines) (λ i. L .loads .kw i sink term) h) (L .loads .kw h s t) ≡ 0
+      go : (eqb s sink && eqb t term ≡ true) ⊎ (eqb s sink && eqb t term ≡ false) → cond (eqb s sink && eqb t term) (shifted (o .holders) (netted lines) (λ i. L .loads .kw i s t) h) (L .loads .kw h s t) ≡ 0
       go (inl e) =
-          let both = and-both (eqb s sink) (eqb t term) e in
-          let sq = eqb-true s sink (both .0) in
-          let tq = eqb-true t term (both .1) in
-          ap (λ b. cond b (shifted (o .holders) (netted lines) (λ i. L .loads .kw i sink term) h) (L .loads .kw h s t)) e
-          ∙ shift-zero (o .holders) (netted lines) (λ i. L .loads .kw i sink term) h ((λ i. L .loads .kw h (sym sq i) (sym tq i)) ∙ inside h s t none) (λ j l. netted-outside o lines j h (f .holders) (inr (far (decided (ltb h 8)))))
+          ap (λ b. cond b (shifted (o .holders) (netted lines) (λ i. L .loads .kw i s t) h) (L .loads .kw h s t)) e
+          ∙ shift-zero (o .holders) (netted lines) (λ i. L .loads .kw i s t) h (inside h s t none) (λ j l. netted-outside o lines j h (f .holders) (inr (far (decided (ltb h 8)))))
         where
           far : (ltb h 8 ≡ true) ⊎ (ltb h 8 ≡ false) → o .holders ≤ h
           far (inl u) =
@@ -75,4 +72,4 @@ module _ (o : Opening) (L : Ledger) (term sink : ℕ) (lines : List ClassLine) (
               let b = f .termInRange in
               absurd (both-ways (has-cell 4 0 h s t (ltb-true h 8 u) (omega arith) zero-le (omega arith)) none)
           far (inr u) = let b = ltb-false h 8 u in omega arith
-      go (inr e) = ap (λ b. cond b (shifted (o .holders) (netted lines) (λ i. L .loads .kw i sink term) h) (L .loads .kw h s t)) e ∙ inside h s t none
+      go (inr e) = ap (λ b. cond b (shifted (o .holders) (netted lines) (λ i. L .loads .kw i s t) h) (L .loads .kw h s t)) e ∙ inside h s t none

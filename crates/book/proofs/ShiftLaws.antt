@@ -20,7 +20,8 @@ use Rattle.tariff.proofs.Pairs.{pair-of-cells}
 use Rattle.ledger.proofs.Bounds.{one-fits, share-product-fits}
 use Rattle.book.specs.declared.moves.Moved.{Moved}
 use Rattle.book.specs.Cells.{readAt, cellsOf}
-use Rattle.book.specs.Columns.{columnAt, withColumn, changedWhere, columnMoved, Movable, ColumnFits}
+use Rattle.ledger.specs.Moves.{movedWhere}
+use Rattle.book.specs.Columns.{columnAt, withColumn, columnMoved, Movable, ColumnFits}
 use Rattle.book.proofs.ColumnLaws.{column-holder, column-stored, Changed, read-changed}
 
 -- with no m goes no share
@@ -100,7 +101,7 @@ module _ (x : Moved) (ok : Movable x) where
   load-parts-fit = let all = ok .loads in record { few = ok .few; given = ok .covered; together = omega arith }
 
   -- the column that the code stores is the one that moved
-  pub column-shifted : (width low p k : ℕ) (cells column parts next after : List ℕ) → 1 ≤ width → column ≡ columnAt width low cells p k → parts ≡ shareCells column (x .m) (x .load) → next ≡ shiftedCells (x .holders) column parts → after ≡ cellsOf width low (withColumn p k (holderAt next) (readAt width low 0 cells)) → after ≡ cellsOf width low (changedWhere (λ q j. eqb q p && eqb j k) (columnMoved x) (readAt width low 0 cells))
+  pub column-shifted : (width low p k : ℕ) (cells column parts next after : List ℕ) → 1 ≤ width → column ≡ columnAt width low cells p k → parts ≡ shareCells column (x .m) (x .load) → next ≡ shiftedCells (x .holders) column parts → after ≡ cellsOf width low (withColumn p k (holderAt next) (readAt width low 0 cells)) → after ≡ cellsOf width low (movedWhere (λ q j. eqb q p && eqb j k) (columnMoved x) (readAt width low 0 cells))
   unfolding columnMoved
   column-shifted width low p k cells column parts next after pos read shared made stored =
       column-stored width low (columnMoved x) p k cells next after pos each stored
@@ -120,7 +121,7 @@ module _ (x : Moved) (ok : Movable x) where
           ∙ shifted-entry (x .holders) column parts (part (holderAt column)) (ok .few) (share-at column parts shared) (λ i j li lj past. no-share (pairAt (x .m)) (holderAt (x .load)) (holderAt column) i j (ok .others i j li lj past)) h l
           ∙ (λ t. shifted (x .holders) (part (whole t)) (whole t) h)
 
-  pub load-shifted : (p k : ℕ) (cells next after : List ℕ) → x .load ≡ columnAt 4 0 cells p k → next ≡ shiftedCells (x .holders) (x .load) (x .m) → after ≡ cellsOf 4 0 (withColumn p k (holderAt next) (readAt 4 0 0 cells)) → after ≡ cellsOf 4 0 (changedWhere (λ q j. eqb q p && eqb j k) (shifted (x .holders) (pairAt (x .m))) (readAt 4 0 0 cells))
+  pub load-shifted : (p k : ℕ) (cells next after : List ℕ) → x .load ≡ columnAt 4 0 cells p k → next ≡ shiftedCells (x .holders) (x .load) (x .m) → after ≡ cellsOf 4 0 (withColumn p k (holderAt next) (readAt 4 0 0 cells)) → after ≡ cellsOf 4 0 (movedWhere (λ q j. eqb q p && eqb j k) (shifted (x .holders) (pairAt (x .m))) (readAt 4 0 0 cells))
   load-shifted p k cells next after read made stored =
       column-stored 4 0 (shifted (x .holders) (pairAt (x .m))) p k cells next after (omega arith) each stored
     where

@@ -10,7 +10,8 @@ use borrow.Author.Tests.{ltb-true, ltb-false, lt-ltb, le-ltb, le-leb, leb-true, 
 use Rattle.tariff.proofs.Tests.{and-both, and-join, and-left-false, and-right-false, decided}
 use Rattle.ledger.specs.Opening.{Opening, pathBase, endsAt}
 use Rattle.book.specs.Cells.{readAt, cellsOf}
-use Rattle.book.specs.Columns.{Flat, isFrom, changedWhere}
+use Rattle.ledger.specs.Moves.{movedWhere}
+use Rattle.book.specs.Columns.{Flat, isFrom}
 use Rattle.book.proofs.CellLaws.{cell-facts}
 use Rattle.book.proofs.ColumnLaws.{Changed, changed-none, changed-ext, changed-more}
 
@@ -85,7 +86,7 @@ module _ (width low : ℕ) (change : (ℕ → ℕ) → ℕ → ℕ) where
       a b
 
   pub all-months : (p first past k : ℕ) (cells next : List ℕ) → k ≤ past → past ≤ k → MonthsTo p first k cells next → MonthsTo p first past cells next
-  all-months p first past k cells next below above e = e ∙ ap (λ n. cellsOf width low (changedWhere (λ q j. eqb q p && isFrom first n j) change (readAt width low 0 cells))) (let same : k ≡ past = omega arith in same)
+  all-months p first past k cells next below above e = e ∙ ap (λ n. cellsOf width low (movedWhere (λ q j. eqb q p && isFrom first n j) change (readAt width low 0 cells))) (let same : k ≡ past = omega arith in same)
 
   -- the paths
   module _ (chosen : ℕ → ℕ → Bool) where

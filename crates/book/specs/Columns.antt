@@ -1,18 +1,16 @@
 -- Columns of a flat array: the records of the eight holders at one path (or sink) and third number, and what a migration makes of them.
 use Prim.Native.Nat.{ℕ, _+_, _*_, _≤_, _<_}
 use mathlib.Core.Path.{_≡_}
-use mathlib.Core.Bool.{Bool, cond, not, _&&_}
+use mathlib.Core.Bool.{Bool, cond, _&&_}
 use mathlib.Core.List.{List}
 use mathlib.Core.Logic.{_⊎_}
 use lib.ListN.{length}
 use lib.Dec.{leb, ltb, eqb}
 use Rattle.tariff.specs.Sum.{sumTo}
-use Rattle.tariff.specs.Terms.{hasMonth}
 use Rattle.tariff.specs.Ranges.{mostKw}
 use Rattle.tariff.specs.Migration.{shares, shifted}
 use Rattle.tariff.specs.Netting.{pairAt, holderAt, columnCells}
-use Rattle.ledger.specs.Opening.{Opening, endsAt}
-use Rattle.ledger.specs.Ledger as ledger
+use Rattle.ledger.specs.Moves.{loadsAfter, rightsAfter, priorsAfter}
 use Rattle.book.specs.declared.moves.Moved.{Moved}
 use Rattle.book.specs.declared.book.Book.{Book}
 use Rattle.book.specs.Cells.{readAt}
@@ -39,15 +37,14 @@ columnAt width low cells p k = columnCells (λ h. readAt width low 0 cells h p k
 unfoldable pub withColumn : ℕ → ℕ → (ℕ → ℕ) → (ℕ → ℕ → ℕ → ℕ) → ℕ → ℕ → ℕ → ℕ
 withColumn p k next f h q j = cond (eqb q p && eqb j k) (next h) (f h q j)
 
--- figures whose columns are changed where a test passes
-unfoldable pub changedWhere : (ℕ → ℕ → Bool) → ((ℕ → ℕ) → ℕ → ℕ) → (ℕ → ℕ → ℕ → ℕ) → ℕ → ℕ → ℕ → ℕ
-changedWhere test change f h p k = cond (test p k) (change (λ i. f i p k) h) (f h p k)
-
 -- third numbers from one up to before another
 unfoldable pub isFrom : ℕ → ℕ → ℕ → Bool
 isFrom first past k = leb first k && ltb k past
 
--- a column after its shares have gone over
+-- a column after m has gone over, and after its shares have
+unfoldable pub loadMoved : Moved → (ℕ → ℕ) → ℕ → ℕ
+loadMoved x v = shifted (x .holders) (pairAt (x .m)) v
+
 unfoldable pub columnMoved : Moved → (ℕ → ℕ) → ℕ → ℕ
 columnMoved x v = shifted (x .holders) (shares (pairAt (x .m)) (holderAt (x .load)) v) v
 
@@ -62,34 +59,14 @@ pub record Movable (x : Moved) : Type 0 where
 abbrev pub ColumnFits : Moved → (ℕ → ℕ) → Type 0
 ColumnFits x v = sumTo (x .holders) v ≤ 80 * mostKw
 
--- the ledger's parts after a migration of the pairs' m
-unfoldable pub loadsMoved : Moved → ℕ → ℕ → ledger.Loads → ledger.Loads
-loadsMoved x term sink l = record { kw = changedWhere (λ s t. eqb s sink && eqb t term) (shifted (x .holders) (pairAt (x .m))) (l .kw); posted = l .posted }
-
-unfoldable pub rightsMoved : Opening → Moved → ℕ → ℕ → ledger.Rights → ledger.Rights
-rightsMoved o x term sink r =
-    record {
-      carried = changedWhere (λ p k. endsAt o sink p && hasMonth term k) (columnMoved x) (r .carried);
-      awarded = changedWhere (λ p k. endsAt o sink p && hasMonth term k && not (eqb term 0)) (columnMoved x) (r .awarded);
-      posted = r .posted;
-    }
-
-unfoldable pub priorsMoved : Opening → Moved → ℕ → ℕ → ledger.Priors → ledger.Priors
-priorsMoved o x term sink r =
-    record {
-      allocated = λ h p. cond (endsAt o sink p && eqb term 0) (columnMoved x (λ i. r .allocated i p) h) (r .allocated h p);
-      renewable = λ h p. cond (endsAt o sink p && eqb term 0) (columnMoved x (λ i. r .renewable i p) h) (r .renewable h p);
-      posted = r .posted;
-    }
-
--- the book after them, and what its arrays must be like for that
+-- the book after the ledger's records have moved so, and what its arrays must be like for that
 unfoldable pub bookMoved : Book → ℕ → ℕ → Moved → Book
 bookMoved b term sink x =
     record {
       setup = b .setup;
-      loads = loadsOf (loadsMoved x term sink (loadsIn (b .loads)));
-      rights = rightsOf (rightsMoved (openingOf (b .setup)) x term sink (rightsIn (b .rights)));
-      priors = priorsOf (priorsMoved (openingOf (b .setup)) x term sink (priorsIn (b .priors)));
+      loads = loadsOf (loadsAfter term sink (loadMoved x) (loadsIn (b .loads)));
+      rights = rightsOf (rightsAfter (openingOf (b .setup)) term sink (columnMoved x) (rightsIn (b .rights)));
+      priors = priorsOf (priorsAfter (openingOf (b .setup)) term sink (columnMoved x) (priorsIn (b .priors)));
       papers = b .papers;
       tiers = b .tiers;
     }

@@ -16,7 +16,8 @@ ghost use Rattle.ledger.specs.Opening.{endsAt};
 ghost use Rattle.book.specs.Setup.{openingOf};
 ghost use Rattle.book.specs.Cells.{readAt, cellsOf};
 ghost use Rattle.book.specs.Reading.{loadsIn, loadsOf, rightsIn, rightsOf, priorsIn, priorsOf};
-ghost use Rattle.book.specs.Columns.{Flat, HasColumn, columnAt, withColumn, changedWhere, isFrom, columnMoved, Movable, ColumnFits, loadsMoved, rightsMoved, priorsMoved};
+ghost use Rattle.ledger.specs.Moves.{movedWhere, loadsAfter, rightsAfter, priorsAfter};
+ghost use Rattle.book.specs.Columns.{Flat, HasColumn, columnAt, withColumn, isFrom, columnMoved, Movable, ColumnFits, loadMoved};
 
 // What a migration moves: the kW from holder i to holder j at i * 8 + j, each holder's load at the sink and term before it,
 // and how many holders there are.
@@ -56,7 +57,7 @@ fn store_column(cells: &mut [u64], width: u64, low: u64, p: u64, k: u64, column:
 // The shares of one column gone over.
 fn shift_column(cells: &mut [u64], width: u64, low: u64, p: u64, k: u64, x: Moved)
     requires { ⌜ Flat width low (now cells) × HasColumn width low p k × Movable x × ColumnFits x (λ i. readAt width low 0 (now cells) i p k) ⌝ }
-    ensures { λ r. ⌜ now (cells .exit) ≡ cellsOf width low (changedWhere (λ q j. eqb q p && eqb j k) (columnMoved x) (readAt width low 0 (now (cells .entry)))) ⌝ }
+    ensures { λ r. ⌜ now (cells .exit) ≡ cellsOf width low (movedWhere (λ q j. eqb q p && eqb j k) (columnMoved x) (readAt width low 0 (now (cells .entry)))) ⌝ }
 {
     let column = column_at(cells, width, low, p, k);
     let m = x.m;
@@ -69,7 +70,7 @@ fn shift_column(cells: &mut [u64], width: u64, low: u64, p: u64, k: u64, x: Move
 // The shares of the columns of one path gone over, from one third number up to before another.
 fn shift_months(cells: &mut [u64], width: u64, low: u64, p: u64, first: u64, past: u64, x: Moved)
     requires { ⌜ Flat width low (now cells) × (p < 16) × (low ≤ first) × (first ≤ past) × (past ≤ low + width) × Movable x × ((k : ℕ) → ColumnFits x (λ i. readAt width low 0 (now cells) i p k)) ⌝ }
-    ensures { λ r. ⌜ now (cells .exit) ≡ cellsOf width low (changedWhere (λ q j. eqb q p && isFrom first past j) (columnMoved x) (readAt width low 0 (now (cells .entry)))) ⌝ }
+    ensures { λ r. ⌜ now (cells .exit) ≡ cellsOf width low (movedWhere (λ q j. eqb q p && isFrom first past j) (columnMoved x) (readAt width low 0 (now (cells .entry)))) ⌝ }
 {
     let mut k = first;
     while k < past {
@@ -91,7 +92,7 @@ fn shift_path(
     x: Moved,
 )
     requires { ⌜ Flat width low (now cells) × (p < 16) × (low ≤ first) × (first ≤ past) × (past ≤ low + width) × Movable x × ((k : ℕ) → ColumnFits x (λ i. readAt width low 0 (now cells) i p k)) ⌝ }
-    ensures { λ r. ⌜ now (cells .exit) ≡ cellsOf width low (changedWhere (λ q j. eqb q p && (endsAt (openingOf setup) sink q && isFrom first past j)) (columnMoved x) (readAt width low 0 (now (cells .entry)))) ⌝ }
+    ensures { λ r. ⌜ now (cells .exit) ≡ cellsOf width low (movedWhere (λ q j. eqb q p && (endsAt (openingOf setup) sink q && isFrom first past j)) (columnMoved x) (readAt width low 0 (now (cells .entry)))) ⌝ }
 {
     let base = setup.path_base(p);
     if base == sink {
@@ -111,7 +112,7 @@ fn shift_paths(
     x: Moved,
 )
     requires { ⌜ Flat width low (now cells) × (low ≤ first) × (first ≤ past) × (past ≤ low + width) × Movable x × ((p k : ℕ) → ColumnFits x (λ i. readAt width low 0 (now cells) i p k)) ⌝ }
-    ensures { λ r. ⌜ now (cells .exit) ≡ cellsOf width low (changedWhere (λ q j. endsAt (openingOf setup) sink q && isFrom first past j) (columnMoved x) (readAt width low 0 (now (cells .entry)))) ⌝ }
+    ensures { λ r. ⌜ now (cells .exit) ≡ cellsOf width low (movedWhere (λ q j. endsAt (openingOf setup) sink q && isFrom first past j) (columnMoved x) (readAt width low 0 (now (cells .entry)))) ⌝ }
 {
     let mut p = 0;
     while p < 16 {
@@ -130,7 +131,7 @@ fn pick(test: bool, a: u64, b: u64) -> u64
 // The loads after m has gone over at the sink and term.
 pub fn move_loads(l: Loads, term: u64, sink: u64, x: Moved) -> Loads
     requires { ⌜ (term ≤ 3) × (sink < 16) × Movable x × (x .load ≡ columnAt 4 0 (l .kw) sink term) ⌝ }
-    ensures { λ y. ⌜ y ≡ loadsOf (loadsMoved x term sink (loadsIn l)) ⌝ }
+    ensures { λ y. ⌜ y ≡ loadsOf (loadsAfter term sink (loadMoved x) (loadsIn l)) ⌝ }
 {
     let load = x.load;
     let m = x.m;
@@ -144,7 +145,7 @@ pub fn move_loads(l: Loads, term: u64, sink: u64, x: Moved) -> Loads
 // The holdings after their shares have gone over: in term 0 those carried, in all months, else those of the month.
 pub fn move_rights(r: Rights, setup: Setup, term: u64, sink: u64, x: Moved) -> Rights
     requires { ⌜ (term ≤ 3) × Movable x × ((p k : ℕ) → ColumnFits x (λ i. readAt 3 1 0 (r .carried) i p k)) × ((p k : ℕ) → ColumnFits x (λ i. readAt 3 1 0 (r .awarded) i p k)) ⌝ }
-    ensures { λ y. ⌜ y ≡ rightsOf (rightsMoved (openingOf setup) x term sink (rightsIn r)) ⌝ }
+    ensures { λ y. ⌜ y ≡ rightsOf (rightsAfter (openingOf setup) term sink (columnMoved x) (rightsIn r)) ⌝ }
 {
     let season = term == 0;
     let first = pick(season, 1, term);
@@ -165,7 +166,7 @@ pub fn move_rights(r: Rights, setup: Setup, term: u64, sink: u64, x: Moved) -> R
 // Last year's allocations after their shares have gone over, in term 0.
 pub fn move_priors(r: Priors, setup: Setup, term: u64, sink: u64, x: Moved) -> Priors
     requires { ⌜ Movable x × ((p k : ℕ) → ColumnFits x (λ i. readAt 1 0 0 (r .allocated) i p k)) × ((p k : ℕ) → ColumnFits x (λ i. readAt 1 0 0 (r .renewable) i p k)) ⌝ }
-    ensures { λ y. ⌜ y ≡ priorsOf (priorsMoved (openingOf setup) x term sink (priorsIn r)) ⌝ }
+    ensures { λ y. ⌜ y ≡ priorsOf (priorsAfter (openingOf setup) term sink (columnMoved x) (priorsIn r)) ⌝ }
 {
     let past = pick(term == 0, 1, 0);
     let mut allocated = r.allocated;

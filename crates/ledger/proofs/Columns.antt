@@ -3,16 +3,17 @@ use Prim.Native.Nat.{ℕ, _+_, _≤_, _<_}
 use mathlib.Core.Path.{_≡_, refl, sym, ap, _∙_}
 use mathlib.Core.Bool.{Bool, true, false, cond, _&&_, and-true}
 use mathlib.Core.List.{List}
+use native.Mathlib.Nat.{le-trans, le-of-eq}
 use lib.Dec.{eqb}
 use Rattle.tariff.specs.declared.migration.ClassLine.{ClassLine}
 use Rattle.tariff.specs.Sum.{countIf, sumTo}
-use Rattle.tariff.specs.Migration.{netted, lostBy, shares, shifted}
+use Rattle.tariff.specs.Migration.{netted, lostBy, shares}
 use Rattle.tariff.proofs.Sums.{count-true, count-false, sum-ext, sum-add, sum-zero, sum-one}
 use Rattle.tariff.proofs.Tests.{and-right-false}
 use Rattle.tariff.proofs.Shifts.{shares-fit, shift-sum}
 use Rattle.ledger.specs.Opening.{Opening}
 use Rattle.ledger.specs.Ledger.{Ledger}
-use Rattle.ledger.specs.Moves.{loadBefore, columnAfter}
+use Rattle.ledger.specs.Moves.{loadBefore, columnAfter, loadAfter}
 
 -- kw in one holder's entry, if a test passes
 pub column-one : (n x : ℕ) (t : Bool) (kw : ℕ) → x < n → sumTo n (λ h. countIf (eqb h x && t) kw) ≡ countIf t kw
@@ -37,10 +38,8 @@ module _ (o : Opening) (L : Ledger) (term sink : ℕ) (lines : List ClassLine) (
   column-kept true v = shift-sum (o .holders) (shares (netted lines) (loadBefore L term sink) v) v (column-fits v)
   column-kept false v = refl
 
-  -- and so does the load, of which m itself moves
-  pub load-kept : (t : Bool) (v : ℕ → ℕ) → ((h : ℕ) → t ≡ true → v h ≡ loadBefore L term sink h) → sumTo (o .holders) (λ h. cond t (shifted (o .holders) (netted lines) (loadBefore L term sink) h) (v h)) ≡ sumTo (o .holders) v
-  unfolding lostBy
-  load-kept true v same =
-      shift-sum (o .holders) (netted lines) (loadBefore L term sink) fits
-      ∙ sum-ext {f = loadBefore L term sink} {g = v} (o .holders) (λ h l. sym (same h refl))
+  -- and so does the load, which moves by m
+  pub load-kept : (t : Bool) (v : ℕ → ℕ) → ((h : ℕ) → t ≡ true → v h ≡ loadBefore L term sink h) → sumTo (o .holders) (λ h. cond t (loadAfter o lines v h) (v h)) ≡ sumTo (o .holders) v
+  unfolding lostBy loadAfter
+  load-kept true v same = shift-sum (o .holders) (netted lines) v (λ i l. le-trans (fits i l) (le-of-eq (sym (same i refl))))
   load-kept false v same = refl

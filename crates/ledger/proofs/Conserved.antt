@@ -15,7 +15,7 @@ use Rattle.tariff.proofs.Tests.{and-both}
 use Rattle.ledger.specs.Opening.{Opening, endsAt}
 use Rattle.ledger.specs.Ledger.{Ledger, emptyLedger, withLoads, withRights, withPriors, withPapers, withTiers}
 use Rattle.ledger.specs.Call.{Call, load, carry, prior, verify, migrate, openTier, nominate, award, closeTier}
-use Rattle.ledger.specs.Moves.{loadBefore, loadsAfter, rightsAfter, migrated}
+use Rattle.ledger.specs.Moves.{movedWhere, loadBefore, loadsAfter, rightsAfter, migrated}
 use Rattle.ledger.specs.Effects.{same2, same3, plusAt3, plusInTerm, afterLoad, afterCarry, holdingsAfter, effect}
 use Rattle.ledger.specs.Season.{after, held, net}
 use Rattle.ledger.specs.Totals.{sumAccepted, carriedBy, awardedBy, postedBy, carriedIn, awardedIn, postedIn}
@@ -55,7 +55,7 @@ from-empty figure amount o adds none cs = let all = list-adds figure amount o ad
 
 module _ (o : Opening) (p m : ℕ) where
   pub awarded-adds : Adds (awardedSum o p m) (awardedBy p m) o
-  unfolding awardedSum awardedBy effect withLoads withRights withPriors withPapers withTiers migrated rightsAfter afterCarry holdingsAfter
+  unfolding awardedSum awardedBy effect withLoads withRights withPriors withPapers withTiers migrated movedWhere rightsAfter afterCarry holdingsAfter
   awarded-adds L (load h s term contract n blocks) e = omega arith
   awarded-adds L (carry h q kw) e = omega arith
   awarded-adds L (prior h q a l) e = omega arith
@@ -74,7 +74,7 @@ module _ (o : Opening) (p m : ℕ) where
   awarded-conserved = from-empty (awardedSum o p m) (awardedBy p m) o awarded-adds (sum-zero (o .holders) (λ h l. refl))
 
   pub carried-adds : isMonth m ≡ true → Adds (carriedSum o p m) (carriedBy p) o
-  unfolding carriedSum carriedBy effect withLoads withRights withPriors withPapers withTiers migrated rightsAfter afterCarry holdingsAfter hasMonth
+  unfolding carriedSum carriedBy effect withLoads withRights withPriors withPapers withTiers migrated movedWhere rightsAfter afterCarry holdingsAfter hasMonth
   carried-adds month L (load h s term contract n blocks) e = omega arith
   carried-adds month L (carry h q kw) e =
       in-term o 0 h q kw (L .rights .carried) p m (carry-facts o L h q kw e .holder)
@@ -103,7 +103,7 @@ module _ (o : Opening) (p m : ℕ) where
 
 module _ (o : Opening) (s t : ℕ) where
   pub load-adds : Adds (loadSum o s t) (postedBy s t) o
-  unfolding loadSum postedBy effect withLoads withRights withPriors withPapers withTiers migrated loadsAfter afterLoad loadBefore
+  unfolding loadSum postedBy effect withLoads withRights withPriors withPapers withTiers migrated movedWhere loadsAfter afterLoad loadBefore
   load-adds L (load h q term contract n blocks) e = in-place o h q term (loadPosted contract blocks) (L .loads .kw) s t (load-facts o L h q term contract n blocks e .holder)
   load-adds L (carry h q kw) e = omega arith
   load-adds L (prior h q a l) e = omega arith

@@ -13,7 +13,7 @@ use Rattle.ledger.specs.Ledger.{emptyLedger, withLoads, withRights, with
 use Rattle.ledger.specs.Calendar.{tierIsOpen, beforeTier, loadInTime, migrationInTime, tierInTurn}
 use Rattle.ledger.specs.Limits.{sumAtBase, longTermAt, priorYearAt, awardsAt, nominatedAt, limitSums, tierLimit}
 use Rattle.ledger.specs.Verification.{sumFromSource, verifiedKw, drawsOnSame, drawnBefore, drawn}
-use Rattle.ledger.specs.Moves.{loadBefore, loadsAfter, columnAfter, rightsAfter, priorsAfter, migrated}
+use Rattle.ledger.specs.Moves.{movedWhere, loadAfter, loadBefore, loadsAfter, columnAfter, rightsAfter, priorsAfter, migrated}
 use Rattle.ledger.specs.Numbers.{firstMet}
 use Rattle.tariff.specs.Ranges.{within, wrongKw, wrongTerm, wrongMonth, wrongEvidence, wrongClassLine, wrongClassFields}
 use Rattle.ledger.specs.Ranges.{noHolder, noSource, noSink, noPath, strangerIn, wrongLoad, wrongPrior, wrongMigration, wrongTier}
@@ -24,5 +24,5 @@ use Rattle.ledger.specs.Marked.{upTo, oneSink, block, classLine, steadyL
 
 -- what the definitions give in each case is what 01 marks
 pub marked-cases : map (λ c. c .given) markedCases ≡ map (λ c. c .marked) markedCases
-unfolding countIf sumTo allBelow anyBelow sumOver anyOf only inOrder isEmpty blocksBroken presentHours missingHours tooManyMissing hoursAbove mayExceed seldomExceeded smallest metric loadPosted seasonalEligible priorityEligible termTable termOf firstTierOf isMonth hasMonth carriedMonth limitTier1 limitTier2 limitTier3 limitEvenTier limitOddTier limitBy formulaOf limit noEntry evidenceOf entryOf highestRight evidenceKw countsFor entryKw wattsOneWay netted lostBy share shares shifted holderKind sinkKind base pathSource pathSink pathBase endsAt comesFrom countsFit listsFit holderLegal parentLegal sinkLegal pathLegal pathsAlike pathNew legal openingRefusal emptyLedger withLoads withRights withPriors withPapers withTiers tierIsOpen beforeTier loadInTime migrationInTime tierInTurn sumAtBase longTermAt priorYearAt awardsAt nominatedAt limitSums tierLimit sumFromSource verifiedKw drawsOnSame drawnBefore drawn loadBefore loadsAfter columnAfter rightsAfter priorsAfter migrated firstMet noHolder noSource noSink noPath strangerIn within wrongKw wrongTerm wrongMonth wrongLoad wrongPrior wrongEvidence wrongClassLine wrongClassFields wrongMigration wrongTier notBetweenSuppliers losesTooMuch sinkNotFor isSubLap beyondVerified beyondRenewable beyondLimit beyondNominated loadCauses carryCauses priorCauses verifyCauses migrateCauses openCauses nominateCauses awardCauses closeCauses callCauses refusal limitCauses heldCauses netCauses queryCauses queryRefusal same2 same3 plusAt2 plusAt3 plusInTerm afterLoad afterCarry afterPrior afterVerify afterOpen afterNominate awardsAfter holdingsAfter afterClose effect accepted step held net figure answer stepAsk answers season upTo oneSink block classLine steadyLoad passTier fullTier opening1 asks1 rest1 answers1 case1 blocks2 case2 case3 case4 case5 case6 case7 case8 case9 lines10 case10 case11 case12 markedCases
+unfolding countIf sumTo allBelow anyBelow sumOver anyOf only inOrder isEmpty blocksBroken presentHours missingHours tooManyMissing hoursAbove mayExceed seldomExceeded smallest metric loadPosted seasonalEligible priorityEligible termTable termOf firstTierOf isMonth hasMonth carriedMonth limitTier1 limitTier2 limitTier3 limitEvenTier limitOddTier limitBy formulaOf limit noEntry evidenceOf entryOf highestRight evidenceKw countsFor entryKw wattsOneWay netted lostBy share shares shifted holderKind sinkKind base pathSource pathSink pathBase endsAt comesFrom countsFit listsFit holderLegal parentLegal sinkLegal pathLegal pathsAlike pathNew legal openingRefusal emptyLedger withLoads withRights withPriors withPapers withTiers tierIsOpen beforeTier loadInTime migrationInTime tierInTurn sumAtBase longTermAt priorYearAt awardsAt nominatedAt limitSums tierLimit sumFromSource verifiedKw drawsOnSame drawnBefore drawn loadBefore movedWhere loadAfter loadsAfter columnAfter rightsAfter priorsAfter migrated firstMet noHolder noSource noSink noPath strangerIn within wrongKw wrongTerm wrongMonth wrongLoad wrongPrior wrongEvidence wrongClassLine wrongClassFields wrongMigration wrongTier notBetweenSuppliers losesTooMuch sinkNotFor isSubLap beyondVerified beyondRenewable beyondLimit beyondNominated loadCauses carryCauses priorCauses verifyCauses migrateCauses openCauses nominateCauses awardCauses closeCauses callCauses refusal limitCauses heldCauses netCauses queryCauses queryRefusal same2 same3 plusAt2 plusAt3 plusInTerm afterLoad afterCarry afterPrior afterVerify afterOpen afterNominate awardsAfter holdingsAfter afterClose effect accepted step held net figure answer stepAsk answers season upTo oneSink block classLine steadyLoad passTier fullTier opening1 asks1 rest1 answers1 case1 blocks2 case2 case3 case4 case5 case6 case7 case8 case9 lines10 case10 case11 case12 markedCases
 marked-cases = refl

@@ -16,7 +16,7 @@ use Rattle.tariff.proofs.Metric.{posted-le}
 use Rattle.ledger.specs.Opening.{Opening, endsAt}
 use Rattle.ledger.specs.Ledger.{Ledger, Loads, Rights, Priors, emptyLedger, withLoads, withRights, withPriors, withPapers, withTiers}
 use Rattle.ledger.specs.Call.{Call, load, carry, prior, verify, migrate, openTier, nominate, award, closeTier}
-use Rattle.ledger.specs.Moves.{loadBefore, loadsAfter, rightsAfter, priorsAfter, migrated}
+use Rattle.ledger.specs.Moves.{movedWhere, loadBefore, loadsAfter, rightsAfter, priorsAfter, migrated}
 use Rattle.tariff.specs.Ranges.{mostKw}
 use Rattle.ledger.specs.Effects.{same2, same3, plusAt2, plusAt3, plusInTerm, afterLoad, afterCarry, afterPrior, holdingsAfter, effect}
 use Rattle.ledger.specs.Season.{accepted, step, after}
@@ -79,7 +79,7 @@ once-prior o L x q a l k e =
         once-post (o .holders) x kw (eqb p q) (eqb p q) (λ h. v h p) (λ h. L .priors .posted h p) (λ h. eqb h x && eqb p q) (λ h. eqb h x && eqb p q) (λ h. refl) (λ h. refl) (f .holder) high (λ w. w) (λ w. ap (L .priors .posted x) (eqb-true p q w) ∙ f .new) old
 
 once-migrate : (o : Opening) (L : Ledger) (term sink : ℕ) (lines : List ClassLine) → PostedOnce o L → accepted o L (migrate term sink lines) ≡ true → PostedOnce o (effect o L (migrate term sink lines))
-unfolding effect migrated loadsAfter rightsAfter priorsAfter loadBefore
+unfolding effect migrated movedWhere loadsAfter rightsAfter priorsAfter loadBefore
 once-migrate o L term sink lines k e =
     let fits = migrate-facts o L term sink lines e .fits in
     record {
