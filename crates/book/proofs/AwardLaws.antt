@@ -19,7 +19,8 @@ use Rattle.book.specs.Cells.{readAt, cellsOf}
 use Rattle.book.specs.Reading.{rightsIn, tiersIn, ledgerOf, rightsOf, tiersOf, bookOf}
 use Rattle.book.specs.Handed.{openedWith}
 use Rattle.book.proofs.CellLaws.{cells-read}
-use Rattle.book.proofs.Parts.{Shaped, narrow-read, loads-back, priors-back, papers-back}
+use Rattle.book.proofs.Narrow.{narrow-read}
+use Rattle.book.proofs.Parts.{Shaped, loads-back, priors-back, papers-back}
 use Rattle.book.proofs.LimitLaws.{nominated-now}
 
 -- cause 14

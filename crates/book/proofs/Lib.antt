@@ -3,6 +3,8 @@ pub mod CauseLaws
 pub mod CalendarLaws
 pub mod Stores
 pub mod Months
+pub mod Narrow
+pub mod Posted
 pub mod Parts
 pub mod HandedLaws
 pub mod ReachedLaws
@@ -19,6 +21,10 @@ pub mod Inside
 pub mod MovesInside
 pub mod Confined
 pub mod RoundTrip
+pub mod OpeningLaws
+pub mod ReachedSteps
+pub mod SeasonAnswers
+pub mod SeasonTheorem
 pub mod TurnLaws
 pub mod PriorLaws
 pub mod VerifyLaws

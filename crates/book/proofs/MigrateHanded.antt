@@ -25,7 +25,7 @@ use Rattle.book.specs.Setup.{openingOf}
 use Rattle.book.specs.Reading.{tiersIn, ledgerOf}
 use Rattle.book.specs.Handed.{openedWith}
 use Rattle.book.specs.Reached.{Reached}
-use Rattle.book.specs.Columns.{bookMoved, Moves}
+use Rattle.book.specs.Moving.{bookMoved, Moves}
 use Rattle.book.specs.Lines.{strangerAt, wrongLineAt, outsiderAt, movedBy, handedLines}
 use Rattle.book.proofs.CauseLaws.{link, link-unless, no-more}
 use Rattle.book.proofs.HandedLaws.{accepted-test, handed-refused, handed-accepted}

@@ -27,7 +27,8 @@ use Rattle.book.specs.Setup.{openingOf}
 use Rattle.book.specs.Reading.{loadsIn, loadsOf, rightsIn, rightsOf, priorsIn, priorsOf, ledgerOf, bookOf}
 use Rattle.book.specs.Handed.{openedWith, handed}
 use Rattle.book.specs.Reached.{Reached}
-use Rattle.book.specs.Columns.{columnMoved, Movable, bookMoved, Moves, loadMoved}
+use Rattle.book.specs.Columns.{columnMoved, Movable, loadMoved}
+use Rattle.book.specs.Moving.{bookMoved, Moves}
 use Rattle.book.specs.Lines.{movedBy, handedLines}
 use Rattle.book.proofs.CellLaws.{cell-facts, cells-ext}
 use Rattle.book.proofs.Parts.{papers-back, tiers-back}

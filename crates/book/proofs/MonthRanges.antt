@@ -14,7 +14,7 @@ use Rattle.ledger.specs.Moves.{movedWhere}
 use Rattle.book.specs.Columns.{isFrom}
 use Rattle.book.proofs.CellLaws.{cell-facts, cells-ext}
 use Rattle.book.proofs.ColumnLaws.{Changed, changed-ext}
-use Rattle.book.proofs.Parts.{third-zero}
+use Rattle.book.proofs.Narrow.{third-zero}
 
 -- a month alone
 one-month : (term k : ℕ) → isFrom term (term + 1) k ≡ eqb term k

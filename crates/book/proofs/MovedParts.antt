@@ -18,7 +18,7 @@ use Rattle.ledger.specs.Moves.{loadsAfter, rightsAfter, priorsAfter}
 use Rattle.book.specs.Columns.{columnAt, withColumn, isFrom, columnMoved, Movable, loadMoved}
 use Rattle.book.proofs.CellLaws.{cells-read}
 use Rattle.book.proofs.ShiftLaws.{load-shifted}
-use Rattle.book.proofs.Parts.{narrow-read}
+use Rattle.book.proofs.Narrow.{narrow-read}
 use Rattle.book.proofs.ColumnLaws.{Changed}
 use Rattle.book.proofs.MonthRanges.{carried-months, awarded-months, prior-columns}
 

@@ -27,7 +27,8 @@ use Rattle.book.specs.Reading.{priorsIn, tiersIn, ledgerOf, tiersOf, boo
 use Rattle.book.specs.Handed.{openedWith}
 use Rattle.book.specs.Reached.{Reached}
 use Rattle.book.proofs.CellLaws.{cells-ext, cells-read}
-use Rattle.book.proofs.Parts.{Shaped, third-zero, loads-back, rights-back, priors-back, papers-back}
+use Rattle.book.proofs.Narrow.{third-zero}
+use Rattle.book.proofs.Parts.{Shaped, loads-back, rights-back, priors-back, papers-back}
 use Rattle.book.proofs.PathSums.{base-sum-fits}
 use Rattle.book.proofs.LimitLaws.{nominated-now}
 use Rattle.book.proofs.ReachedLaws.{reached-counts}

@@ -1,19 +1,15 @@
 -- A part of the book and the ledger's part that stands in it: from the arrays to the figures and back. Assumes nothing.
-use Prim.Native.Nat.{ℕ}
-use mathlib.Core.Path.{_≡_, refl, sym, ap, _∙_}
-use mathlib.Core.Bool.{Bool, true, false, cond, _&&_, _||_, and-true}
-use mathlib.Core.List.{List}
+use mathlib.Core.Path.{_≡_, refl, ap, _∙_}
+use mathlib.Core.Bool.{false, cond}
 use native.Mathlib.Omega.{arith}
 use lib.ListN.{length}
-use lib.Dec.{eqb}
 use borrow.Author.Tests.{eq-eqb}
 use Rattle.tariff.specs.Evidence.{noEntry}
-use Rattle.ledger.specs.Effects.{same2, same3, plusInTerm, afterCarry}
-use Rattle.book.specs.declared.rights.Rights.{Rights}
 use Rattle.book.specs.declared.book.Book.{Book}
-use Rattle.book.specs.Cells.{hasCell, readAt, cellsOf}
+use Rattle.book.specs.Cells.{readAt, cellsOf}
 use Rattle.book.specs.Reading.{loadsIn, rightsIn, priorsIn, papersIn, tiersIn, ledgerOf, loadsOf, rightsOf, priorsOf, papersOf, tiersOf, bookOf}
-use Rattle.book.proofs.CellLaws.{cell-facts, cells-ext, cells-read}
+use Rattle.book.proofs.Narrow.{narrow-read}
+use Rattle.book.proofs.CellLaws.{cells-read}
 
 -- the lengths of the book's arrays
 pub record Shaped (b : Book) : Type 0 where
@@ -29,15 +25,6 @@ pub record Shaped (b : Book) : Type 0 where
   pub paperPosted : length (b .papers .posted) ≡ 256
   pub nominated : length (b .tiers .nominated) ≡ 128
   pub awards : length (b .tiers .awards) ≡ 1280
-
--- cells one wide have 0 for their third number
-pub third-zero : (h p z : ℕ) → hasCell 1 0 h p z ≡ true → z ≡ 0
-third-zero h p z e = let f = cell-facts 1 0 h p z e in omega arith
-
-pub narrow-read : {A : Type 0} (none : A) (cells : List A) → length cells ≡ 128 → cellsOf 1 0 (λ h p z. readAt 1 0 none cells h p 0) ≡ cells
-narrow-read none cells len =
-    cells-ext 1 0 (λ h p z. readAt 1 0 none cells h p 0) (readAt 1 0 none cells) (omega arith) (λ h p z e. ap (readAt 1 0 none cells h p) (sym (third-zero h p z e)))
-    ∙ cells-read 1 0 none cells (omega arith) len
 
 -- a part that was not touched
 pub loads-back : (b : Book) → Shaped b → loadsOf (loadsIn (b .loads)) ≡ b .loads
@@ -71,22 +58,3 @@ tiers-back b s =
 pub book-back : (b : Book) → Shaped b → bookOf (b .setup) (ledgerOf b) ≡ b
 unfolding bookOf ledgerOf
 book-back b s = λ i. record { setup = b .setup; loads = loads-back b s i; rights = rights-back b s i; priors = priors-back b s i; papers = papers-back b s i; tiers = tiers-back b s i }
-
--- a mark by holder and path
-pub marked-two : (cells : List Bool) (h p : ℕ) → cellsOf 1 0 (λ i j k. same3 h p 0 i j k || readAt 1 0 false cells i j k) ≡ cellsOf 1 0 (λ i j z. same2 h p i j || readAt 1 0 false cells i j 0)
-unfolding same3 same2
-marked-two cells h p =
-    cells-ext 1 0 (λ i j k. same3 h p 0 i j k || readAt 1 0 false cells i j k) (λ i j z. same2 h p i j || readAt 1 0 false cells i j 0) (omega arith) each
-  where
-    each : (i j k : ℕ) → hasCell 1 0 i j k ≡ true → (same3 h p 0 i j k || readAt 1 0 false cells i j k) ≡ (same2 h p i j || readAt 1 0 false cells i j 0)
-    each i j k e =
-        let zero-third = third-zero i j k e in
-        λ t. (two zero-third t) || readAt 1 0 false cells i j (zero-third t)
-      where
-        two : k ≡ 0 → (eqb i h && eqb j p && eqb k 0) ≡ (eqb i h && eqb j p)
-        two q = ap (λ b. eqb i h && eqb j p && b) (eq-eqb k 0 q) ∙ and-true (eqb i h && eqb j p)
-
--- the rights after a carry
-pub carry-rights : (r : Rights) (h p kw : ℕ) (carried : List ℕ) (posted : List Bool) → length (r .awarded) ≡ 384 → carried ≡ cellsOf 3 1 (plusInTerm 0 h p kw (readAt 3 1 0 (r .carried))) → posted ≡ cellsOf 1 0 (λ i j k. same3 h p 0 i j k || readAt 1 0 false (r .posted) i j k) → _≡_ {A = Rights} (record { carried = carried; awarded = r .awarded; posted = posted }) (rightsOf (afterCarry (rightsIn r) h p kw))
-unfolding rightsOf afterCarry rightsIn
-carry-rights r h p kw carried posted len a b = λ i. record { carried = a i; awarded = sym (cells-read 3 1 0 (r .awarded) (omega arith) len) i; posted = (b ∙ marked-two (r .posted) h p) i }

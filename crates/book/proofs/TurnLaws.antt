@@ -20,7 +20,8 @@ use Rattle.book.specs.Reading.{tiersIn, ledgerOf, tiersOf, bookOf}
 use Rattle.book.specs.Handed.{openedWith}
 use Rattle.book.specs.Reached.{Reached}
 use Rattle.book.proofs.CellLaws.{array-is, cells-read, read-here, cell-below}
-use Rattle.book.proofs.Parts.{Shaped, third-zero, loads-back, rights-back, priors-back, papers-back}
+use Rattle.book.proofs.Narrow.{third-zero}
+use Rattle.book.proofs.Parts.{Shaped, loads-back, rights-back, priors-back, papers-back}
 use Rattle.book.proofs.RoundTrip.{reached-ledger}
 
 -- two equations that hold together have one test

@@ -1,8 +1,7 @@
--- The papers and the book after accepted evidence. Assumes nothing.
+-- Evidence that is accepted is in range, and the book after it. Assumes nothing.
 use Prim.Native.Nat.{ℕ}
 use mathlib.Core.Path.{_≡_, sym, ap, _∙_}
-use mathlib.Core.Bool.{Bool, true, false, cond, _||_}
-use mathlib.Core.List.{List}
+use mathlib.Core.Bool.{true, false, cond}
 use Rattle.tariff.specs.declared.evidence.Entry.{Entry}
 use Rattle.tariff.specs.declared.evidence.Filing.{Filing}
 use Rattle.tariff.specs.declared.evidence.Filing.the-variants.{OutOfRange, Filed}
@@ -13,12 +12,11 @@ use Rattle.ledger.specs.Opening.{Opening}
 use Rattle.ledger.specs.Ledger.{Ledger, withPapers}
 use Rattle.ledger.specs.Call.{verify}
 use Rattle.ledger.specs.Causes.{verifyCauses, callCauses}
-use Rattle.ledger.specs.Effects.{same3, afterVerify, effect}
+use Rattle.ledger.specs.Effects.{afterVerify, effect}
 use Rattle.ledger.specs.Season.{accepted}
 use Rattle.ledger.proofs.Unmet.{unmet, accepted-zero}
 use Rattle.book.specs.declared.papers.Papers.{Papers}
 use Rattle.book.specs.declared.book.Book.{Book}
-use Rattle.book.specs.Cells.{readAt, cellsOf}
 use Rattle.book.specs.Reading.{papersIn, ledgerOf, papersOf, bookOf}
 use Rattle.book.specs.Handed.{openedWith}
 use Rattle.book.proofs.Parts.{Shaped, loads-back, rights-back, priors-back, tiers-back}
@@ -38,10 +36,6 @@ unfolding callCauses verifyCauses
 accepted-in-range o L h s kind capacity right first last e =
     let r2 = unmet 1 _ _ (accepted-zero o L (verify h s kind capacity right first last) e) in
     unmet 2 _ _ (r2 .1) .0
-
-pub verify-papers : (r : Papers) (h s kind : ℕ) (filed : Entry) (entries : List Entry) (posted : List Bool) → entries ≡ cellsOf 2 1 (λ i j k. cond (same3 h s kind i j k) filed (readAt 2 1 noEntry (r .entries) i j k)) → posted ≡ cellsOf 2 1 (λ i j k. same3 h s kind i j k || readAt 2 1 false (r .posted) i j k) → _≡_ {A = Papers} (record { entries = entries; posted = posted }) (papersOf (afterVerify (papersIn r) h s kind filed))
-unfolding papersOf afterVerify papersIn
-verify-papers r h s kind filed entries posted x y = λ i. record { entries = x i; posted = y i }
 
 pub verify-book : (b : Book) (h s kind capacity right first last : ℕ) (filed : Entry) (papers : Papers) → Shaped b → filed ≡ entryOf kind capacity right first last → papers ≡ papersOf (afterVerify (papersIn (b .papers)) h s kind filed) → _≡_ {A = Book} (record { setup = b .setup; loads = b .loads; rights = b .rights; priors = b .priors; papers = papers; tiers = b .tiers }) (bookOf (b .setup) (effect (openedWith b) (ledgerOf b) (verify h s kind capacity right first last)))
 unfolding bookOf effect withPapers ledgerOf

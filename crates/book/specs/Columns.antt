@@ -10,12 +10,8 @@ use Rattle.tariff.specs.Sum.{sumTo}
 use Rattle.tariff.specs.Ranges.{mostKw}
 use Rattle.tariff.specs.Migration.{shares, shifted}
 use Rattle.tariff.specs.Netting.{pairAt, holderAt, columnCells}
-use Rattle.ledger.specs.Moves.{loadsAfter, rightsAfter, priorsAfter}
 use Rattle.book.specs.declared.moves.Moved.{Moved}
-use Rattle.book.specs.declared.book.Book.{Book}
 use Rattle.book.specs.Cells.{readAt}
-use Rattle.book.specs.Setup.{openingOf}
-use Rattle.book.specs.Reading.{loadsIn, loadsOf, rightsIn, rightsOf, priorsIn, priorsOf}
 
 -- an array of cells `width` wide
 pub record Flat (width low : ℕ) (cells : List ℕ) : Type 0 where
@@ -58,25 +54,3 @@ pub record Movable (x : Moved) : Type 0 where
 -- the most kW that a column has together
 abbrev pub ColumnFits : Moved → (ℕ → ℕ) → Type 0
 ColumnFits x v = sumTo (x .holders) v ≤ 80 * mostKw
-
--- the book after the ledger's records have moved so, and what its arrays must be like for that
-unfoldable pub bookMoved : Book → ℕ → ℕ → Moved → Book
-bookMoved b term sink x =
-    record {
-      setup = b .setup;
-      loads = loadsOf (loadsAfter term sink (loadMoved x) (loadsIn (b .loads)));
-      rights = rightsOf (rightsAfter (openingOf (b .setup)) term sink (columnMoved x) (rightsIn (b .rights)));
-      priors = priorsOf (priorsAfter (openingOf (b .setup)) term sink (columnMoved x) (priorsIn (b .priors)));
-      papers = b .papers;
-      tiers = b .tiers;
-    }
-
-pub record Moves (b : Book) (term sink : ℕ) (x : Moved) : Type 0 where
-  pub inTerm : term ≤ 3
-  pub inSinks : sink < 16
-  pub movable : Movable x
-  pub ofLoads : x .load ≡ columnAt 4 0 (b .loads .kw) sink term
-  pub carried : (p k : ℕ) → ColumnFits x (λ i. readAt 3 1 0 (b .rights .carried) i p k)
-  pub awarded : (p k : ℕ) → ColumnFits x (λ i. readAt 3 1 0 (b .rights .awarded) i p k)
-  pub allocated : (p k : ℕ) → ColumnFits x (λ i. readAt 1 0 0 (b .priors .allocated) i p k)
-  pub renewable : (p k : ℕ) → ColumnFits x (λ i. readAt 1 0 0 (b .priors .renewable) i p k)

@@ -4,5 +4,8 @@ pub mod Cells
 pub mod Reading
 pub mod Handed
 pub mod Reached
+pub mod Opened
+pub mod SeasonTheorem
 pub mod Columns
+pub mod Moving
 pub mod Lines

@@ -29,7 +29,7 @@ ghost use Rattle.ledger.specs.Causes.{refusal};
 ghost use Rattle.book.specs.Setup.{openingOf};
 ghost use Rattle.book.specs.Reading.{ledgerOf};
 ghost use Rattle.book.specs.Handed.{openedWith};
-ghost use Rattle.book.specs.Columns.{Moves, bookMoved};
+ghost use Rattle.book.specs.Moving.{Moves, bookMoved};
 ghost use Rattle.book.specs.Reached.{Reached};
 ghost use Rattle.book.specs.Lines.{strangerAt, wrongLineAt, outsiderAt, movedBy, handedLines};
 

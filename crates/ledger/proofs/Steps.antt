@@ -2,7 +2,7 @@
 use Prim.Native.Nat.{ℕ, _+_}
 use mathlib.Core.Path.{_≡_, refl, ap}
 use mathlib.Core.Bool.{Bool, true, false}
-use mathlib.Core.List.{List, [], _∷_}
+use mathlib.Core.List.{List, [], _∷_, _++_}
 use native.Mathlib.Omega.{arith}
 use Rattle.tariff.specs.Sum.{countIf}
 use Rattle.tariff.proofs.Sums.{count-true, count-false}
@@ -38,6 +38,16 @@ all-keep P o k L p (c ∷ cs) = all-keep P o k (step o L c) (k L c p) cs
 pub after-keeps : (P : Ledger → Type 0) (o : Opening) → ((L : Ledger) (c : Call) → P L → P (step o L c)) → P emptyLedger → (cs : List Call) → P (after o cs)
 unfolding after
 after-keeps P o k p cs = all-keep P o k emptyLedger p cs
+
+-- one call more is one step more
+from-more : (o : Opening) (L : Ledger) (cs : List Call) (c : Call) → afterFrom o L (cs ++ (c ∷ [])) ≡ step o (afterFrom o L cs) c
+unfolding afterFrom
+from-more o L [] c = refl
+from-more o L (d ∷ cs) c = from-more o (step o L d) cs c
+
+pub after-more : (o : Opening) (cs : List Call) (c : Call) → after o (cs ++ (c ∷ [])) ≡ step o (after o cs) c
+unfolding after
+after-more o cs c = from-more o emptyLedger cs c
 
 module _ (figure : Ledger → ℕ) (amount : Ledger → Call → ℕ) (o : Opening) where
   -- an accepted call adds its amount to the figure

@@ -6,6 +6,7 @@ pub mod Calendar
 pub mod Limits
 pub mod Verification
 pub mod Moves
+pub mod Taken
 pub mod Numbers
 pub mod Ranges
 pub mod Causes

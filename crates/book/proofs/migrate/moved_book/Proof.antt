@@ -1,5 +1,5 @@
 -- `book::migrate::moved_book` meets its contract: each part is moved by itself. Assumes nothing.
-use Rattle.book.specs.Columns.{bookMoved}
+use Rattle.book.specs.Moving.{bookMoved}
 use borrow.Author.Needs.{needs}
 use Rattle.book.proofs.migrate.moved_book.Statement.{statement}
 use Rattle.book.proofs.migrate.moved_book.Tie as tie

@@ -1,7 +1,7 @@
 -- `book::papers::with_entry` meets its contract. Assumes nothing.
 use native.Mathlib.Omega.{arith}
 use Rattle.book.proofs.CellLaws.{has-cell}
-use Rattle.book.proofs.VerifyLaws.{verify-papers}
+use Rattle.book.proofs.Posted.{verify-papers}
 use borrow.Author.Needs.{needs}
 use Rattle.book.proofs.papers.with_entry.Statement.{statement}
 use Rattle.book.proofs.papers.with_entry.Tie as tie

@@ -1,6 +1,6 @@
 -- `book::priors::with_prior` meets its contract. Assumes nothing.
 use native.Mathlib.Omega.{arith}
-use Rattle.book.proofs.PriorLaws.{prior-priors}
+use Rattle.book.proofs.Posted.{prior-priors}
 use Rattle.book.proofs.CellLaws.{has-cell}
 use borrow.Author.Needs.{needs}
 use Rattle.book.proofs.priors.with_prior.Statement.{statement}

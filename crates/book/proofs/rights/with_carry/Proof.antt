@@ -1,6 +1,6 @@
 -- `book::rights::with_carry` meets its contract. Assumes nothing.
 use native.Mathlib.Omega.{arith}
-use Rattle.book.proofs.Parts.{carry-rights}
+use Rattle.book.proofs.Posted.{carry-rights}
 use Rattle.book.proofs.CellLaws.{has-cell}
 use borrow.Author.Needs.{needs}
 use Rattle.book.proofs.rights.with_carry.Statement.{statement}

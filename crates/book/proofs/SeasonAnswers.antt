@@ -1,0 +1,66 @@
+-- Over every list of what is asked, the books and answers handed back are those of the ledger. Assumes nothing.
+use mathlib.Core.Path.{_≡_, refl, sym, ap, ap₂, _∙_}
+use mathlib.Core.Bool.{Bool, true, false, cond}
+use mathlib.Core.List.{List, [], _∷_, _++_, map, append-assoc, append-nil}
+use Rattle.ledger.specs.Opening.{Opening, legal}
+use Rattle.ledger.specs.Ledger.{emptyLedger}
+use Rattle.ledger.specs.Call.{Call}
+use Rattle.ledger.specs.Season as ledger
+use Rattle.ledger.specs.Season.{Ask, call, query, afterFrom, after, answers, stepAsk, season}
+use Rattle.ledger.proofs.Steps.{after-more}
+use Rattle.book.specs.Setup.{setupOf}
+use Rattle.book.specs.Reading.{bookOf}
+use Rattle.book.specs.Handed.{answerIn, answerOf}
+use Rattle.book.specs.Opened.{emptyOpening, openedAs}
+use Rattle.book.specs.SeasonTheorem.{callsOf, bookAfter, answersOf, seasonAnswers}
+use Rattle.book.proofs.ReachedSteps.{bookAt, at-answer, at-told, at-next}
+
+-- an answer read back is the ledger's
+answer-back : (a : ledger.Answer) → answerIn (answerOf a) ≡ a
+unfolding answerIn answerOf
+answer-back ledger.done = refl
+answer-back (ledger.value v) = refl
+answer-back (ledger.refused number) = refl
+
+module _ (o : Opening) (e : legal o ≡ true) where
+  pub answers-from : (cs : List Call) (asks : List Ask) → map answerIn (answersOf (bookAt o e cs) asks) ≡ answers o (after o cs) asks
+  unfolding answersOf answers stepAsk map
+  answers-from cs [] = refl
+  answers-from cs (call c ∷ asks) =
+      ap₂ _∷_ (ap answerIn (at-answer o e cs c) ∙ answer-back (ledger.answer o (after o cs) (call c)))
+      (ap (λ b. map answerIn (answersOf b asks)) (at-next o e cs c) ∙ answers-from (cs ++ (c ∷ [])) asks ∙ ap (λ L. answers o L asks) (after-more o cs c))
+  answers-from cs (query q ∷ asks) =
+      ap₂ _∷_ (ap answerIn (at-told o e cs q) ∙ answer-back (ledger.answer o (after o cs) (query q))) (answers-from cs asks)
+
+  books-from : (cs : List Call) (asks : List Ask) → bookAfter (bookAt o e cs) asks ≡ bookAt o e (cs ++ callsOf asks)
+  unfolding bookAfter callsOf
+  books-from cs [] = ap (λ l. bookAt o e l) (sym (append-nil cs))
+  books-from cs (call c ∷ asks) =
+      ap (λ b. bookAfter b asks) (at-next o e cs c)
+      ∙ books-from (cs ++ (c ∷ [])) asks
+      ∙ ap (λ l. bookAt o e l) (append-assoc cs (c ∷ []) (callsOf asks))
+  books-from cs (query q ∷ asks) = books-from cs asks
+
+  -- opening hands back the book of no calls
+  opened-at : openedAs o .book ≡ bookAt o e []
+  unfolding openedAs after afterFrom
+  opened-at = ap (λ t. bookOf (setupOf (cond t o emptyOpening)) emptyLedger) e
+
+  pub last-book : (asks : List Ask) → bookAfter (openedAs o .book) asks ≡ bookAt o e (callsOf asks)
+  last-book asks = ap (λ b. bookAfter b asks) opened-at ∙ books-from [] asks
+
+  legal-answered : (asks : List Ask) → map answerIn (seasonAnswers o asks) ≡ season o asks
+  unfolding seasonAnswers season openedAs map answerIn after afterFrom
+  legal-answered asks = rw e (ap (λ l. ledger.done ∷ l) (answers-from [] asks))
+
+-- an opening that is not legal is refused, and nothing follows
+refused-answered : (o : Opening) → legal o ≡ false → (asks : List Ask) → map answerIn (seasonAnswers o asks) ≡ season o asks
+unfolding seasonAnswers season openedAs map answerIn
+refused-answered o e asks = rw e
+
+pub season-answered : (o : Opening) (asks : List Ask) → map answerIn (seasonAnswers o asks) ≡ season o asks
+season-answered o asks = go (legal o) refl
+  where
+    go : (t : Bool) → legal o ≡ t → map answerIn (seasonAnswers o asks) ≡ season o asks
+    go true e = legal-answered o e asks
+    go false e = refused-answered o e asks
