@@ -1,13 +1,11 @@
 -- The book after a tier opens or closes. Assumes nothing.
-use Prim.Native.Nat.{ℕ, suc, _-_, _≤_, _<_}
+use Prim.Native.Nat.{ℕ, _-_, _≤_}
 use mathlib.Core.Path.{_≡_, sym, ap, _∙_, subst}
-use mathlib.Core.Bool.{true, false, cond}
-use mathlib.Core.Logic.{_⊎_, inl, inr}
+use mathlib.Core.Bool.{true, cond}
 use native.Mathlib.Omega.{arith}
 use lib.ListN.{replicate, length-replicate, getD-replicate}
 use lib.Dec.{eqb}
-use borrow.Author.Tests.{eqb-true, eqb-false, eq-eqb, ne-eqb}
-use Rattle.tariff.proofs.Tests.{decided}
+use borrow.Author.Tests.{ne-eqb}
 use Rattle.ledger.specs.Ledger.{withTiers}
 use Rattle.ledger.specs.Call.{openTier, closeTier}
 use Rattle.ledger.specs.Effects.{afterOpen, afterClose, effect}
@@ -23,20 +21,6 @@ use Rattle.book.proofs.CellLaws.{array-is, cells-read, read-here, cell-
 use Rattle.book.proofs.Narrow.{third-zero}
 use Rattle.book.proofs.Parts.{Shaped, loads-back, rights-back, priors-back, papers-back}
 use Rattle.book.proofs.RoundTrip.{reached-ledger}
-
--- two equations that hold together have one test
-pub same-test : (a b c d : ℕ) → (a ≡ b → c ≡ d) → (c ≡ d → a ≡ b) → eqb a b ≡ eqb c d
-same-test a b c d to back = go (decided (eqb a b))
-  where
-    go : (eqb a b ≡ true) ⊎ (eqb a b ≡ false) → eqb a b ≡ eqb c d
-    go (inl e) = e ∙ sym (eq-eqb c d (to (eqb-true a b e)))
-    go (inr e) = e ∙ sym (ne-eqb c d (λ q. eqb-false a b e (back q)))
-
-pub next-test : (tier last : ℕ) → last < tier → eqb (tier - last) 1 ≡ eqb tier (suc last)
-next-test tier last l = same-test (tier - last) 1 tier (suc last) (λ e. omega (arith, e)) (λ e. omega (arith, e))
-
-pub past-test : (tier last : ℕ) → tier ≤ last → false ≡ eqb tier (suc last)
-past-test tier last l = sym (ne-eqb tier (suc last) (λ e. omega (arith, e)))
 
 -- cells with nothing in them
 pub no-cells : (f : ℕ → ℕ → ℕ → ℕ) → ((h p : ℕ) → f h p 0 ≡ 0) → replicate 128 0 ≡ cellsOf 1 0 f

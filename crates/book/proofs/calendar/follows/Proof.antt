@@ -1,5 +1,5 @@
 -- `book::calendar::follows` meets its contract. Assumes nothing.
-use Rattle.book.proofs.TurnLaws.{next-test, past-test}
+use Rattle.book.proofs.CalendarLaws.{next-test, past-test}
 use borrow.Author.Needs.{needs}
 use Rattle.book.proofs.calendar.follows.Statement.{statement}
 use Rattle.book.proofs.calendar.follows.Tie as tie
