@@ -12,7 +12,7 @@ use Rattle.book.specs.declared.book.Book.{Book}
 use Rattle.book.specs.declared.book.Answer.the-variants.{Done, Refused}
 use Rattle.book.specs.declared.book.Answered.{Answered}
 use Rattle.book.specs.Reading.{ledgerOf, bookOf}
-use Rattle.book.specs.Handed.{answerOf, openedWith, handed}
+use Rattle.book.specs.Handed.{answerOf, openedWith, refusedWith, handed}
 use Rattle.book.proofs.Parts.{Shaped, book-back}
 
 module _ (b : Book) (c : Call) (number : ℕ) (found : number ≡ refusal (openedWith b) (ledgerOf b) c) where
@@ -25,8 +25,8 @@ module _ (b : Book) (c : Call) (number : ℕ) (found : number ≡ refusal (opene
   accepted-test e = eq-eqb (refusal (openedWith b) (ledgerOf b) c) 0 (sym found ∙ e)
 
   -- a refusal returns its number alone; the book is unchanged
-  pub handed-refused : Shaped b → (number ≡ 0 → ⊥) → _≡_ {A = Answered} (record { answer = Refused number; book = b }) (handed b c)
-  unfolding handed season.answer answerOf
+  pub handed-refused : Shaped b → (number ≡ 0 → ⊥) → refusedWith b number ≡ handed b c
+  unfolding refusedWith handed season.answer answerOf
   handed-refused shaped ne =
       λ i.
       record {

@@ -18,12 +18,12 @@ use Rattle.ledger.specs.Call.{migrate}
 use Rattle.ledger.specs.Causes.{migrateCauses, callCauses, refusal}
 use Rattle.ledger.proofs.TierFacts.{MigrateFacts, migrate-facts}
 use Rattle.book.specs.declared.book.Book.{Book}
-use Rattle.book.specs.declared.book.Answer.the-variants.{Done, Refused}
+use Rattle.book.specs.declared.book.Answer.the-variants.{Done}
 use Rattle.book.specs.declared.book.Answered.{Answered}
 use Rattle.book.specs.declared.moves.Moved.{Moved}
 use Rattle.book.specs.Setup.{openingOf}
 use Rattle.book.specs.Reading.{tiersIn, ledgerOf}
-use Rattle.book.specs.Handed.{openedWith}
+use Rattle.book.specs.Handed.{openedWith, refusedWith}
 use Rattle.book.specs.Reached.{Reached}
 use Rattle.book.specs.Moving.{bookMoved, Moves}
 use Rattle.book.specs.Lines.{strangerAt, wrongLineAt, outsiderAt, movedBy, handedLines}
@@ -59,7 +59,7 @@ module _ (b : Book) (term sink : ℕ) (froms tos classes customers watts : List 
 
   module _ (r : Reached b) (even : Bool) (counted : even ≡ sameCounts froms tos classes customers watts) where
     -- slices of unequal length
-    pub uneven : not even ≡ true → _≡_ {A = Answered} (record { answer = Refused 1; book = b }) (handedLines b term sink froms tos classes customers watts)
+    pub uneven : not even ≡ true → refusedWith b 1 ≡ handedLines b term sink froms tos classes customers watts
     uneven odd = handed-uneven b term sink froms tos classes customers watts (sym counted ∙ not-true even odd)
 
     module _ (equal : not even ≡ false) where
@@ -70,7 +70,7 @@ module _ (b : Book) (term sink : ℕ) (froms tos classes customers watts : List 
       refusal-needs x is = (reached-counts b r .0, same-lengths froms tos classes customers watts counts, is)
 
       module _ (number : ℕ) (found : number ≡ refusal (openedWith b) (ledgerOf b) (migrate term sink (classLinesOf froms tos classes customers watts))) where
-        pub lines-refused : (number ≡ 0 → ⊥) → _≡_ {A = Answered} (record { answer = Refused number; book = b }) (handedLines b term sink froms tos classes customers watts)
+        pub lines-refused : (number ≡ 0 → ⊥) → refusedWith b number ≡ handedLines b term sink froms tos classes customers watts
         lines-refused ne = handed-refused b _ number found (reached-shaped b r) ne ∙ handed-even b term sink froms tos classes customers watts counts
 
         module _ (x : Moved) (is : x ≡ movedBy b term sink froms tos classes customers watts) (none : number ≡ 0) where

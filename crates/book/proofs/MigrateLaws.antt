@@ -19,13 +19,11 @@ use Rattle.ledger.specs.Effects.{effect}
 use Rattle.ledger.proofs.TierFacts.{MigrateFacts}
 use Rattle.ledger.proofs.Outside.{netted-outside}
 use Rattle.book.specs.declared.book.Book.{Book}
-use Rattle.book.specs.declared.book.Answer.the-variants.{Refused}
-use Rattle.book.specs.declared.book.Answered.{Answered}
 use Rattle.book.specs.declared.moves.Moved.{Moved}
 use Rattle.book.specs.Cells.{readAt, cellsOf}
 use Rattle.book.specs.Setup.{openingOf}
 use Rattle.book.specs.Reading.{loadsIn, loadsOf, rightsIn, rightsOf, priorsIn, priorsOf, ledgerOf, bookOf}
-use Rattle.book.specs.Handed.{openedWith, handed}
+use Rattle.book.specs.Handed.{openedWith, handed, refusedWith}
 use Rattle.book.specs.Reached.{Reached}
 use Rattle.book.specs.Columns.{columnMoved, Movable, loadMoved}
 use Rattle.book.specs.Moving.{bookMoved, Moves}
@@ -141,10 +139,10 @@ module _ (b : Book) (r : Reached b) (term sink : ℕ) (froms tos classes custome
 
 module _ (b : Book) (term sink : ℕ) (froms tos classes customers watts : List ℕ) where
   -- slices of unequal and of equal length
-  pub handed-uneven : sameCounts froms tos classes customers watts ≡ false → _≡_ {A = Answered} (record { answer = Refused 1; book = b }) (handedLines b term sink froms tos classes customers watts)
+  pub handed-uneven : sameCounts froms tos classes customers watts ≡ false → refusedWith b 1 ≡ handedLines b term sink froms tos classes customers watts
   unfolding handedLines
-  handed-uneven e = sym (ap (λ t. cond t (handed b (migrate term sink (classLinesOf froms tos classes customers watts))) (record { answer = Refused 1; book = b })) e)
+  handed-uneven e = sym (ap (λ t. cond t (handed b (migrate term sink (classLinesOf froms tos classes customers watts))) (refusedWith b 1)) e)
 
   pub handed-even : sameCounts froms tos classes customers watts ≡ true → handed b (migrate term sink (classLinesOf froms tos classes customers watts)) ≡ handedLines b term sink froms tos classes customers watts
   unfolding handedLines
-  handed-even e = sym (ap (λ t. cond t (handed b (migrate term sink (classLinesOf froms tos classes customers watts))) (record { answer = Refused 1; book = b })) e)
+  handed-even e = sym (ap (λ t. cond t (handed b (migrate term sink (classLinesOf froms tos classes customers watts))) (refusedWith b 1)) e)

@@ -1,4 +1,5 @@
 -- What a call hands back: the ledger's answer, and the book of the ledger's next step.
+use Prim.Native.Nat.{ℕ}
 use Rattle.ledger.specs.Call.{Call, Query}
 use Rattle.ledger.specs.Opening.{Opening}
 use Rattle.ledger.specs.Season as season
@@ -23,6 +24,10 @@ answerOf (season.refused number) = Refused number
 -- the opening that a book keeps
 unfoldable pub openedWith : Book → Opening
 openedWith b = openingOf (b .setup)
+
+-- a refusal returns its number alone; the book is unchanged
+unfoldable pub refusedWith : Book → ℕ → Answered
+refusedWith b number = record { answer = Refused number; book = b }
 
 unfoldable pub handed : Book → Call → Answered
 handed b c =

@@ -11,10 +11,9 @@ use Rattle.ledger.specs.Ranges.{noHolder}
 use Rattle.ledger.specs.Call.{migrate}
 use Rattle.book.specs.declared.moves.Moved.{Moved}
 use Rattle.book.specs.declared.book.Book.{Book}
-use Rattle.book.specs.declared.book.Answer.the-variants.{Refused}
 use Rattle.book.specs.declared.book.Answered.{Answered}
 use Rattle.book.specs.Columns.{columnAt}
-use Rattle.book.specs.Handed.{handed}
+use Rattle.book.specs.Handed.{refusedWith, handed}
 
 -- a line that names a holder who is not in the book
 unfoldable pub strangerAt : Opening → List ℕ → List ℕ → ℕ → Bool
@@ -41,4 +40,4 @@ movedBy b term sink froms tos classes customers watts =
 unfoldable pub handedLines : Book → ℕ → ℕ → List ℕ → List ℕ → List ℕ → List ℕ → List ℕ → Answered
 handedLines b term sink froms tos classes customers watts =
     cond (sameCounts froms tos classes customers watts) (handed b (migrate term sink (classLinesOf froms tos classes customers watts)))
-    (record { answer = Refused 1; book = b })
+    (refusedWith b 1)

@@ -5,6 +5,8 @@ use crate::priors::Priors;
 use crate::rights::Rights;
 use crate::setup::Setup;
 use crate::tiers::Tiers;
+ghost use mathlib.Core.Path.{_≡_};
+ghost use Rattle.book.specs.Handed.{refusedWith};
 
 pub struct Book {
     pub setup: Setup,
@@ -26,4 +28,14 @@ pub enum Answer {
 pub struct Answered {
     pub answer: Answer,
     pub book: Book,
+}
+
+// A refusal: its number alone, beside the book as it was.
+pub fn refused(b: Book, number: u64) -> Answered
+    ensures { λ r. ⌜ r ≡ refusedWith b number ⌝ }
+{
+    Answered {
+        answer: Answer::Refused(number),
+        book: b,
+    }
 }

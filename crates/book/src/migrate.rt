@@ -2,6 +2,7 @@
 use crate::book::Answer;
 use crate::book::Answered;
 use crate::book::Book;
+use crate::book::refused;
 use crate::calendar::migration_in_time;
 use crate::moves::Moved;
 use crate::moves::column_at;
@@ -212,18 +213,12 @@ impl Book {
         ensures { λ r. ⌜ r ≡ handedLines self term sink (now (froms .entry)) (now (tos .entry)) (now (classes .entry)) (now (customers .entry)) (now (watts .entry)) ⌝ }
     {
         if !same_counts(froms, tos, classes, customers, watts) {
-            return Answered {
-                answer: Answer::Refused(1),
-                book: self,
-            };
+            return refused(self, 1);
         }
         let x = moved_by(self, term, sink, froms, tos, classes, customers, watts);
         let number = migrate_refusal(self, term, sink, froms, tos, classes, customers, watts, x);
         if number != 0 {
-            return Answered {
-                answer: Answer::Refused(number),
-                book: self,
-            };
+            return refused(self, number);
         }
         let book = moved_book(self, term, sink, x);
         Answered {

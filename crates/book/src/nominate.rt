@@ -2,6 +2,7 @@
 use crate::book::Answer;
 use crate::book::Answered;
 use crate::book::Book;
+use crate::book::refused;
 use crate::calendar::is_open;
 use crate::cells::add;
 use crate::cells::read;
@@ -134,10 +135,7 @@ impl Book {
     {
         let number = nominate_refusal(self, h, p, kw);
         if number != 0 {
-            return Answered {
-                answer: Answer::Refused(number),
-                book: self,
-            };
+            return refused(self, number);
         }
         let setup = self.setup;
         let loads = self.loads;

@@ -2,6 +2,7 @@
 use crate::book::Answer;
 use crate::book::Answered;
 use crate::book::Book;
+use crate::book::refused;
 use crate::calendar::before_tier;
 use crate::cells::marked;
 use crate::priors::with_prior;
@@ -45,10 +46,7 @@ impl Book {
     {
         let number = prior_refusal(self, h, p, a, l);
         if number != 0 {
-            return Answered {
-                answer: Answer::Refused(number),
-                book: self,
-            };
+            return refused(self, number);
         }
         let setup = self.setup;
         let loads = self.loads;

@@ -2,6 +2,7 @@
 use crate::book::Answer;
 use crate::book::Answered;
 use crate::book::Book;
+use crate::book::refused;
 use crate::calendar::in_turn;
 use crate::calendar::is_open;
 use crate::refusals::refuse;
@@ -41,10 +42,7 @@ impl Book {
     {
         let number = open_refusal(self, tier);
         if number != 0 {
-            return Answered {
-                answer: Answer::Refused(number),
-                book: self,
-            };
+            return refused(self, number);
         }
         let setup = self.setup;
         let loads = self.loads;
@@ -79,10 +77,7 @@ impl Book {
     {
         let number = close_refusal(self);
         if number != 0 {
-            return Answered {
-                answer: Answer::Refused(number),
-                book: self,
-            };
+            return refused(self, number);
         }
         let setup = self.setup;
         let loads = self.loads;

@@ -2,6 +2,7 @@
 use crate::book::Answer;
 use crate::book::Answered;
 use crate::book::Book;
+use crate::book::refused;
 use crate::calendar::is_open;
 use crate::cells::marked;
 use crate::papers::with_entry;
@@ -80,10 +81,7 @@ impl Book {
     {
         let number = verify_refusal(self, h, s, kind, capacity, right, first, last);
         if number != 0 {
-            return Answered {
-                answer: Answer::Refused(number),
-                book: self,
-            };
+            return refused(self, number);
         }
         let setup = self.setup;
         let loads = self.loads;

@@ -1,4 +1,5 @@
 -- `book::Book::award` meets its contract: a refusal leaves the book, and an accepted award changes the rights and the tiers. Assumes nothing.
+use mathlib.Core.Path.{_∙_}
 use native.Mathlib.Nat.{le-trans}
 use native.Mathlib.Omega.{arith}
 use Rattle.ledger.proofs.TierFacts.{award-facts}
@@ -15,8 +16,11 @@ use Rattle.book.proofs.book.Book.award.Tie as tie
 award-refusal-requires : tie.Need-award-refusal-requires
 award-refusal-requires c κs = search needs
 
+refused-requires : tie.Need-refused-requires
+refused-requires c κs = search needs
+
 returns : tie.Need-returns
-returns c = handed-refused _ _ _ (c .before .award-refusal .ensures) (reached-shaped _ (c .before .before .pre)) (c .if1 .taken)
+returns c = c .refused .ensures ∙ handed-refused _ _ _ (c .before .before .award-refusal .ensures) (reached-shaped _ (c .before .before .before .pre)) (c .before .if1 .taken)
 
 with-awarded-requires : tie.Need-with-awarded-requires
 unfolding openedWith openingOf
@@ -43,4 +47,4 @@ returns-2 c = handed-accepted _ _ _ (c .before .before .before .before .before .
 pub award-spec : {M : Type 1} → statement M
 award-spec =
     tie.close
-    (tie.spec award-refusal-requires returns with-awarded-requires with-award-requires returns-2)
+    (tie.spec award-refusal-requires refused-requires returns with-awarded-requires with-award-requires returns-2)

@@ -1,4 +1,5 @@
 -- `book::Book::carry` meets its contract: a refusal leaves the book, and an accepted carry changes the rights alone. Assumes nothing.
+use mathlib.Core.Path.{_∙_}
 use native.Mathlib.Nat.{le-trans}
 use Rattle.book.specs.Handed.{openedWith}
 use Rattle.book.specs.Setup.{openingOf}
@@ -14,8 +15,11 @@ use Rattle.book.proofs.book.Book.carry.Tie as tie
 carry-refusal-requires : tie.Need-carry-refusal-requires
 carry-refusal-requires c κs = search needs
 
+refused-requires : tie.Need-refused-requires
+refused-requires c κs = search needs
+
 returns : tie.Need-returns
-returns c = handed-refused _ _ _ (c .before .carry-refusal .ensures) (reached-shaped _ (c .before .before .pre)) (c .if1 .taken)
+returns c = c .refused .ensures ∙ handed-refused _ _ _ (c .before .before .carry-refusal .ensures) (reached-shaped _ (c .before .before .before .pre)) (c .before .if1 .taken)
 
 with-carry-requires : tie.Need-with-carry-requires
 unfolding openedWith openingOf
@@ -25,4 +29,4 @@ returns-2 : tie.Need-returns-2
 returns-2 c = handed-accepted _ _ _ (c .before .before .before .before .before .before .before .before .carry-refusal .ensures) _ (c .before .before .before .before .before .before .before .if1 .left) (carry-book (c .before .before .before .before .before .before .before .before .before .args .self) _ _ _ _ (reached-shaped _ (c .before .before .before .before .before .before .before .before .before .pre)) (c .before .before .before .with-carry .ensures))
 
 pub carry-spec : {M : Type 1} → statement M
-carry-spec = tie.close (tie.spec carry-refusal-requires returns with-carry-requires returns-2)
+carry-spec = tie.close (tie.spec carry-refusal-requires refused-requires returns with-carry-requires returns-2)

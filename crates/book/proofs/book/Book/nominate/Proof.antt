@@ -1,4 +1,5 @@
 -- `book::Book::nominate` meets its contract: a refusal leaves the book, and an accepted nomination changes the tiers alone. Assumes nothing.
+use mathlib.Core.Path.{_∙_}
 use native.Mathlib.Nat.{le-trans}
 use native.Mathlib.Omega.{arith}
 use Rattle.ledger.proofs.TierFacts.{nominate-facts}
@@ -15,8 +16,11 @@ use Rattle.book.proofs.book.Book.nominate.Tie as tie
 nominate-refusal-requires : tie.Need-nominate-refusal-requires
 nominate-refusal-requires c κs = search needs
 
+refused-requires : tie.Need-refused-requires
+refused-requires c κs = search needs
+
 returns : tie.Need-returns
-returns c = handed-refused _ _ _ (c .before .nominate-refusal .ensures) (reached-shaped _ (c .before .before .pre)) (c .if1 .taken)
+returns c = c .refused .ensures ∙ handed-refused _ _ _ (c .before .before .nominate-refusal .ensures) (reached-shaped _ (c .before .before .before .pre)) (c .before .if1 .taken)
 
 with-nomination-requires : tie.Need-with-nomination-requires
 unfolding openedWith openingOf
@@ -32,4 +36,4 @@ returns-2 c = handed-accepted _ _ _ (c .before .before .before .before .before .
 
 pub nominate-spec : {M : Type 1} → statement M
 nominate-spec =
-    tie.close (tie.spec nominate-refusal-requires returns with-nomination-requires returns-2)
+    tie.close (tie.spec nominate-refusal-requires refused-requires returns with-nomination-requires returns-2)

@@ -1,4 +1,5 @@
 -- `book::Book::prior` meets its contract: a refusal leaves the book, and an accepted prior changes the priors alone. Assumes nothing.
+use mathlib.Core.Path.{_∙_}
 use native.Mathlib.Nat.{le-trans}
 use Rattle.book.specs.Handed.{openedWith}
 use Rattle.book.specs.Setup.{openingOf}
@@ -14,8 +15,11 @@ use Rattle.book.proofs.book.Book.prior.Tie as tie
 prior-refusal-requires : tie.Need-prior-refusal-requires
 prior-refusal-requires c κs = search needs
 
+refused-requires : tie.Need-refused-requires
+refused-requires c κs = search needs
+
 returns : tie.Need-returns
-returns c = handed-refused _ _ _ (c .before .prior-refusal .ensures) (reached-shaped _ (c .before .before .pre)) (c .if1 .taken)
+returns c = c .refused .ensures ∙ handed-refused _ _ _ (c .before .before .prior-refusal .ensures) (reached-shaped _ (c .before .before .before .pre)) (c .before .if1 .taken)
 
 with-prior-requires : tie.Need-with-prior-requires
 unfolding openedWith openingOf
@@ -25,4 +29,4 @@ returns-2 : tie.Need-returns-2
 returns-2 c = handed-accepted _ _ _ (c .before .before .before .before .before .before .before .before .prior-refusal .ensures) _ (c .before .before .before .before .before .before .before .if1 .left) (prior-book (c .before .before .before .before .before .before .before .before .before .args .self) _ _ _ _ _ (reached-shaped _ (c .before .before .before .before .before .before .before .before .before .pre)) (c .before .before .with-prior .ensures))
 
 pub prior-spec : {M : Type 1} → statement M
-prior-spec = tie.close (tie.spec prior-refusal-requires returns with-prior-requires returns-2)
+prior-spec = tie.close (tie.spec prior-refusal-requires refused-requires returns with-prior-requires returns-2)

@@ -1,4 +1,5 @@
 -- `book::Book::verify` meets its contract: a refusal leaves the book, and accepted evidence changes the papers alone. Assumes nothing.
+use mathlib.Core.Path.{_∙_}
 use native.Mathlib.Nat.{le-trans}
 use Rattle.book.specs.Handed.{openedWith}
 use Rattle.book.specs.Setup.{openingOf}
@@ -13,8 +14,11 @@ use Rattle.book.proofs.book.Book.verify.Tie as tie
 verify-refusal-requires : tie.Need-verify-refusal-requires
 verify-refusal-requires c κs = search needs
 
+refused-requires : tie.Need-refused-requires
+refused-requires c κs = search needs
+
 returns : tie.Need-returns
-returns c = handed-refused _ _ _ (c .before .verify-refusal .ensures) (reached-shaped _ (c .before .before .pre)) (c .if1 .taken)
+returns c = c .refused .ensures ∙ handed-refused _ _ _ (c .before .before .verify-refusal .ensures) (reached-shaped _ (c .before .before .before .pre)) (c .before .if1 .taken)
 
 entry-in-range-requires : tie.Need-entry-in-range-requires
 entry-in-range-requires c κs = accepted-in-range _ _ _ _ _ _ _ _ _ (accepted-test (c .before .before .before .before .before .before .before .args .self) _ _ (c .before .before .before .before .before .before .verify-refusal .ensures) (c .before .before .before .before .before .if1 .left))
@@ -31,6 +35,7 @@ verify-spec =
     tie.close
     (tie.spec
     verify-refusal-requires
+    refused-requires
     returns
     entry-in-range-requires
     with-entry-requires
