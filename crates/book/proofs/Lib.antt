@@ -32,3 +32,4 @@ pub mod LineLaws
 pub mod MigrateCauses
 pub mod MigrateLaws
 pub mod MigrateHanded
+pub mod OpeningLaws
