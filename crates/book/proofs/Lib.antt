@@ -33,3 +33,4 @@ pub mod MigrateCauses
 pub mod MigrateLaws
 pub mod MigrateHanded
 pub mod OpeningLaws
+pub mod LegalityLaws

@@ -6,6 +6,7 @@ pub mod calendar;
 pub mod carry;
 pub mod cells;
 pub mod holdings;
+pub mod legality;
 pub mod limits;
 pub mod loads;
 pub mod migrate;
