@@ -34,3 +34,5 @@ pub mod MigrateLaws
 pub mod MigrateHanded
 pub mod OpeningLaws
 pub mod LegalityLaws
+pub mod EmptyBook
+pub mod OpenedLaws

@@ -1,21 +1,20 @@
 // Whether the opening that a setup keeps is legal (01, The book; cause 16).
 use crate::setup::Setup;
 ghost use mathlib.Core.Path.{_≡_};
-ghost use mathlib.Core.Bool.{_&&_};
 ghost use Rattle.tariff.specs.Sum.{allBelow};
-ghost use Rattle.ledger.specs.Opening.{countsFit, holderLegal, parentLegal, sinkLegal, pathLegal, pathsAlike, pathNew};
+ghost use Rattle.ledger.specs.Opening.{countsFit, holderLegal, parentLegal, sinkLegal, pathLegal, pathsAlike, pathNew, legal};
 ghost use Rattle.book.specs.Setup.{openingOf};
 
 impl Setup {
     // At most 8 holders, 16 sources, 16 sinks and 16 paths.
-    pub fn counts_fit(self) -> bool
+    fn counts_fit(self) -> bool
         ensures { λ r. ⌜ r ≡ countsFit (openingOf self) ⌝ }
     {
         (self.holders <= 8) & (self.sources <= 16) & (self.sinks <= 16) & (self.paths <= 16)
     }
 
     // A holder is of kind 1 or 2.
-    pub fn holder_legal(self, h: u64) -> bool
+    fn holder_legal(self, h: u64) -> bool
         ensures { λ r. ⌜ r ≡ holderLegal (openingOf self) h ⌝ }
     {
         let kind = self.holder_kind(h);
@@ -23,7 +22,7 @@ impl Setup {
     }
 
     // A Sub-LAP's parent has a lower number and is a Default LAP.
-    pub fn parent_legal(self, s: u64) -> bool
+    fn parent_legal(self, s: u64) -> bool
         ensures { λ r. ⌜ r ≡ parentLegal (openingOf self) s ⌝ }
     {
         let parent = self.sink_base(s);
@@ -32,7 +31,7 @@ impl Setup {
     }
 
     // A sink is of kind 1 to 4; a Sub-LAP has a parent, any other sink names itself.
-    pub fn sink_legal(self, s: u64) -> bool
+    fn sink_legal(self, s: u64) -> bool
         ensures { λ r. ⌜ r ≡ sinkLegal (openingOf self) s ⌝ }
     {
         let kind = self.sink_kind(s);
@@ -44,7 +43,7 @@ impl Setup {
     }
 
     // A path's source and sink are in the book.
-    pub fn path_legal(self, p: u64) -> bool
+    fn path_legal(self, p: u64) -> bool
         ensures { λ r. ⌜ r ≡ pathLegal (openingOf self) p ⌝ }
     {
         let source = self.path_source(p);
@@ -53,7 +52,7 @@ impl Setup {
     }
 
     // Two paths share both source and sink.
-    pub fn paths_alike(self, p: u64, q: u64) -> bool
+    fn paths_alike(self, p: u64, q: u64) -> bool
         ensures { λ r. ⌜ r ≡ pathsAlike (openingOf self) p q ⌝ }
     {
         let same_source = self.path_source(p) == self.path_source(q);
@@ -62,7 +61,7 @@ impl Setup {
     }
 
     // Every holder is legal.
-    pub fn holders_legal(self) -> bool
+    fn holders_legal(self) -> bool
         ensures { λ r. ⌜ r ≡ allBelow (self .holders) (holderLegal (openingOf self)) ⌝ }
     {
         let holders = self.holders;
@@ -77,7 +76,7 @@ impl Setup {
     }
 
     // Every sink is legal.
-    pub fn sinks_legal(self) -> bool
+    fn sinks_legal(self) -> bool
         ensures { λ r. ⌜ r ≡ allBelow (self .sinks) (sinkLegal (openingOf self)) ⌝ }
     {
         let sinks = self.sinks;
@@ -92,7 +91,7 @@ impl Setup {
     }
 
     // Every path is legal.
-    pub fn paths_legal(self) -> bool
+    fn paths_legal(self) -> bool
         ensures { λ r. ⌜ r ≡ allBelow (self .paths) (pathLegal (openingOf self)) ⌝ }
     {
         let paths = self.paths;
@@ -107,7 +106,7 @@ impl Setup {
     }
 
     // No two paths share both source and sink. The first pair that does ends the search.
-    pub fn paths_differ(self) -> bool
+    fn paths_differ(self) -> bool
         ensures { λ r. ⌜ r ≡ allBelow (self .paths) (pathNew (openingOf self)) ⌝ }
     {
         let paths = self.paths;
@@ -127,10 +126,13 @@ impl Setup {
         differ
     }
 
-    // Every holder, sink and path is legal, and no path is there twice.
-    pub fn lines_legal(self) -> bool
-        ensures { λ r. ⌜ r ≡ (allBelow (self .holders) (holderLegal (openingOf self)) && allBelow (self .sinks) (sinkLegal (openingOf self)) && allBelow (self .paths) (pathLegal (openingOf self)) && allBelow (self .paths) (pathNew (openingOf self))) ⌝ }
+    // The opening breaks no rule. The counts come first, as they bound the loops of the rest.
+    pub fn is_legal(self) -> bool
+        ensures { λ r. ⌜ r ≡ legal (openingOf self) ⌝ }
     {
+        if !self.counts_fit() {
+            return false;
+        }
         self.holders_legal() & self.sinks_legal() & self.paths_legal() & self.paths_differ()
     }
 }

@@ -1,5 +1,5 @@
 -- `book::setup::Setup::paths_differ` meets its contract: no path passed so far is like an earlier one, and the first pair that is alike ends the search. Assumes nothing.
-use Prim.Native.Nat.{_≤_, _<_, _-_, zero-le}
+use Prim.Native.Nat.{_≤_, _-_, zero-le}
 use mathlib.Core.Bool.{true, false}
 use mathlib.Core.Path.{_≡_, refl, sym, _∙_}
 use borrow.Author.Needs.{needs}
