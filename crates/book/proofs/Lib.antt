@@ -38,3 +38,6 @@ pub mod LineLaws
 pub mod MigrateCauses
 pub mod MigrateLaws
 pub mod MigrateHanded
+pub mod LegalityLaws
+pub mod EmptyBook
+pub mod OpenedLaws

@@ -36,7 +36,7 @@ lists-long o e =
     (eqb-true _ _ (one .0), eqb-true _ _ (one .1), eqb-true _ _ (two .1), eqb-true _ _ (three .1), eqb-true _ _ (four .1))
 
 -- the counts are small
-counts-small : (o : Opening) → countsFit o ≡ true → (o .holders ≤ 8) × (o .sinks ≤ 16) × (o .paths ≤ 16)
+pub counts-small : (o : Opening) → countsFit o ≡ true → (o .holders ≤ 8) × (o .sinks ≤ 16) × (o .paths ≤ 16)
 unfolding countsFit
 counts-small o e =
     let three = and-both _ _ e in

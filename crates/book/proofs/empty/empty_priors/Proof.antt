@@ -1,0 +1,14 @@
+-- `book::empty::empty_priors` meets its contract: every array is filled with one value. Assumes nothing.
+use Rattle.ledger.specs.Ledger.{emptyLedger}
+use Rattle.book.specs.Reading.{priorsOf}
+use Rattle.book.proofs.EmptyBook.{same-cells}
+use mathlib.Core.Bool.{false}
+use Rattle.book.proofs.empty.empty_priors.Statement.{statement}
+use Rattle.book.proofs.empty.empty_priors.Tie as tie
+
+returns : tie.Need-returns
+unfolding priorsOf emptyLedger
+returns c = λ i. record { allocated = same-cells 1 0 0 i; renewable = same-cells 1 0 0 i; posted = same-cells 1 0 false i }
+
+pub empty-priors-spec : {M : Type 1} → statement M
+empty-priors-spec = tie.close (tie.spec returns)
