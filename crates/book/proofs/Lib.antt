@@ -32,3 +32,7 @@ pub mod LineLaws
 pub mod MigrateCauses
 pub mod MigrateLaws
 pub mod MigrateHanded
+pub mod BlockLaws
+pub mod LoadLaws
+pub mod PostingLaws
+pub mod LoadHanded

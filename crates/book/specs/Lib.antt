@@ -6,3 +6,4 @@ pub mod Handed
 pub mod Reached
 pub mod Columns
 pub mod Lines
+pub mod Posting

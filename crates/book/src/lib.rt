@@ -7,6 +7,7 @@ pub mod carry;
 pub mod cells;
 pub mod holdings;
 pub mod limits;
+pub mod load;
 pub mod loads;
 pub mod migrate;
 pub mod moves;
