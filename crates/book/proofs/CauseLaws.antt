@@ -1,8 +1,9 @@
 -- Laws of the causes, in the form in which code finds them. Assumes nothing.
-use Prim.Native.Nat.{ℕ}
+use Prim.Native.Nat.{ℕ, zero, suc}
 use mathlib.Core.Path.{_≡_, refl, sym, ap, _∙_}
 use mathlib.Core.Bool.{Bool, true, false, cond, not}
 use mathlib.Core.List.{List, [], _∷_}
+use lib.ListN.{take}
 use lib.Dec.{eqb}
 use borrow.Author.Tests.{eq-eqb, ne-eqb}
 use Rattle.ledger.specs.Opening.{Opening, holderKind, sinkKind}
@@ -26,6 +27,14 @@ link-unless number met test rows {later} e t l = e ∙ ap (λ b. cond b number l
     go : (b : Bool) → (b ≡ false → later ≡ firstMet rows) → cond b number later ≡ cond b number (firstMet rows)
     go true k = refl
     go false k = k refl
+
+-- the first causes of a list, where one of them is met
+pub first-part : (k : ℕ) (rows : List Cause) → (firstMet (take k rows) ≡ 0 → ⊥) → firstMet (take k rows) ≡ firstMet rows
+unfolding firstMet
+first-part zero rows ne = absurd (ne refl)
+first-part (suc k) [] ne = refl
+first-part (suc k) (cause number true ∷ rows) ne = refl
+first-part (suc k) (cause number false ∷ rows) ne = first-part k rows ne
 
 -- which sinks are for a holder
 pub sink-of-supplier : (o : Opening) (h s kind : ℕ) → holderKind o h ≡ 1 → kind ≡ sinkKind o s → eqb kind 4 ≡ sinkNotFor o h s

@@ -41,3 +41,7 @@ pub mod MigrateHanded
 pub mod LegalityLaws
 pub mod EmptyBook
 pub mod OpenedLaws
+pub mod BlockLaws
+pub mod LoadLaws
+pub mod PostingLaws
+pub mod LoadHanded

@@ -21,7 +21,7 @@ use Rattle.book.specs.Reading.{tiersOf, bookOf}
 use Rattle.book.specs.Reached.{Reached}
 use Rattle.book.proofs.CellLaws.{read-le}
 use Rattle.book.proofs.ReachedLaws.{holders-same, paths-same}
-use Rattle.book.proofs.ReachedColumns.{carried-together, awarded-together, allocated-together, renewable-together}
+use Rattle.book.proofs.ReachedColumns.{loads-together, carried-together, awarded-together, allocated-together, renewable-together}
 
 -- a figure within the bound has room for the kW of one call more
 pub room-for-more : (x kw : ℕ) → x ≤ mostTogether → kw ≤ mostKw → x + kw < 2 ^ 64
@@ -40,6 +40,9 @@ module _ (b : Book) (r : Reached b) where
   fits = figures-fit (r .opening) (r .isLegal) (r .calls)
 
   -- one holder's figure is within what all have together
+  pub load-fits : (h s t : ℕ) → h < b .setup .holders → readAt 4 0 0 (b .loads .kw) h s t ≤ mostTogether
+  load-fits h s t l = one-fits (λ i. readAt 4 0 0 (b .loads .kw) i s t) (b .setup .holders) mostTogether h l (loads-together b r s t)
+
   pub carried-fits : (h p m : ℕ) → h < b .setup .holders → readAt 3 1 0 (b .rights .carried) h p m ≤ mostTogether
   carried-fits h p m l = one-fits (λ i. readAt 3 1 0 (b .rights .carried) i p m) (b .setup .holders) mostTogether h l (carried-together b r p m)
 

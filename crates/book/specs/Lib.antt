@@ -9,3 +9,4 @@ pub mod SeasonTheorem
 pub mod Columns
 pub mod Moving
 pub mod Lines
+pub mod Posting

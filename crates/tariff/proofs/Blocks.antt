@@ -47,7 +47,7 @@ module _ {A B : Type 0} (f : A → B) where
   sum-of-map g [] = refl
   sum-of-map g (x ∷ xs) = ap (λ s. g (f x) + s) (sum-of-map g xs)
 
-  any-of-map : (test : B → Bool) (xs : List A) → anyOf (map f xs) test ≡ anyOf xs (λ x. test (f x))
+  pub any-of-map : (test : B → Bool) (xs : List A) → anyOf (map f xs) test ≡ anyOf xs (λ x. test (f x))
   unfolding anyOf
   any-of-map test [] = refl
   any-of-map test (x ∷ xs) = ap (λ t. test (f x) || t) (any-of-map test xs)
