@@ -39,7 +39,8 @@ pub mod MigrateCauses
 pub mod MigrateLaws
 pub mod MigrateHanded
 pub mod LegalityLaws
-pub mod EmptyBook
+pub mod Filled
+pub mod KeptOpening
 pub mod OpenedLaws
 pub mod BlockLaws
 pub mod LoadLaws

@@ -1,8 +1,8 @@
 -- Openings: a setup keeps the whole of a legal one, and every book that opening hands back is reached. Assumes nothing.
 use Prim.Native.Nat.{ℕ, _≤_, _<_}
 use mathlib.Core.Path.{_≡_, refl, sym, _∙_}
-use mathlib.Core.Bool.{Bool, true, false, cond}
-use mathlib.Core.List.{List, []}
+use mathlib.Core.Bool.{true}
+use mathlib.Core.List.{List}
 use native.Mathlib.Omega.{arith}
 use lib.ListN.{length, getD, take}
 use lib.Seq.{ext-getD, getD-take, length-take-le}
@@ -11,10 +11,8 @@ use Rattle.tariff.specs.Sum.{listTo, allBelow}
 use Rattle.tariff.proofs.Tests.{and-both}
 use Rattle.tariff.proofs.Lists.{length-list-to, at-list-to}
 use Rattle.ledger.specs.Opening.{Opening, countsFit, listsFit, legal}
-use Rattle.ledger.specs.Season.{after, afterFrom}
 use Rattle.book.specs.Setup.{openingOf, setupOf}
-use Rattle.book.specs.Opened.{emptyOpening, openedAs}
-use Rattle.book.specs.Reached.{Reached}
+use Rattle.book.specs.Setup.{emptyOpening}
 
 -- the first n of a list that was copied into n places or more are the list
 pub copied-back : (n room : ℕ) (xs : List ℕ) → length xs ≡ n → n ≤ room → take n (listTo room (λ k. getD xs k 0)) ≡ xs
@@ -75,16 +73,3 @@ opening-back o e = let fits = legal-fits o e in fitting-back o (fits .0) (fits .
 pub empty-legal : legal emptyOpening ≡ true
 unfolding legal countsFit listsFit allBelow emptyOpening
 empty-legal = refl
-
--- the opening that is in force: the one asked for, or the empty one
-in-force-legal : (o : Opening) → legal (cond (legal o) o emptyOpening) ≡ true
-in-force-legal o = go (legal o) refl
-  where
-    go : (t : Bool) → legal o ≡ t → legal (cond t o emptyOpening) ≡ true
-    go true e = e
-    go false e = empty-legal
-
--- every book that opening hands back is one that opening and no call lead to
-pub opened-reached : (o : Opening) → Reached (openedAs o .book)
-unfolding openedAs after afterFrom
-opened-reached o = record { opening = cond (legal o) o emptyOpening; calls = []; isLegal = in-force-legal o; isBook = refl }

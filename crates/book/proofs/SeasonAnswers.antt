@@ -11,7 +11,8 @@ use Rattle.ledger.proofs.Steps.{after-more}
 use Rattle.book.specs.Setup.{setupOf}
 use Rattle.book.specs.Reading.{bookOf}
 use Rattle.book.specs.Handed.{answerIn, answerOf}
-use Rattle.book.specs.Opened.{emptyOpening, openedAs}
+use Rattle.book.specs.Setup.{emptyOpening}
+use Rattle.book.specs.Opened.{openedAs}
 use Rattle.book.specs.SeasonTheorem.{callsOf, bookAfter, answersOf, seasonAnswers}
 use Rattle.book.proofs.ReachedSteps.{bookAt, at-answer, at-told, at-next}
 

@@ -1,4 +1,6 @@
 -- The opening that a book keeps.
+use Prim.Native.Nat.{ℕ}
+use mathlib.Core.List.{List, []}
 use lib.ListN.{take, getD}
 use Rattle.tariff.specs.Sum.{listTo}
 use Rattle.ledger.specs.Opening.{Opening}
@@ -33,3 +35,22 @@ setupOf o =
       «path_sources» = listTo 16 (λ k. getD (o .pathSources) k 0);
       «path_sinks» = listTo 16 (λ k. getD (o .pathSinks) k 0);
     }
+
+-- the counts and lists that a caller opens with
+unfoldable pub openingFrom : ℕ → ℕ → ℕ → ℕ → List ℕ → List ℕ → List ℕ → List ℕ → List ℕ → Opening
+openingFrom holders sources sinks paths holderKinds sinkKinds sinkParents pathSources pathSinks =
+    record {
+      holders = holders;
+      sources = sources;
+      sinks = sinks;
+      paths = paths;
+      holderKinds = holderKinds;
+      sinkKinds = sinkKinds;
+      sinkParents = sinkParents;
+      pathSources = pathSources;
+      pathSinks = pathSinks;
+    }
+
+-- an opening with nothing in it; it is legal
+unfoldable pub emptyOpening : Opening
+emptyOpening = record { holders = 0; sources = 0; sinks = 0; paths = 0; holderKinds = []; sinkKinds = []; sinkParents = []; pathSources = []; pathSinks = [] }

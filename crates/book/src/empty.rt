@@ -1,5 +1,4 @@
-// A book with nothing posted, and an opening with nothing in it (01, The book; The plain ledger).
-use crate::book::Book;
+// The parts of a book with nothing posted, and an opening with nothing in it (01, The book; The plain ledger).
 use crate::loads::Loads;
 use crate::papers::Papers;
 use crate::priors::Priors;
@@ -10,12 +9,11 @@ use tariff::evidence::Entry;
 use tariff::evidence::Evidence;
 ghost use mathlib.Core.Path.{_≡_};
 ghost use Rattle.ledger.specs.Ledger.{emptyLedger};
-ghost use Rattle.book.specs.Setup.{setupOf};
-ghost use Rattle.book.specs.Reading.{loadsOf, rightsOf, priorsOf, papersOf, tiersOf, bookOf};
-ghost use Rattle.book.specs.Opened.{emptyOpening};
+ghost use Rattle.book.specs.Setup.{setupOf, emptyOpening};
+ghost use Rattle.book.specs.Reading.{loadsOf, rightsOf, priorsOf, papersOf, tiersOf};
 
 // No load posted.
-fn empty_loads() -> Loads
+pub fn empty_loads() -> Loads
     ensures { λ r. ⌜ r ≡ loadsOf (emptyLedger .loads) ⌝ }
 {
     Loads {
@@ -25,7 +23,7 @@ fn empty_loads() -> Loads
 }
 
 // Nothing carried and nothing awarded.
-fn empty_rights() -> Rights
+pub fn empty_rights() -> Rights
     ensures { λ r. ⌜ r ≡ rightsOf (emptyLedger .rights) ⌝ }
 {
     Rights {
@@ -36,7 +34,7 @@ fn empty_rights() -> Rights
 }
 
 // No allocation of last year.
-fn empty_priors() -> Priors
+pub fn empty_priors() -> Priors
     ensures { λ r. ⌜ r ≡ priorsOf (emptyLedger .priors) ⌝ }
 {
     Priors {
@@ -47,7 +45,7 @@ fn empty_priors() -> Priors
 }
 
 // No evidence filed.
-fn empty_papers() -> Papers
+pub fn empty_papers() -> Papers
     ensures { λ r. ⌜ r ≡ papersOf (emptyLedger .papers) ⌝ }
 {
     let none = Entry {
@@ -63,7 +61,7 @@ fn empty_papers() -> Papers
 }
 
 // No tier opened.
-fn empty_tiers() -> Tiers
+pub fn empty_tiers() -> Tiers
     ensures { λ r. ⌜ r ≡ tiersOf (emptyLedger .tiers) ⌝ }
 {
     Tiers {
@@ -71,25 +69,6 @@ fn empty_tiers() -> Tiers
         awards: [0u64; 1280],
         last_closed: 0,
         open_now: 0,
-    }
-}
-
-// A book with nothing posted.
-pub fn empty_book(setup: Setup) -> Book
-    ensures { λ r. ⌜ r ≡ bookOf setup emptyLedger ⌝ }
-{
-    let loads = empty_loads();
-    let rights = empty_rights();
-    let priors = empty_priors();
-    let papers = empty_papers();
-    let tiers = empty_tiers();
-    Book {
-        setup,
-        loads,
-        rights,
-        priors,
-        papers,
-        tiers,
     }
 }
 

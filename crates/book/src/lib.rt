@@ -9,6 +9,7 @@ pub mod empty;
 pub mod holdings;
 pub mod legality;
 pub mod limits;
+pub mod lists;
 pub mod load;
 pub mod loads;
 pub mod migrate;

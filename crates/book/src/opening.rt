@@ -1,82 +1,52 @@
-// Opening a book: what it is opened with is kept in arrays and tested (01, The book; cause 16).
+// Opening a book (01, The book; cause 16).
 use crate::book::Answer;
 use crate::book::Answered;
-use crate::empty::empty_book;
+use crate::book::Book;
+use crate::empty::empty_loads;
+use crate::empty::empty_papers;
+use crate::empty::empty_priors;
+use crate::empty::empty_rights;
 use crate::empty::empty_setup;
+use crate::empty::empty_tiers;
+use crate::lists::lists_fit;
+use crate::lists::setup_from;
 use crate::setup::Setup;
 ghost use mathlib.Core.Path.{_≡_};
-ghost use mathlib.Core.Bool.{false};
-ghost use lib.ListN.{length, getD};
-ghost use Rattle.tariff.specs.Sum.{listTo};
-ghost use Rattle.ledger.specs.Opening.{Opening, legal, listsFit};
-ghost use Rattle.book.specs.Setup.{setupOf};
-ghost use Rattle.book.specs.Opened.{openingFrom, openedAs};
+ghost use mathlib.Core.Bool.{true, false};
+ghost use Rattle.ledger.specs.Opening.{Opening, legal};
+ghost use Rattle.ledger.specs.Ledger.{emptyLedger};
+ghost use Rattle.book.specs.Setup.{setupOf, openingFrom};
+ghost use Rattle.book.specs.Reading.{bookOf};
+ghost use Rattle.book.specs.Opened.{openedAs};
 
-// A list copied into an array: 0 past the list's end, and what finds no room is left out.
-fn copy_into(to: &mut [u64], from: &[u64])
-    ensures { λ r. ⌜ now (to .exit) ≡ listTo (length (now (to .entry))) (λ k. getD (now (from .entry)) k 0) ⌝ }
+// A book with nothing posted.
+fn empty_book(setup: Setup) -> Book
+    ensures { λ r. ⌜ r ≡ bookOf setup emptyLedger ⌝ }
 {
-    let mut k = 0;
-    while k < to.len() {
-        to[k] = if k < from.len() { from[k] } else { 0 };
-        k += 1;
+    let loads = empty_loads();
+    let rights = empty_rights();
+    let priors = empty_priors();
+    let papers = empty_papers();
+    let tiers = empty_tiers();
+    Book {
+        setup,
+        loads,
+        rights,
+        priors,
+        papers,
+        tiers,
     }
 }
 
-// What a book is opened with, kept in arrays.
-fn setup_from(
-    holders: u64,
-    sources: u64,
-    sinks: u64,
-    paths: u64,
-    holder_kinds: &[u64],
-    sink_kinds: &[u64],
-    sink_parents: &[u64],
-    path_sources: &[u64],
-    path_sinks: &[u64],
-) -> Setup
-    ensures { λ r. ⌜ r ≡ setupOf (openingFrom holders sources sinks paths (now («holder_kinds» .entry)) (now («sink_kinds» .entry)) (now («sink_parents» .entry)) (now («path_sources» .entry)) (now («path_sinks» .entry))) ⌝ }
+// What a legal opening hands back: its book, with nothing posted.
+fn opened(setup: Setup) -> Answered
+    ensures { λ r. ⌜ ((o : Opening) → legal o ≡ true → setup ≡ setupOf o → r ≡ openedAs o) ⌝ }
 {
-    let mut kinds_of_holders = [0u64; 8];
-    copy_into(&mut kinds_of_holders, holder_kinds);
-    let mut kinds_of_sinks = [0u64; 16];
-    copy_into(&mut kinds_of_sinks, sink_kinds);
-    let mut parents = [0u64; 16];
-    copy_into(&mut parents, sink_parents);
-    let mut sources_of_paths = [0u64; 16];
-    copy_into(&mut sources_of_paths, path_sources);
-    let mut sinks_of_paths = [0u64; 16];
-    copy_into(&mut sinks_of_paths, path_sinks);
-    Setup {
-        holders,
-        sources,
-        sinks,
-        paths,
-        holder_kinds: kinds_of_holders,
-        sink_kinds: kinds_of_sinks,
-        sink_parents: parents,
-        path_sources: sources_of_paths,
-        path_sinks: sinks_of_paths,
+    let book = empty_book(setup);
+    Answered {
+        answer: Answer::Done,
+        book,
     }
-}
-
-// Each list has as many entries as are counted.
-fn lists_fit(
-    setup: Setup,
-    holder_kinds: &[u64],
-    sink_kinds: &[u64],
-    sink_parents: &[u64],
-    path_sources: &[u64],
-    path_sinks: &[u64],
-) -> bool
-    ensures { λ r. ⌜ r ≡ listsFit (openingFrom (setup .holders) (setup .sources) (setup .sinks) (setup .paths) (now («holder_kinds» .entry)) (now («sink_kinds» .entry)) (now («sink_parents» .entry)) (now («path_sources» .entry)) (now («path_sinks» .entry))) ⌝ }
-{
-    let of_holders = holder_kinds.len() as u64 == setup.holders;
-    let of_kinds = sink_kinds.len() as u64 == setup.sinks;
-    let of_parents = sink_parents.len() as u64 == setup.sinks;
-    let of_sources = path_sources.len() as u64 == setup.paths;
-    let of_sinks = path_sinks.len() as u64 == setup.paths;
-    of_holders & of_kinds & of_parents & of_sources & of_sinks
 }
 
 // What a refused opening hands back: an empty book, so that every book handed back is one that calls can go on from.
@@ -124,12 +94,8 @@ pub fn open_book(
         path_sources,
         path_sinks,
     );
-    if !(lists & setup.is_legal()) {
-        return not_opened();
+    if lists & setup.is_legal() {
+        return opened(setup);
     }
-    let book = empty_book(setup);
-    Answered {
-        answer: Answer::Done,
-        book,
-    }
+    not_opened()
 }

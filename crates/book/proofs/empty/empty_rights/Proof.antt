@@ -1,7 +1,7 @@
 -- `book::empty::empty_rights` meets its contract: every array is filled with one value. Assumes nothing.
 use Rattle.ledger.specs.Ledger.{emptyLedger}
 use Rattle.book.specs.Reading.{rightsOf}
-use Rattle.book.proofs.EmptyBook.{same-cells}
+use Rattle.book.proofs.Filled.{same-cells}
 use mathlib.Core.Bool.{false}
 use Rattle.book.proofs.empty.empty_rights.Statement.{statement}
 use Rattle.book.proofs.empty.empty_rights.Tie as tie

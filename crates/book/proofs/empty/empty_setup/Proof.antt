@@ -1,7 +1,7 @@
 -- `book::empty::empty_setup` meets its contract: every array is filled with 0. Assumes nothing.
 use Rattle.book.specs.Setup.{setupOf}
-use Rattle.book.specs.Opened.{emptyOpening}
-use Rattle.book.proofs.EmptyBook.{same-entries}
+use Rattle.book.specs.Setup.{emptyOpening}
+use Rattle.book.proofs.Filled.{same-entries}
 use Rattle.book.proofs.empty.empty_setup.Statement.{statement}
 use Rattle.book.proofs.empty.empty_setup.Tie as tie
 

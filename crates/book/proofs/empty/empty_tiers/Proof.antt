@@ -1,7 +1,7 @@
 -- `book::empty::empty_tiers` meets its contract: every array is filled with one value. Assumes nothing.
 use Rattle.ledger.specs.Ledger.{emptyLedger}
 use Rattle.book.specs.Reading.{tiersOf}
-use Rattle.book.proofs.EmptyBook.{same-cells}
+use Rattle.book.proofs.Filled.{same-cells}
 use Rattle.book.proofs.empty.empty_tiers.Statement.{statement}
 use Rattle.book.proofs.empty.empty_tiers.Tie as tie
 

@@ -1,13 +1,10 @@
 -- `book::opening::open_book` meets its contract: the two tests pass just where the opening is legal. Assumes nothing.
-use mathlib.Core.Path.{_≡_, sym, ap, _∙_}
+use mathlib.Core.Path.{_≡_, sym, _∙_}
 use mathlib.Core.Bool.{_&&_}
-use borrow.Author.Needs.{needs}
-use borrow.Author.Tests.{not-true, not-false}
 use Rattle.ledger.specs.Opening.{Opening, legal}
-use Rattle.ledger.specs.Ledger.{emptyLedger}
-use Rattle.book.specs.Reading.{bookOf}
-use Rattle.book.specs.Opened.{openingFrom}
-use Rattle.book.proofs.OpenedLaws.{opened-done, lists-kept, legal-kept}
+use Rattle.book.specs.Setup.{openingFrom}
+use Rattle.book.proofs.KeptOpening.{lists-kept, legal-kept}
+use borrow.Author.Needs.{needs}
 use Rattle.book.proofs.opening.open_book.Statement.{statement}
 use Rattle.book.proofs.opening.open_book.Tie as tie
 
@@ -33,17 +30,17 @@ lists-fit-requires c κs = search needs
 is-legal-requires : tie.Need-is-legal-requires
 is-legal-requires c κs = search needs
 
+opened-requires : tie.Need-opened-requires
+opened-requires c κs = search needs
+
+returns : tie.Need-returns
+returns c = c .opened .ensures _ (sym (tests (c .before .before)) ∙ c .before .if1 .taken) (c .before .before .before .before .setup-from .ensures)
+
 not-opened-requires : tie.Need-not-opened-requires
 not-opened-requires c κs = search needs
 
-returns : tie.Need-returns
-returns c = c .not-opened .ensures _ (sym (tests (c .before .before)) ∙ not-true _ (c .before .if1 .taken))
-
-empty-book-requires : tie.Need-empty-book-requires
-empty-book-requires c κs = search needs
-
 returns-2 : tie.Need-returns-2
-returns-2 c = opened-done _ _ (sym (tests (c .before .before)) ∙ not-false _ (c .before .if1 .left)) (c .empty-book .ensures ∙ ap (λ s. bookOf s emptyLedger) (c .before .before .before .before .setup-from .ensures))
+returns-2 c = c .not-opened .ensures _ (sym (tests (c .before .before)) ∙ c .before .if1 .left)
 
 pub open-book-spec : {M : Type 1} → statement M
 open-book-spec =
@@ -52,7 +49,7 @@ open-book-spec =
     setup-from-requires
     lists-fit-requires
     is-legal-requires
-    not-opened-requires
+    opened-requires
     returns
-    empty-book-requires
+    not-opened-requires
     returns-2)

@@ -2,7 +2,7 @@
 use mathlib.Core.Path.{sym, _∙_}
 use mathlib.Core.Bool.{_&&_}
 use borrow.Author.Tests.{not-true, not-false}
-use Rattle.book.proofs.OpenedLaws.{unfit-counts, legal-by-lines}
+use Rattle.book.proofs.KeptOpening.{unfit-counts, legal-by-lines}
 use borrow.Author.Needs.{needs}
 use Rattle.book.proofs.setup.Setup.is_legal.Statement.{statement}
 use Rattle.book.proofs.setup.Setup.is_legal.Tie as tie

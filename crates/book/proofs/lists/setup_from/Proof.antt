@@ -1,9 +1,9 @@
--- `book::opening::setup_from` meets its contract: each array is the list copied into it. Assumes nothing.
+-- `book::lists::setup_from` meets its contract: each array is the list copied into it. Assumes nothing.
 use Rattle.book.specs.Setup.{setupOf}
-use Rattle.book.specs.Opened.{openingFrom}
+use Rattle.book.specs.Setup.{openingFrom}
 use borrow.Author.Needs.{needs}
-use Rattle.book.proofs.opening.setup_from.Statement.{statement}
-use Rattle.book.proofs.opening.setup_from.Tie as tie
+use Rattle.book.proofs.lists.setup_from.Statement.{statement}
+use Rattle.book.proofs.lists.setup_from.Tie as tie
 
 slice-aggregate-copy-into : tie.Need-slice-aggregate-copy-into
 slice-aggregate-copy-into c = search needs

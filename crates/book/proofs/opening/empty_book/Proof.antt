@@ -1,8 +1,8 @@
--- `book::empty::empty_book` meets its contract, from those of its parts. Assumes nothing.
+-- `book::opening::empty_book` meets its contract, from those of its parts. Assumes nothing.
 use Rattle.book.specs.Reading.{bookOf}
 use borrow.Author.Needs.{needs}
-use Rattle.book.proofs.empty.empty_book.Statement.{statement}
-use Rattle.book.proofs.empty.empty_book.Tie as tie
+use Rattle.book.proofs.opening.empty_book.Statement.{statement}
+use Rattle.book.proofs.opening.empty_book.Tie as tie
 
 empty-loads-requires : tie.Need-empty-loads-requires
 empty-loads-requires c κs = search needs

@@ -1,4 +1,4 @@
--- `book::opening::copy_into` meets its contract: what is passed so far has the entries of the list, and 0 past its end. Assumes nothing.
+-- `book::lists::copy_into` meets its contract: what is passed so far has the entries of the list, and 0 past its end. Assumes nothing.
 use Prim.Native.Nat.{_≤_, _-_, zero-le}
 use mathlib.Core.Path.{_≡_, refl, sym, _∙_}
 use mathlib.Core.Logic.{⊎-elim}
@@ -6,8 +6,8 @@ use borrow.Author.Needs.{needs}
 use lib.ListN.{length, getD, length-set, List·getD-eq-default}
 use Rattle.tariff.proofs.Lists.{Filled, filled-none, filled-more, filled-all}
 use native.Mathlib.Omega.{arith}
-use Rattle.book.proofs.opening.copy_into.Statement.{statement}
-use Rattle.book.proofs.opening.copy_into.Tie as tie
+use Rattle.book.proofs.lists.copy_into.Statement.{statement}
+use Rattle.book.proofs.lists.copy_into.Tie as tie
 
 abbrev Inv-loop : tie.InvT-loop
 Inv-loop to₀ from k₀ to k = (k ≤ length to) × (length to ≡ length to₀) × Filled (λ q. getD from q 0) k to
