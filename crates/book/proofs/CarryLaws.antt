@@ -4,9 +4,10 @@ use mathlib.Core.Path.{_≡_, sym}
 use Rattle.ledger.specs.Ledger.{withRights}
 use Rattle.ledger.specs.Call.{carry}
 use Rattle.ledger.specs.Effects.{afterCarry, effect}
-use Rattle.book.specs.declared.rights.Rights.{Rights}
+use Rattle.records.specs.declared.rights.Rights.{Rights}
 use Rattle.book.specs.declared.book.Book.{Book}
-use Rattle.book.specs.Reading.{rightsIn, ledgerOf, rightsOf, bookOf}
+use Rattle.records.specs.Reading.{rightsIn, rightsOf}
+use Rattle.book.specs.Reading.{ledgerOf, bookOf}
 use Rattle.book.specs.Handed.{openedWith}
 use Rattle.book.proofs.Parts.{Shaped, loads-back, priors-back, papers-back, tiers-back}
 

@@ -20,13 +20,14 @@ use Rattle.ledger.specs.Season.{after}
 use Rattle.ledger.specs.Verification.{sumFromSource, drawsOnSame, drawnBefore, drawn}
 use Rattle.ledger.proofs.Bounds.{mostTogether, figures-fit}
 use Rattle.book.specs.declared.book.Book.{Book}
-use Rattle.book.specs.Cells.{hasCell, readAt, cellsOf}
-use Rattle.book.specs.Setup.{openingOf}
-use Rattle.book.specs.Reading.{tiersIn, ledgerOf, papersOf, bookOf}
+use Rattle.records.specs.Cells.{hasCell, readAt, cellsOf}
+use Rattle.records.specs.Setup.{openingOf}
+use Rattle.records.specs.Reading.{tiersIn, papersOf}
+use Rattle.book.specs.Reading.{ledgerOf, bookOf}
 use Rattle.book.specs.Handed.{openedWith}
 use Rattle.book.specs.Reached.{Reached}
-use Rattle.book.proofs.CellLaws.{read-cells, read-none}
-use Rattle.book.proofs.PathSums.{source-sum-fits}
+use Rattle.records.proofs.CellLaws.{read-cells, read-none}
+use Rattle.records.proofs.PathSums.{source-sum-fits}
 use Rattle.book.proofs.LimitLaws.{nominated-now}
 use Rattle.book.proofs.ReachedLaws.{reached-counts}
 use Rattle.book.proofs.ReachedFigures.{awards-fit, nominated-fits, open-last}

@@ -16,8 +16,9 @@ use Rattle.ledger.proofs.Bounds.{mostTogether}
 use Rattle.ledger.proofs.Unmet.{unmet}
 use borrow.Author.Tests.{leb-false}
 use Rattle.book.specs.declared.book.Book.{Book}
-use Rattle.book.specs.Cells.{readAt}
-use Rattle.book.specs.Reading.{rightsIn, ledgerOf}
+use Rattle.records.specs.Cells.{readAt}
+use Rattle.records.specs.Reading.{rightsIn}
+use Rattle.book.specs.Reading.{ledgerOf}
 use Rattle.book.specs.Reached.{Reached}
 use Rattle.book.proofs.ReachedColumns.{carried-together, awarded-together}
 

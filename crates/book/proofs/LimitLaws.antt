@@ -16,8 +16,9 @@ use Rattle.ledger.specs.Limits.{sumAtBase, longTermAt, priorYearAt, awardsAt, n
 use Rattle.ledger.specs.Season as season
 use Rattle.book.specs.declared.book.Book.{Book}
 use Rattle.book.specs.declared.book.Answer.the-variants.{Value, Refused}
-use Rattle.book.specs.Cells.{readAt}
-use Rattle.book.specs.Reading.{loadsIn, tiersIn, ledgerOf}
+use Rattle.records.specs.Cells.{readAt}
+use Rattle.records.specs.Reading.{loadsIn, tiersIn}
+use Rattle.book.specs.Reading.{ledgerOf}
 use Rattle.book.specs.Handed.{answerOf, openedWith, told}
 
 -- the nominations of the open tier stand by themselves

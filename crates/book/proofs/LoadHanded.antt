@@ -18,8 +18,8 @@ use Rattle.book.specs.declared.load.Posting.the-variants.{Kw, Refused}
 use Rattle.book.specs.declared.book.Book.{Book}
 use Rattle.book.specs.declared.book.Answer.the-variants.{Done}
 use Rattle.book.specs.declared.book.Answered.{Answered}
-use Rattle.book.specs.Cells.{readAt}
-use Rattle.book.specs.Setup.{openingOf}
+use Rattle.records.specs.Cells.{readAt}
+use Rattle.records.specs.Setup.{openingOf}
 use Rattle.book.specs.Reading.{ledgerOf}
 use Rattle.book.specs.Handed.{openedWith, refusedWith, handed}
 use Rattle.book.specs.Reached.{Reached}

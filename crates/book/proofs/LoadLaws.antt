@@ -1,23 +1,17 @@
--- The loads and the book after an accepted load. Assumes nothing.
+-- The book after an accepted load. Assumes nothing.
 use Prim.Native.Nat.{ℕ}
 use mathlib.Core.Path.{_≡_, sym}
-use mathlib.Core.Bool.{Bool, false, _||_}
 use mathlib.Core.List.{List}
 use Rattle.tariff.specs.Load.{Block, loadPosted}
 use Rattle.ledger.specs.Ledger.{withLoads}
 use Rattle.ledger.specs.Call.{load}
-use Rattle.ledger.specs.Effects.{same3, plusAt3, afterLoad, effect}
-use Rattle.book.specs.declared.loads.Loads.{Loads}
+use Rattle.ledger.specs.Effects.{afterLoad, effect}
 use Rattle.book.specs.declared.book.Book.{Book}
-use Rattle.book.specs.Cells.{readAt, cellsOf}
-use Rattle.book.specs.Reading.{loadsIn, ledgerOf, loadsOf, bookOf}
+use Rattle.records.specs.Reading.{loadsIn, loadsOf}
+use Rattle.book.specs.Reading.{ledgerOf, bookOf}
 use Rattle.book.specs.Handed.{openedWith}
 use Rattle.book.specs.Posting.{bookLoaded}
 use Rattle.book.proofs.Parts.{Shaped, rights-back, priors-back, papers-back, tiers-back}
-
-pub load-loads : (r : Loads) (h s term kw : ℕ) (loads : List ℕ) (posted : List Bool) → loads ≡ cellsOf 4 0 (plusAt3 h s term kw (readAt 4 0 0 (r .kw))) → posted ≡ cellsOf 4 0 (λ i j k. same3 h s term i j k || readAt 4 0 false (r .posted) i j k) → _≡_ {A = Loads} (record { kw = loads; posted = posted }) (loadsOf (afterLoad (loadsIn r) h s term kw))
-unfolding loadsOf afterLoad loadsIn
-load-loads r h s term kw loads posted x y = λ i. record { kw = x i; posted = y i }
 
 pub load-book : (b : Book) (h s term contract n : ℕ) (blocks : List Block) (kw : ℕ) → Shaped b → kw ≡ loadPosted contract blocks → bookLoaded b h s term kw ≡ bookOf (b .setup) (effect (openedWith b) (ledgerOf b) (load h s term contract n blocks))
 unfolding bookLoaded bookOf effect withLoads ledgerOf

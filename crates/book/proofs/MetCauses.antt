@@ -8,8 +8,8 @@ use Rattle.tariff.specs.Ranges.{wrongKw}
 use Rattle.ledger.specs.Ranges.{noHolder, noPath}
 use Rattle.ledger.specs.Numbers.{Cause, cause, firstMet}
 use Rattle.ledger.proofs.Unmet.{kw-in-range}
-use Rattle.book.specs.declared.setup.Setup.{Setup}
-use Rattle.book.specs.Setup.{openingOf}
+use Rattle.records.specs.declared.setup.Setup.{Setup}
+use Rattle.records.specs.Setup.{openingOf}
 
 -- a cause that is met ends the search, and one that is not leaves it to the later ones
 pub met-first : (number : ℕ) (test : Bool) (rows : List Cause) → test ≡ true → number ≡ firstMet (cause number test ∷ rows)

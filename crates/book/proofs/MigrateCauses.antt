@@ -25,12 +25,13 @@ use Rattle.ledger.specs.Moves.{loadBefore}
 use Rattle.ledger.specs.Causes.{notBetweenSuppliers, losesTooMuch}
 use Rattle.ledger.proofs.SumBounds.{watts-fit}
 use Rattle.book.specs.declared.book.Book.{Book}
-use Rattle.book.specs.declared.moves.Moved.{Moved}
-use Rattle.book.specs.Setup.{openingOf}
-use Rattle.book.specs.Reading.{loadsIn, ledgerOf}
+use Rattle.records.specs.declared.moves.Moved.{Moved}
+use Rattle.records.specs.Setup.{openingOf}
+use Rattle.records.specs.Reading.{loadsIn}
+use Rattle.book.specs.Reading.{ledgerOf}
 use Rattle.book.specs.Handed.{openedWith}
 use Rattle.book.specs.Lines.{strangerAt, wrongLineAt, outsiderAt, movedBy}
-use Rattle.book.proofs.ColumnLaws.{column-holder}
+use Rattle.records.proofs.ColumnLaws.{column-holder}
 
 -- tests that agree below n
 pub any-ext : (n : ℕ) (s t : ℕ → Bool) → ((i : ℕ) → i < n → s i ≡ t i) → anyBelow n s ≡ anyBelow n t

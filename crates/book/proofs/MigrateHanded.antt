@@ -20,14 +20,15 @@ use Rattle.ledger.proofs.TierFacts.{MigrateFacts, migrate-facts}
 use Rattle.book.specs.declared.book.Book.{Book}
 use Rattle.book.specs.declared.book.Answer.the-variants.{Done}
 use Rattle.book.specs.declared.book.Answered.{Answered}
-use Rattle.book.specs.declared.moves.Moved.{Moved}
-use Rattle.book.specs.Setup.{openingOf}
-use Rattle.book.specs.Reading.{tiersIn, ledgerOf}
+use Rattle.records.specs.declared.moves.Moved.{Moved}
+use Rattle.records.specs.Setup.{openingOf}
+use Rattle.records.specs.Reading.{tiersIn}
+use Rattle.book.specs.Reading.{ledgerOf}
 use Rattle.book.specs.Handed.{openedWith, refusedWith}
 use Rattle.book.specs.Reached.{Reached}
 use Rattle.book.specs.Moving.{bookMoved, Moves}
 use Rattle.book.specs.Lines.{strangerAt, wrongLineAt, outsiderAt, movedBy, handedLines}
-use Rattle.book.proofs.CauseLaws.{link, link-unless, no-more}
+use Rattle.records.proofs.CauseLaws.{link, link-unless, no-more}
 use Rattle.book.proofs.HandedLaws.{accepted-test, handed-refused, handed-accepted}
 use Rattle.book.proofs.ReachedLaws.{reached-counts, reached-shaped}
 use Rattle.book.proofs.MigrateCauses.{stranger-cause, outsider-cause, range-cause, in-range, lines-fit, loss-cause}

@@ -19,20 +19,21 @@ use Rattle.ledger.specs.Effects.{effect}
 use Rattle.ledger.proofs.TierFacts.{MigrateFacts}
 use Rattle.ledger.proofs.Outside.{netted-outside}
 use Rattle.book.specs.declared.book.Book.{Book}
-use Rattle.book.specs.declared.moves.Moved.{Moved}
-use Rattle.book.specs.Cells.{readAt, cellsOf}
-use Rattle.book.specs.Setup.{openingOf}
-use Rattle.book.specs.Reading.{loadsIn, loadsOf, rightsIn, rightsOf, priorsIn, priorsOf, ledgerOf, bookOf}
+use Rattle.records.specs.declared.moves.Moved.{Moved}
+use Rattle.records.specs.Cells.{readAt, cellsOf}
+use Rattle.records.specs.Setup.{openingOf}
+use Rattle.records.specs.Reading.{loadsIn, loadsOf, rightsIn, rightsOf, priorsIn, priorsOf}
+use Rattle.book.specs.Reading.{ledgerOf, bookOf}
 use Rattle.book.specs.Handed.{openedWith, handed, refusedWith}
 use Rattle.book.specs.Reached.{Reached}
-use Rattle.book.specs.Columns.{columnMoved, Movable, loadMoved}
+use Rattle.records.specs.Columns.{columnMoved, Movable, loadMoved}
 use Rattle.book.specs.Moving.{bookMoved, Moves}
 use Rattle.book.specs.Lines.{movedBy, handedLines}
-use Rattle.book.proofs.CellLaws.{cell-facts, cells-ext}
+use Rattle.records.proofs.CellLaws.{cell-facts, cells-ext}
 use Rattle.book.proofs.Parts.{papers-back, tiers-back}
 use Rattle.book.proofs.ReachedLaws.{reached-counts, reached-shaped}
 use Rattle.book.proofs.ReachedColumns.{loads-together, carried-together, awarded-together, allocated-together, renewable-together}
-use Rattle.book.proofs.ColumnLaws.{column-holder}
+use Rattle.records.proofs.ColumnLaws.{column-holder}
 use Rattle.book.proofs.MigrateCauses.{line-count, lines-fit, m-of-lines, load-before}
 
 -- two ways to move a column that agree on the eight holders move the same into the arrays

@@ -1,14 +1,10 @@
 -- The causes of a nomination as code finds them, and the book after an accepted one. Assumes nothing.
 use Prim.Native.Nat.{ℕ, _+_, _*_, _≤_, _<_}
-use mathlib.Core.Path.{_≡_, refl, sym, ap, _∙_}
-use mathlib.Core.Bool.{Bool, true, false, cond, _&&_, _||_}
-use mathlib.Core.List.{List}
+use mathlib.Core.Path.{_≡_, sym, ap, _∙_}
+use mathlib.Core.Bool.{Bool, false, _&&_, _||_}
 use native.Mathlib.Nat.{le-trans, le-of-eq}
-use native.Mathlib.Omega.{arith}
-use lib.ListN.{length}
 use lib.Dec.{ltb, eqb}
 use borrow.Author.Tests.{eq-eqb, ne-eqb}
-use Rattle.tariff.specs.Sum.{countIf}
 use Rattle.tariff.specs.Terms.{termOf}
 use Rattle.tariff.proofs.Tests.{and-left-false}
 use Rattle.ledger.specs.Opening.{Opening, holderKind, pathSource, pathSink, pathBase}
@@ -17,19 +13,18 @@ use Rattle.ledger.specs.Call.{nominate}
 use Rattle.ledger.specs.Limits.{nominatedAt, tierLimit}
 use Rattle.ledger.specs.Causes.{sinkNotFor, isSubLap, beyondVerified, beyondRenewable, beyondLimit}
 use Rattle.ledger.specs.Verification.{verifiedKw, drawn}
-use Rattle.ledger.specs.Effects.{same3, plusAt3, afterNominate, effect}
+use Rattle.ledger.specs.Effects.{afterNominate, effect}
 use Rattle.ledger.proofs.Bounds.{mostTogether}
-use Rattle.book.specs.declared.tiers.Tiers.{Tiers}
+use Rattle.records.specs.declared.tiers.Tiers.{Tiers}
 use Rattle.book.specs.declared.book.Book.{Book}
-use Rattle.book.specs.Cells.{hasCell, readAt, cellsOf}
-use Rattle.book.specs.Setup.{openingOf}
-use Rattle.book.specs.Reading.{priorsIn, tiersIn, ledgerOf, tiersOf, bookOf}
+use Rattle.records.specs.Cells.{readAt}
+use Rattle.records.specs.Setup.{openingOf}
+use Rattle.records.specs.Reading.{priorsIn, tiersIn, tiersOf}
+use Rattle.book.specs.Reading.{ledgerOf, bookOf}
 use Rattle.book.specs.Handed.{openedWith}
 use Rattle.book.specs.Reached.{Reached}
-use Rattle.book.proofs.CellLaws.{cells-ext, cells-read}
-use Rattle.book.proofs.Narrow.{third-zero}
 use Rattle.book.proofs.Parts.{Shaped, loads-back, rights-back, priors-back, papers-back}
-use Rattle.book.proofs.PathSums.{base-sum-fits}
+use Rattle.records.proofs.PathSums.{base-sum-fits}
 use Rattle.book.proofs.LimitLaws.{nominated-now}
 use Rattle.book.proofs.ReachedLaws.{reached-counts}
 use Rattle.book.proofs.ReachedFigures.{nominated-fits}
@@ -63,28 +58,6 @@ limit-test o L tier h p kw base limit nominated e f g = λ i. ltb ((f ∙ ap (ti
 pub nominated-at-fit : (b : Book) → Reached b → (h base : ℕ) → h < b .setup .holders → nominatedAt (openedWith b) (ledgerOf b) h base (b .tiers .«open_now») ≤ 16 * mostTogether
 unfolding nominatedAt openedWith openingOf
 nominated-at-fit b r h base l = base-sum-fits (openedWith b) base mostTogether (λ p. ledgerOf b .tiers .nominated h p (b .tiers .«open_now»)) (reached-counts b r .3) (λ p k. le-trans (le-of-eq (nominated-now b h p)) (nominated-fits b r h p l k))
-
--- the tiers after a nomination
-pub nominate-tiers : (x : Tiers) (h p kw : ℕ) (nominated : List ℕ) → length (x .awards) ≡ 1280 → nominated ≡ cellsOf 1 0 (plusAt3 h p 0 kw (readAt 1 0 0 (x .nominated))) → _≡_ {A = Tiers} (record { nominated = nominated; awards = x .awards; «last_closed» = x .«last_closed»; «open_now» = x .«open_now» }) (tiersOf (afterNominate (tiersIn x) h p kw))
-unfolding tiersOf afterNominate tiersIn plusAt3 same3
-nominate-tiers x h p kw nominated len e =
-    λ i.
-    record {
-      nominated = (e ∙ cells-ext 1 0 _ _ (omega arith) each) i;
-      awards = sym (cells-read 10 0 0 (x .awards) (omega arith) len) i;
-      «last_closed» = x .«last_closed»;
-      «open_now» = x .«open_now»;
-    }
-  where
-    now : ℕ
-    now = x .«open_now»
-
-    each : (i j z : ℕ) → hasCell 1 0 i j z ≡ true → readAt 1 0 0 (x .nominated) i j z + countIf (eqb i h && eqb j p && eqb z 0) kw ≡ cond (eqb now now) (readAt 1 0 0 (x .nominated) i j 0) (readAt 10 0 0 (x .awards) i j now) + countIf (eqb i h && eqb j p && eqb now now) kw
-    each i j z here =
-        let none = third-zero i j z here in
-        let same = eq-eqb now now refl in
-        (λ t. readAt 1 0 0 (x .nominated) i j (none t) + countIf (eqb i h && eqb j p && (eq-eqb z 0 none ∙ sym same) t) kw)
-        ∙ sym (ap (λ b. cond b (readAt 1 0 0 (x .nominated) i j 0) (readAt 10 0 0 (x .awards) i j now) + countIf (eqb i h && eqb j p && eqb now now) kw) same)
 
 -- the book after an accepted nomination
 pub nominate-book : (b : Book) (h p kw : ℕ) (tiers : Tiers) → Shaped b → tiers ≡ tiersOf (afterNominate (tiersIn (b .tiers)) h p kw) → _≡_ {A = Book} (record { setup = b .setup; loads = b .loads; rights = b .rights; priors = b .priors; papers = b .papers; tiers = tiers }) (bookOf (b .setup) (effect (openedWith b) (ledgerOf b) (nominate h p kw)))

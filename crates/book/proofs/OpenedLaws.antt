@@ -6,14 +6,14 @@ use Rattle.ledger.specs.Ledger.{emptyLedger}
 use Rattle.book.specs.declared.book.Book.{Book}
 use Rattle.book.specs.declared.book.Answer.the-variants.{Done, Refused}
 use Rattle.book.specs.declared.book.Answered.{Answered}
-use Rattle.book.specs.Setup.{setupOf}
+use Rattle.records.specs.Setup.{setupOf}
 use Rattle.book.specs.Reading.{bookOf}
-use Rattle.book.specs.Setup.{emptyOpening}
+use Rattle.records.specs.Setup.{emptyOpening}
 use Rattle.book.specs.Opened.{openedAs}
 use Rattle.ledger.specs.Season.{after, afterFrom}
 use mathlib.Core.List.{[]}
 use Rattle.book.specs.Reached.{Reached}
-use Rattle.book.proofs.OpeningLaws.{empty-legal}
+use Rattle.records.proofs.OpeningLaws.{empty-legal}
 
 -- what is handed back where the tests pass, and where they do not
 abbrev answered : Opening → Bool → Answered

@@ -6,10 +6,11 @@ use lib.ListN.{length}
 use borrow.Author.Tests.{eq-eqb}
 use Rattle.tariff.specs.Evidence.{noEntry}
 use Rattle.book.specs.declared.book.Book.{Book}
-use Rattle.book.specs.Cells.{readAt, cellsOf}
-use Rattle.book.specs.Reading.{loadsIn, rightsIn, priorsIn, papersIn, tiersIn, ledgerOf, loadsOf, rightsOf, priorsOf, papersOf, tiersOf, bookOf}
-use Rattle.book.proofs.Narrow.{narrow-read}
-use Rattle.book.proofs.CellLaws.{cells-read}
+use Rattle.records.specs.Cells.{readAt, cellsOf}
+use Rattle.records.specs.Reading.{loadsIn, rightsIn, priorsIn, papersIn, tiersIn, loadsOf, rightsOf, priorsOf, papersOf, tiersOf}
+use Rattle.book.specs.Reading.{ledgerOf, bookOf}
+use Rattle.records.proofs.Narrow.{narrow-read}
+use Rattle.records.proofs.CellLaws.{cells-read}
 
 -- the lengths of the book's arrays
 pub record Shaped (b : Book) : Type 0 where

@@ -21,7 +21,7 @@ use Rattle.book.specs.declared.book.Book.{Book}
 use Rattle.book.specs.Reading.{ledgerOf}
 use Rattle.book.specs.Handed.{openedWith}
 use Rattle.book.specs.Posting.{kwBlocks, postingBy, postingOf}
-use Rattle.book.proofs.CauseLaws.{first-part, no-more}
+use Rattle.records.proofs.CauseLaws.{first-part, no-more}
 use Rattle.book.proofs.MetCauses.{met-first, unmet-first}
 use Rattle.book.proofs.BlockLaws.{range-of-blocks, broken-told, missing-told, kw-told, never-unequal}
 

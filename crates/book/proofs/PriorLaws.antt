@@ -4,9 +4,10 @@ use mathlib.Core.Path.{_≡_, sym}
 use Rattle.ledger.specs.Ledger.{withPriors}
 use Rattle.ledger.specs.Call.{prior}
 use Rattle.ledger.specs.Effects.{afterPrior, effect}
-use Rattle.book.specs.declared.priors.Priors.{Priors}
+use Rattle.records.specs.declared.priors.Priors.{Priors}
 use Rattle.book.specs.declared.book.Book.{Book}
-use Rattle.book.specs.Reading.{priorsIn, ledgerOf, priorsOf, bookOf}
+use Rattle.records.specs.Reading.{priorsIn, priorsOf}
+use Rattle.book.specs.Reading.{ledgerOf, bookOf}
 use Rattle.book.specs.Handed.{openedWith}
 use Rattle.book.proofs.Parts.{Shaped, loads-back, rights-back, papers-back, tiers-back}
 

@@ -16,10 +16,11 @@ use Rattle.ledger.proofs.Conserved.{carriedSum, awardedSum, loadSum}
 use Rattle.ledger.proofs.Outside.{awarded-outside}
 use Rattle.ledger.proofs.Bounds.{mostTogether, Fits, figures-fit}
 use Rattle.book.specs.declared.book.Book.{Book}
-use Rattle.book.specs.Cells.{readAt, cellsOf}
-use Rattle.book.specs.Reading.{loadsOf, rightsOf, priorsOf, bookOf}
+use Rattle.records.specs.Cells.{readAt, cellsOf}
+use Rattle.records.specs.Reading.{loadsOf, rightsOf, priorsOf}
+use Rattle.book.specs.Reading.{bookOf}
 use Rattle.book.specs.Reached.{Reached}
-use Rattle.book.proofs.CellLaws.{read-le}
+use Rattle.records.proofs.CellLaws.{read-le}
 use Rattle.book.proofs.ReachedLaws.{holders-same}
 
 column-below : (width low : ℕ) (f : ℕ → ℕ → ℕ → ℕ) (cells : List ℕ) (n m most p k : ℕ) → cells ≡ cellsOf width low f → n ≡ m → sumTo m (λ i. f i p k) ≤ most → sumTo n (λ i. readAt width low 0 cells i p k) ≤ most

@@ -16,10 +16,11 @@ use Rattle.ledger.proofs.Bounds.{mostTogether, Fits, figures-fit, one-fits}
 use Rattle.ledger.proofs.SumBounds.{nominated-at-fits}
 use Rattle.ledger.proofs.TiersSound.{tiers-sound}
 use Rattle.book.specs.declared.book.Book.{Book}
-use Rattle.book.specs.Cells.{readAt}
-use Rattle.book.specs.Reading.{tiersOf, bookOf}
+use Rattle.records.specs.Cells.{readAt}
+use Rattle.records.specs.Reading.{tiersOf}
+use Rattle.book.specs.Reading.{bookOf}
 use Rattle.book.specs.Reached.{Reached}
-use Rattle.book.proofs.CellLaws.{read-le}
+use Rattle.records.proofs.CellLaws.{read-le}
 use Rattle.book.proofs.ReachedLaws.{holders-same, paths-same}
 use Rattle.book.proofs.ReachedColumns.{loads-together, carried-together, awarded-together, allocated-together, renewable-together}
 

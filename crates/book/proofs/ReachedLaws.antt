@@ -5,10 +5,11 @@ use native.Mathlib.Nat.{le-trans, le-of-eq}
 use lib.ListN.{length}
 use Rattle.ledger.proofs.Bounds.{legal-counts}
 use Rattle.book.specs.declared.book.Book.{Book}
-use Rattle.book.specs.Setup.{setupOf}
-use Rattle.book.specs.Reading.{loadsOf, rightsOf, priorsOf, papersOf, tiersOf, bookOf}
+use Rattle.records.specs.Setup.{setupOf}
+use Rattle.records.specs.Reading.{loadsOf, rightsOf, priorsOf, papersOf, tiersOf}
+use Rattle.book.specs.Reading.{bookOf}
 use Rattle.book.specs.Reached.{Reached}
-use Rattle.book.proofs.CellLaws.{length-cells}
+use Rattle.records.proofs.CellLaws.{length-cells}
 use Rattle.book.proofs.Parts.{Shaped}
 
 module _ (b : Book) (r : Reached b) where

@@ -9,14 +9,14 @@ use Rattle.ledger.specs.Call.{Call, Query, migrate}
 use Rattle.ledger.specs.Season.{call, query, answer, step, after}
 use Rattle.ledger.proofs.Steps.{after-more}
 use Rattle.book.specs.declared.book.Book.{Book}
-use Rattle.book.specs.Setup.{setupOf}
+use Rattle.records.specs.Setup.{setupOf}
 use Rattle.book.specs.Reading.{ledgerOf, bookOf}
 use Rattle.book.specs.Handed.{openedWith, answerOf, refusedWith, handed, told}
 use Rattle.book.specs.Lines.{handedLines}
 use Rattle.book.specs.Reached.{Reached}
-use Rattle.book.proofs.Confined.{confined}
+use Rattle.records.proofs.Confined.{confined}
 use Rattle.book.proofs.RoundTrip.{read-back}
-use Rattle.book.proofs.OpeningLaws.{opening-back}
+use Rattle.records.proofs.OpeningLaws.{opening-back}
 
 module _ (o : Opening) (e : legal o ≡ true) (cs : List Call) where
   -- the book of a legal opening and a list of calls

@@ -11,15 +11,16 @@ use Rattle.tariff.specs.Evidence.{noEntry}
 use Rattle.ledger.specs.Ledger.{Ledger, Tiers}
 use Rattle.ledger.specs.Season.{after}
 use Rattle.ledger.proofs.TiersSound.{TiersSound}
-use Rattle.book.specs.declared.setup.Setup.{Setup}
+use Rattle.records.specs.declared.setup.Setup.{Setup}
 use Rattle.book.specs.declared.book.Book.{Book}
-use Rattle.book.specs.Cells.{readAt, cellsOf, hasCell}
-use Rattle.book.specs.Setup.{setupOf}
-use Rattle.book.specs.Reading.{loadsIn, rightsIn, priorsIn, papersIn, tiersIn, ledgerOf, loadsOf, rightsOf, priorsOf, papersOf, tiersOf, bookOf}
+use Rattle.records.specs.Cells.{readAt, cellsOf, hasCell}
+use Rattle.records.specs.Setup.{setupOf}
+use Rattle.records.specs.Reading.{loadsIn, rightsIn, priorsIn, papersIn, tiersIn, loadsOf, rightsOf, priorsOf, papersOf, tiersOf}
+use Rattle.book.specs.Reading.{ledgerOf, bookOf}
 use Rattle.book.specs.Reached.{Reached}
-use Rattle.book.proofs.CellLaws.{cell-facts, has-cell}
-use Rattle.book.proofs.Inside.{Inside2, inside-read, inside-read2}
-use Rattle.book.proofs.Confined.{Confined, confined}
+use Rattle.records.proofs.CellLaws.{cell-facts, has-cell}
+use Rattle.records.proofs.Inside.{Inside2, inside-read, inside-read2}
+use Rattle.records.proofs.Confined.{Confined, confined}
 
 -- in a tier that is not open the nominations are the awards
 pub settled-even : (T : Tiers) → TiersSound T → (h p t : ℕ) → (t ≡ T .openNow → ⊥) → T .awards h p t ≡ T .nominated h p t

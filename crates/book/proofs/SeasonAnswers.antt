@@ -8,10 +8,10 @@ use Rattle.ledger.specs.Call.{Call}
 use Rattle.ledger.specs.Season as ledger
 use Rattle.ledger.specs.Season.{Ask, call, query, afterFrom, after, answers, stepAsk, season}
 use Rattle.ledger.proofs.Steps.{after-more}
-use Rattle.book.specs.Setup.{setupOf}
+use Rattle.records.specs.Setup.{setupOf}
 use Rattle.book.specs.Reading.{bookOf}
 use Rattle.book.specs.Handed.{answerIn, answerOf}
-use Rattle.book.specs.Setup.{emptyOpening}
+use Rattle.records.specs.Setup.{emptyOpening}
 use Rattle.book.specs.Opened.{openedAs}
 use Rattle.book.specs.SeasonTheorem.{callsOf, bookAfter, answersOf, seasonAnswers}
 use Rattle.book.proofs.ReachedSteps.{bookAt, at-answer, at-told, at-next}

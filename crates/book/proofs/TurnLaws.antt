@@ -13,12 +13,13 @@ use Rattle.ledger.specs.Season.{accepted}
 use Rattle.ledger.proofs.TiersSound.{TiersSound, tiers-sound}
 use Rattle.ledger.proofs.TierFacts.{open-facts, close-fact}
 use Rattle.book.specs.declared.book.Book.{Book}
-use Rattle.book.specs.Cells.{cellOf, readAt, cellsOf}
-use Rattle.book.specs.Reading.{tiersIn, ledgerOf, tiersOf, bookOf}
+use Rattle.records.specs.Cells.{cellOf, readAt, cellsOf}
+use Rattle.records.specs.Reading.{tiersIn, tiersOf}
+use Rattle.book.specs.Reading.{ledgerOf, bookOf}
 use Rattle.book.specs.Handed.{openedWith}
 use Rattle.book.specs.Reached.{Reached}
-use Rattle.book.proofs.CellLaws.{array-is, cells-read, read-here, cell-below}
-use Rattle.book.proofs.Narrow.{third-zero}
+use Rattle.records.proofs.CellLaws.{array-is, cells-read, read-here, cell-below}
+use Rattle.records.proofs.Narrow.{third-zero}
 use Rattle.book.proofs.Parts.{Shaped, loads-back, rights-back, priors-back, papers-back}
 use Rattle.book.proofs.RoundTrip.{reached-ledger}
 

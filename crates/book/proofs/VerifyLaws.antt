@@ -15,9 +15,10 @@ use Rattle.ledger.specs.Causes.{verifyCauses, callCauses}
 use Rattle.ledger.specs.Effects.{afterVerify, effect}
 use Rattle.ledger.specs.Season.{accepted}
 use Rattle.ledger.proofs.Unmet.{unmet, accepted-zero}
-use Rattle.book.specs.declared.papers.Papers.{Papers}
+use Rattle.records.specs.declared.papers.Papers.{Papers}
 use Rattle.book.specs.declared.book.Book.{Book}
-use Rattle.book.specs.Reading.{papersIn, ledgerOf, papersOf, bookOf}
+use Rattle.records.specs.Reading.{papersIn, papersOf}
+use Rattle.book.specs.Reading.{ledgerOf, bookOf}
 use Rattle.book.specs.Handed.{openedWith}
 use Rattle.book.proofs.Parts.{Shaped, loads-back, rights-back, priors-back, tiers-back}
 

@@ -7,7 +7,7 @@ use Rattle.book.specs.declared.book.Book.{Book}
 use Rattle.book.specs.declared.book.Answer.{Answer}
 use Rattle.book.specs.declared.book.Answer.the-variants.{Done, Value, Refused}
 use Rattle.book.specs.declared.book.Answered.{Answered}
-use Rattle.book.specs.Setup.{openingOf}
+use Rattle.records.specs.Setup.{openingOf}
 use Rattle.book.specs.Reading.{ledgerOf, bookOf}
 
 -- 01's number and values for each case of an answer

@@ -1,12 +1,9 @@
 -- The book as the ledger sees it, and the ledger as a book.
-pub mod Setup
-pub mod Cells
 pub mod Reading
 pub mod Handed
 pub mod Reached
 pub mod Opened
 pub mod SeasonTheorem
-pub mod Columns
 pub mod Moving
 pub mod Lines
 pub mod Posting

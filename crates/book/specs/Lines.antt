@@ -9,10 +9,10 @@ use Rattle.tariff.specs.Netting.{classLinesOf, sameCounts, nettingOf}
 use Rattle.ledger.specs.Opening.{Opening, holderKind}
 use Rattle.ledger.specs.Ranges.{noHolder}
 use Rattle.ledger.specs.Call.{migrate}
-use Rattle.book.specs.declared.moves.Moved.{Moved}
+use Rattle.records.specs.declared.moves.Moved.{Moved}
 use Rattle.book.specs.declared.book.Book.{Book}
 use Rattle.book.specs.declared.book.Answered.{Answered}
-use Rattle.book.specs.Columns.{columnAt}
+use Rattle.records.specs.Columns.{columnAt}
 use Rattle.book.specs.Handed.{refusedWith, handed}
 
 -- a line that names a holder who is not in the book

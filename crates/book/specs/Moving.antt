@@ -2,12 +2,12 @@
 use Prim.Native.Nat.{ℕ, _≤_, _<_}
 use mathlib.Core.Path.{_≡_}
 use Rattle.ledger.specs.Moves.{loadsAfter, rightsAfter, priorsAfter}
-use Rattle.book.specs.declared.moves.Moved.{Moved}
+use Rattle.records.specs.declared.moves.Moved.{Moved}
 use Rattle.book.specs.declared.book.Book.{Book}
-use Rattle.book.specs.Cells.{readAt}
-use Rattle.book.specs.Setup.{openingOf}
-use Rattle.book.specs.Reading.{loadsIn, loadsOf, rightsIn, rightsOf, priorsIn, priorsOf}
-use Rattle.book.specs.Columns.{columnAt, loadMoved, columnMoved, Movable, ColumnFits}
+use Rattle.records.specs.Cells.{readAt}
+use Rattle.records.specs.Setup.{openingOf}
+use Rattle.records.specs.Reading.{loadsIn, loadsOf, rightsIn, rightsOf, priorsIn, priorsOf}
+use Rattle.records.specs.Columns.{columnAt, loadMoved, columnMoved, Movable, ColumnFits}
 
 -- the book after the ledger's records have moved so
 unfoldable pub bookMoved : Book → ℕ → ℕ → Moved → Book

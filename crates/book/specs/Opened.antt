@@ -4,7 +4,7 @@ use Rattle.ledger.specs.Opening.{Opening, legal, openingRefusal}
 use Rattle.ledger.specs.Ledger.{emptyLedger}
 use Rattle.book.specs.declared.book.Answer.the-variants.{Done, Refused}
 use Rattle.book.specs.declared.book.Answered.{Answered}
-use Rattle.book.specs.Setup.{setupOf, emptyOpening}
+use Rattle.records.specs.Setup.{setupOf, emptyOpening}
 use Rattle.book.specs.Reading.{bookOf}
 
 -- a legal opening is done and hands back its book, all at 0 or empty; any other is refused, beside the book of an opening with nothing in it,

@@ -14,7 +14,8 @@ use Rattle.book.specs.declared.load.Posting.{Posting}
 use Rattle.book.specs.declared.load.Posting.the-variants.{Kw, Refused}
 use Rattle.book.specs.declared.book.Book.{Book}
 use Rattle.book.specs.declared.book.Answered.{Answered}
-use Rattle.book.specs.Reading.{loadsIn, loadsOf, ledgerOf}
+use Rattle.records.specs.Reading.{loadsIn, loadsOf}
+use Rattle.book.specs.Reading.{ledgerOf}
 use Rattle.book.specs.Handed.{openedWith, refusedWith, handed}
 
 -- a block above the most kW

@@ -6,7 +6,7 @@ use Rattle.ledger.specs.Opening.{Opening, legal}
 use Rattle.ledger.specs.Call.{Call}
 use Rattle.ledger.specs.Season.{after}
 use Rattle.book.specs.declared.book.Book.{Book}
-use Rattle.book.specs.Setup.{setupOf}
+use Rattle.records.specs.Setup.{setupOf}
 use Rattle.book.specs.Reading.{bookOf}
 
 -- the book of a legal opening and a list of calls

@@ -3,22 +3,17 @@ use crate::book::Answer;
 use crate::book::Answered;
 use crate::book::Book;
 use crate::book::refused;
-use crate::calendar::is_open;
-use crate::cells::add;
-use crate::cells::read;
-use crate::refusals::refuse;
-use crate::refusals::wrong_kw;
-use crate::rights::Rights;
-use crate::rights::add_in_term;
-use crate::tiers::Tiers;
-use tariff::terms::term_of;
+use records::calendar::is_open;
+use records::cells::read;
+use records::refusals::refuse;
+use records::refusals::wrong_kw;
+use records::rights::with_awarded;
+use records::tiers::with_award;
 ghost use mathlib.Core.Path.{_≡_};
-ghost use Prim.Native.Nat.{ℕ, _+_, _^_, _<_, _≤_};
+ghost use Prim.Native.Nat.{_+_, _<_, _≤_};
 ghost use Rattle.ledger.specs.Call.{award};
 ghost use Rattle.ledger.specs.Causes.{beyondNominated, refusal};
-ghost use Rattle.ledger.specs.Effects.{awardsAfter, holdingsAfter};
-ghost use Rattle.book.specs.Cells.{readAt};
-ghost use Rattle.book.specs.Reading.{rightsIn, rightsOf, tiersIn, tiersOf, ledgerOf};
+ghost use Rattle.book.specs.Reading.{ledgerOf};
 ghost use Rattle.book.specs.Handed.{openedWith, handed};
 ghost use Rattle.book.specs.Reached.{Reached};
 
@@ -54,40 +49,6 @@ pub fn award_refusal(b: Book, h: u64, p: u64, kw: u64) -> u64
     }
     let above = beyond_nominated(b, h, p, kw);
     refuse(14, above, 0)
-}
-
-// kw more awarded in the open tier.
-fn with_award(t: Tiers, h: u64, p: u64, kw: u64) -> Tiers
-    requires { ⌜ (h < 8) × (p < 16) × (t .«open_now» ≤ 9) × (readAt 10 0 0 (t .awards) h p (t .«open_now») + kw < 2 ^ 64) ⌝ }
-    ensures { λ x. ⌜ x ≡ tiersOf (awardsAfter (tiersIn t) h p kw) ⌝ }
-{
-    let open_now = t.open_now;
-    let mut awards = t.awards;
-    add(&mut awards, 10, 0, h, p, open_now, kw);
-    let nominated = t.nominated;
-    Tiers {
-        nominated,
-        awards,
-        last_closed: t.last_closed,
-        open_now,
-    }
-}
-
-// kw more held in each month of a tier's term.
-fn with_awarded(r: Rights, tier: u64, h: u64, p: u64, kw: u64) -> Rights
-    requires { ⌜ (h < 8) × (p < 16) × ((m : ℕ) → readAt 3 1 0 (r .awarded) h p m + kw < 2 ^ 64) ⌝ }
-    ensures { λ x. ⌜ x ≡ rightsOf (holdingsAfter (rightsIn r) tier h p kw) ⌝ }
-{
-    let term = term_of(tier);
-    let mut awarded = r.awarded;
-    add_in_term(&mut awarded, term, h, p, kw);
-    let carried = r.carried;
-    let posted = r.posted;
-    Rights {
-        carried,
-        awarded,
-        posted,
-    }
 }
 
 impl Book {

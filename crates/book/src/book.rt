@@ -1,10 +1,10 @@
 // The book: its opening and its figures, each part in a struct of its own.
-use crate::loads::Loads;
-use crate::papers::Papers;
-use crate::priors::Priors;
-use crate::rights::Rights;
-use crate::setup::Setup;
-use crate::tiers::Tiers;
+use records::loads::Loads;
+use records::papers::Papers;
+use records::priors::Priors;
+use records::rights::Rights;
+use records::setup::Setup;
+use records::tiers::Tiers;
 ghost use mathlib.Core.Path.{_≡_};
 ghost use Rattle.book.specs.Handed.{refusedWith};
 

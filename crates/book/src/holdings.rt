@@ -1,9 +1,9 @@
 // The queries on holdings (01, Queries).
 use crate::book::Answer;
 use crate::book::Book;
-use crate::cells::read;
-use crate::refusals::refuse;
-use crate::refusals::wrong_month;
+use records::cells::read;
+use records::refusals::refuse;
+use records::refusals::wrong_month;
 ghost use mathlib.Core.Path.{_≡_};
 ghost use Prim.Native.Nat.{_<_};
 ghost use Rattle.ledger.specs.Call.{heldOn, netOn};

@@ -1,48 +1,23 @@
 // The sums that a limit is made of, and the limit itself (01, Limits).
 use crate::book::Answer;
 use crate::book::Book;
-use crate::calendar::is_open;
-use crate::cells::read;
-use crate::refusals::refuse;
-use crate::setup::Setup;
+use records::calendar::is_open;
+use records::cells::read;
+use records::refusals::refuse;
+use records::sums::sum_at_base;
 use tariff::limit::Sums;
 use tariff::limit::less;
 use tariff::limit::tier_limit;
 use tariff::terms::carried_month;
 use tariff::terms::term_of;
 ghost use mathlib.Core.Path.{_≡_};
-ghost use Prim.Native.Nat.{ℕ, _+_, _*_, _<_, _≤_};
-ghost use lib.ListN.{length};
-ghost use Rattle.tariff.specs.Sum.{countIf};
+ghost use Prim.Native.Nat.{_<_};
 ghost use Rattle.ledger.specs.Call.{limitOf};
 ghost use Rattle.ledger.specs.Causes.{queryRefusal};
-ghost use Rattle.ledger.specs.Limits.{sumAtBase, longTermAt, priorYearAt, awardsAt, nominatedAt, limitSums, tierLimit};
-ghost use Rattle.book.specs.Cells.{readAt};
-ghost use Rattle.book.specs.Setup.{openingOf};
+ghost use Rattle.ledger.specs.Limits.{longTermAt, priorYearAt, awardsAt, nominatedAt, limitSums, tierLimit};
 ghost use Rattle.book.specs.Reading.{ledgerOf};
 ghost use Rattle.book.specs.Handed.{openedWith, told};
 ghost use Rattle.book.specs.Reached.{Reached};
-
-// kw where the test passes, else 0.
-pub fn count_if(test: bool, kw: u64) -> u64
-    ensures { λ r. ⌜ r ≡ countIf test kw ⌝ }
-{
-    if test { kw } else { 0 }
-}
-
-// What a holder has in cells on the paths whose sink has this base.
-pub fn sum_at_base(setup: Setup, cells: &[u64], width: u64, low: u64, h: u64, m: u64, b: u64) -> u64
-    requires { ⌜ (length (now cells) ≡ 128 * width) × (low + width ≤ 16) × (setup .paths ≤ 16) × ((p : ℕ) → p < setup .paths → readAt width low 0 (now cells) h p m ≤ 10 * (8 * 99999999)) ⌝ }
-    ensures { λ r. ⌜ r ≡ sumAtBase (openingOf setup) b (λ p. readAt width low 0 (now (cells .entry)) h p m) ⌝ }
-{
-    let paths = setup.paths;
-    let mut sum: u64 = 0;
-    for p in 0..paths {
-        let there = setup.path_base(p) == b;
-        sum += count_if(there, read(cells, width, low, h, p, m));
-    }
-    sum
-}
 
 // LT: a holder's carried holding at a base in a month.
 fn long_term_at(b: Book, h: u64, base: u64, month: u64) -> u64

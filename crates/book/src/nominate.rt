@@ -3,27 +3,24 @@ use crate::book::Answer;
 use crate::book::Answered;
 use crate::book::Book;
 use crate::book::refused;
-use crate::calendar::is_open;
-use crate::cells::add;
-use crate::cells::read;
 use crate::limits::nominated_at;
 use crate::limits::tier_limit_of;
-use crate::refusals::refuse;
-use crate::refusals::wrong_kw;
-use crate::tiers::Tiers;
 use crate::verification::drawn_now;
 use crate::verification::verified_kw;
+use records::calendar::is_open;
+use records::cells::read;
+use records::refusals::refuse;
+use records::refusals::wrong_kw;
+use records::tiers::with_nomination;
 use tariff::terms::term_of;
 ghost use mathlib.Core.Path.{_≡_};
 ghost use mathlib.Core.Bool.{_||_, _&&_};
 ghost use lib.Dec.{eqb};
-ghost use Prim.Native.Nat.{_+_, _^_, _<_, _≤_};
+ghost use Prim.Native.Nat.{_+_, _<_, _≤_};
 ghost use Rattle.ledger.specs.Opening.{pathSink};
 ghost use Rattle.ledger.specs.Call.{nominate};
 ghost use Rattle.ledger.specs.Causes.{sinkNotFor, isSubLap, beyondVerified, beyondRenewable, beyondLimit, refusal};
-ghost use Rattle.ledger.specs.Effects.{afterNominate};
-ghost use Rattle.book.specs.Cells.{readAt};
-ghost use Rattle.book.specs.Reading.{tiersIn, tiersOf, ledgerOf};
+ghost use Rattle.book.specs.Reading.{ledgerOf};
 ghost use Rattle.book.specs.Handed.{openedWith, handed};
 ghost use Rattle.book.specs.Reached.{Reached};
 
@@ -109,22 +106,6 @@ pub fn nominate_refusal(b: Book, h: u64, p: u64, kw: u64) -> u64
         sink,
         refuse(11, verified, refuse(12, renewable, refuse(13, limit, 0))),
     )
-}
-
-// kw more nominated in the open tier.
-fn with_nomination(t: Tiers, h: u64, p: u64, kw: u64) -> Tiers
-    requires { ⌜ (h < 8) × (p < 16) × (readAt 1 0 0 (t .nominated) h p 0 + kw < 2 ^ 64) ⌝ }
-    ensures { λ x. ⌜ x ≡ tiersOf (afterNominate (tiersIn t) h p kw) ⌝ }
-{
-    let mut nominated = t.nominated;
-    add(&mut nominated, 1, 0, h, p, 0, kw);
-    let awards = t.awards;
-    Tiers {
-        nominated,
-        awards,
-        last_closed: t.last_closed,
-        open_now: t.open_now,
-    }
 }
 
 impl Book {

@@ -1,34 +1,16 @@
 // What a holder has verified of a source, and what it draws of that (01, Tiers, Nominate; cause 11).
 use crate::book::Book;
-use crate::cells::read;
-use crate::limits::count_if;
-use crate::papers::filed;
-use crate::setup::Setup;
+use records::papers::filed;
+use records::sums::count_if;
+use records::sums::sum_from_source;
 use tariff::evidence::entry_kw;
 use tariff::terms::term_of;
 ghost use mathlib.Core.Path.{_≡_};
-ghost use Prim.Native.Nat.{ℕ, _+_, _*_, _<_, _≤_};
-ghost use lib.ListN.{length};
+ghost use Prim.Native.Nat.{_+_, _<_, _≤_};
 ghost use Rattle.ledger.specs.Verification.{sumFromSource, verifiedKw, drawsOnSame, drawnBefore, drawn};
-ghost use Rattle.book.specs.Cells.{readAt};
-ghost use Rattle.book.specs.Setup.{openingOf};
 ghost use Rattle.book.specs.Reading.{ledgerOf};
 ghost use Rattle.book.specs.Handed.{openedWith};
 ghost use Rattle.book.specs.Reached.{Reached};
-
-// What a holder has in cells on the paths from this source.
-fn sum_from_source(setup: Setup, cells: &[u64], width: u64, low: u64, h: u64, m: u64, s: u64) -> u64
-    requires { ⌜ (length (now cells) ≡ 128 * width) × (low + width ≤ 16) × (setup .paths ≤ 16) × ((p : ℕ) → p < setup .paths → readAt width low 0 (now cells) h p m ≤ 10 * (8 * 99999999)) ⌝ }
-    ensures { λ r. ⌜ r ≡ sumFromSource (openingOf setup) s (λ p. readAt width low 0 (now (cells .entry)) h p m) ⌝ }
-{
-    let paths = setup.paths;
-    let mut sum: u64 = 0;
-    for p in 0..paths {
-        let there = setup.path_source(p) == s;
-        sum += count_if(there, read(cells, width, low, h, p, m));
-    }
-    sum
-}
 
 // A holder's verified kW of a source for a term: ownership and contract add.
 pub fn verified_kw(b: Book, h: u64, s: u64, term: u64) -> u64

@@ -3,9 +3,10 @@ use mathlib.Core.Bool.{not}
 use mathlib.Core.Path.{sym, ap, _∙_}
 use Rattle.ledger.specs.Calendar.{tierIsOpen}
 use Rattle.ledger.specs.Causes.{awardCauses, callCauses, refusal}
-use Rattle.book.specs.Reading.{tiersIn, ledgerOf}
+use Rattle.records.specs.Reading.{tiersIn}
+use Rattle.book.specs.Reading.{ledgerOf}
 use Rattle.book.specs.Handed.{openedWith}
-use Rattle.book.proofs.CauseLaws.{link, no-more}
+use Rattle.records.proofs.CauseLaws.{link, no-more}
 use Rattle.book.proofs.MetCauses.{met-first, unmet-first, holder-in-book, path-in-book, kw-within, neither, first-of-two, second-of-two}
 use borrow.Author.Needs.{needs}
 use Rattle.book.proofs.award.award_refusal.Statement.{statement}

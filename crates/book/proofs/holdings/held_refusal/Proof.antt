@@ -3,7 +3,7 @@ use mathlib.Core.Bool.{_||_}
 use mathlib.Core.Path.{ap₂}
 use Rattle.ledger.specs.Causes.{heldCauses, queryCauses, queryRefusal}
 use Rattle.book.specs.Handed.{openedWith}
-use Rattle.book.proofs.CauseLaws.{link, no-more}
+use Rattle.records.proofs.CauseLaws.{link, no-more}
 use borrow.Author.Needs.{needs}
 use Rattle.book.proofs.holdings.held_refusal.Statement.{statement}
 use Rattle.book.proofs.holdings.held_refusal.Tie as tie

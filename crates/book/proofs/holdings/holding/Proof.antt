@@ -3,7 +3,8 @@ use mathlib.Core.Path.{ap₂}
 use Prim.Native.Nat.{_+_}
 use native.Mathlib.Omega.{arith}
 use Rattle.ledger.specs.Season.{held}
-use Rattle.book.specs.Reading.{rightsIn, ledgerOf}
+use Rattle.records.specs.Reading.{rightsIn}
+use Rattle.book.specs.Reading.{ledgerOf}
 use Rattle.book.proofs.ReachedFigures.{carried-fits, awarded-fits}
 use borrow.Author.Needs.{needs}
 use Rattle.book.proofs.holdings.holding.Statement.{statement}

@@ -5,7 +5,7 @@ use native.Mathlib.Omega.{arith}
 use Rattle.tariff.specs.Sum.{sumTo}
 use Rattle.tariff.proofs.Sums.{sum-more, sum-whole}
 use Rattle.ledger.specs.Season.{held, net}
-use Rattle.book.specs.Setup.{openingOf}
+use Rattle.records.specs.Setup.{openingOf}
 use Rattle.book.specs.Reading.{ledgerOf}
 use Rattle.book.specs.Handed.{openedWith}
 use Rattle.book.proofs.HeldLaws.{net-room}

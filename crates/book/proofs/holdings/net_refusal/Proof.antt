@@ -1,7 +1,7 @@
 -- `book::holdings::net_refusal` meets its contract: its tests are the causes, in their order. Assumes nothing.
 use Rattle.ledger.specs.Causes.{netCauses, queryCauses, queryRefusal}
 use Rattle.book.specs.Handed.{openedWith}
-use Rattle.book.proofs.CauseLaws.{link, no-more}
+use Rattle.records.proofs.CauseLaws.{link, no-more}
 use borrow.Author.Needs.{needs}
 use Rattle.book.proofs.holdings.net_refusal.Statement.{statement}
 use Rattle.book.proofs.holdings.net_refusal.Tie as tie

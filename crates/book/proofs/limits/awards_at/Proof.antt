@@ -1,7 +1,8 @@
 -- `book::limits::awards_at` meets its contract. Assumes nothing.
 use native.Mathlib.Omega.{arith}
 use Rattle.ledger.specs.Limits.{awardsAt}
-use Rattle.book.specs.Reading.{tiersIn, ledgerOf}
+use Rattle.records.specs.Reading.{tiersIn}
+use Rattle.book.specs.Reading.{ledgerOf}
 use Rattle.book.specs.Handed.{openedWith}
 use Rattle.book.proofs.ReachedLaws.{reached-counts}
 use Rattle.book.proofs.ReachedFigures.{awards-fit}

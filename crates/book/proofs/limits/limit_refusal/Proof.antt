@@ -3,9 +3,10 @@ use mathlib.Core.Bool.{not, _||_}
 use mathlib.Core.Path.{ap, ap₂}
 use Rattle.ledger.specs.Calendar.{tierIsOpen}
 use Rattle.ledger.specs.Causes.{limitCauses, queryCauses, queryRefusal}
-use Rattle.book.specs.Reading.{tiersIn, ledgerOf}
+use Rattle.records.specs.Reading.{tiersIn}
+use Rattle.book.specs.Reading.{ledgerOf}
 use Rattle.book.specs.Handed.{openedWith}
-use Rattle.book.proofs.CauseLaws.{link, no-more}
+use Rattle.records.proofs.CauseLaws.{link, no-more}
 use borrow.Author.Needs.{needs}
 use Rattle.book.proofs.limits.limit_refusal.Statement.{statement}
 use Rattle.book.proofs.limits.limit_refusal.Tie as tie

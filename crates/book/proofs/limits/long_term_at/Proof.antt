@@ -1,7 +1,8 @@
 -- `book::limits::long_term_at` meets its contract. Assumes nothing.
 use native.Mathlib.Omega.{arith}
 use Rattle.ledger.specs.Limits.{longTermAt}
-use Rattle.book.specs.Reading.{rightsIn, ledgerOf}
+use Rattle.records.specs.Reading.{rightsIn}
+use Rattle.book.specs.Reading.{ledgerOf}
 use Rattle.book.specs.Handed.{openedWith}
 use Rattle.book.proofs.ReachedLaws.{reached-counts}
 use Rattle.book.proofs.ReachedFigures.{carried-fits}

@@ -1,7 +1,8 @@
 -- `book::limits::prior_year_at` meets its contract. Assumes nothing.
 use native.Mathlib.Omega.{arith}
 use Rattle.ledger.specs.Limits.{priorYearAt}
-use Rattle.book.specs.Reading.{priorsIn, ledgerOf}
+use Rattle.records.specs.Reading.{priorsIn}
+use Rattle.book.specs.Reading.{ledgerOf}
 use Rattle.book.specs.Handed.{openedWith}
 use Rattle.book.proofs.ReachedLaws.{reached-counts}
 use Rattle.book.proofs.ReachedFigures.{allocated-fits}

@@ -3,9 +3,10 @@ use mathlib.Core.Bool.{not, _||_}
 use mathlib.Core.Path.{ap, ap₂}
 use Rattle.ledger.specs.Calendar.{tierIsOpen, beforeTier, loadInTime}
 use Rattle.ledger.specs.Causes.{loadCauses}
-use Rattle.book.specs.Reading.{loadsIn, tiersIn, ledgerOf}
+use Rattle.records.specs.Reading.{loadsIn, tiersIn}
+use Rattle.book.specs.Reading.{ledgerOf}
 use Rattle.book.specs.Handed.{openedWith}
-use Rattle.book.proofs.CauseLaws.{link, no-more}
+use Rattle.records.proofs.CauseLaws.{link, no-more}
 use borrow.Author.Needs.{needs}
 use Rattle.book.proofs.load.load_refusal_early.Statement.{statement}
 use Rattle.book.proofs.load.load_refusal_early.Tie as tie

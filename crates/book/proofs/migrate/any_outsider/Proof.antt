@@ -5,7 +5,7 @@ use mathlib.Core.Path.{_≡_, refl, sym, _∙_}
 use lib.ListN.{length}
 use Rattle.tariff.specs.Sum.{anyBelow}
 use Rattle.tariff.proofs.Tests.{none-more}
-use Rattle.book.specs.Setup.{openingOf}
+use Rattle.records.specs.Setup.{openingOf}
 use Rattle.book.specs.Lines.{outsiderAt}
 use Rattle.book.proofs.LineLaws.{found, not-found}
 use borrow.Author.Needs.{needs}

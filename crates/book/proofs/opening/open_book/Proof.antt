@@ -2,8 +2,8 @@
 use mathlib.Core.Path.{_≡_, sym, _∙_}
 use mathlib.Core.Bool.{_&&_}
 use Rattle.ledger.specs.Opening.{Opening, legal}
-use Rattle.book.specs.Setup.{openingFrom}
-use Rattle.book.proofs.KeptOpening.{lists-kept, legal-kept}
+use Rattle.records.specs.Setup.{openingFrom}
+use Rattle.records.proofs.KeptOpening.{lists-kept, legal-kept}
 use borrow.Author.Needs.{needs}
 use Rattle.book.proofs.opening.open_book.Statement.{statement}
 use Rattle.book.proofs.opening.open_book.Tie as tie

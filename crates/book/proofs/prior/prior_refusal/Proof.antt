@@ -2,10 +2,11 @@
 use mathlib.Core.Bool.{not, _||_}
 use mathlib.Core.Path.{ap, ap₂, _∙_}
 use Rattle.book.specs.Handed.{openedWith}
-use Rattle.book.specs.Reading.{priorsIn, tiersIn, ledgerOf}
+use Rattle.records.specs.Reading.{priorsIn, tiersIn}
+use Rattle.book.specs.Reading.{ledgerOf}
 use Rattle.ledger.specs.Causes.{sinkNotFor, priorCauses, callCauses, refusal}
 use Rattle.ledger.specs.Calendar.{tierIsOpen, beforeTier}
-use Rattle.book.proofs.CauseLaws.{link, no-more}
+use Rattle.records.proofs.CauseLaws.{link, no-more}
 use borrow.Author.Needs.{needs}
 use Rattle.book.proofs.prior.prior_refusal.Statement.{statement}
 use Rattle.book.proofs.prior.prior_refusal.Tie as tie

@@ -3,8 +3,9 @@ use Rattle.ledger.specs.Causes.{openCauses, callCauses, refusal}
 use Rattle.ledger.specs.Calendar.{tierIsOpen, tierInTurn}
 use mathlib.Core.Bool.{not}
 use mathlib.Core.Path.{ap}
-use Rattle.book.specs.Reading.{tiersIn, ledgerOf}
-use Rattle.book.proofs.CauseLaws.{link, no-more}
+use Rattle.records.specs.Reading.{tiersIn}
+use Rattle.book.specs.Reading.{ledgerOf}
+use Rattle.records.proofs.CauseLaws.{link, no-more}
 use borrow.Author.Needs.{needs}
 use Rattle.book.proofs.turns.open_refusal.Statement.{statement}
 use Rattle.book.proofs.turns.open_refusal.Tie as tie

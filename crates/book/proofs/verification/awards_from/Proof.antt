@@ -3,7 +3,8 @@ use native.Mathlib.Omega.{arith}
 use Rattle.book.specs.Handed.{openedWith}
 use Rattle.book.proofs.ReachedLaws.{reached-counts}
 use Rattle.book.proofs.ReachedFigures.{awards-fit}
-use Rattle.book.specs.Reading.{tiersIn, ledgerOf}
+use Rattle.records.specs.Reading.{tiersIn}
+use Rattle.book.specs.Reading.{ledgerOf}
 use borrow.Author.Needs.{needs}
 use Rattle.book.proofs.verification.awards_from.Statement.{statement}
 use Rattle.book.proofs.verification.awards_from.Tie as tie

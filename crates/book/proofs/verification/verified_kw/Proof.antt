@@ -4,7 +4,8 @@ use mathlib.Core.Path.{ap, _∙_}
 use native.Mathlib.Omega.{arith}
 use Rattle.tariff.specs.Evidence.{entryKw}
 use Rattle.ledger.specs.Verification.{verifiedKw}
-use Rattle.book.specs.Reading.{papersIn, ledgerOf}
+use Rattle.records.specs.Reading.{papersIn}
+use Rattle.book.specs.Reading.{ledgerOf}
 use Rattle.book.proofs.DrawnLaws.{entry-fits}
 use borrow.Author.Needs.{needs}
 use Rattle.book.proofs.verification.verified_kw.Statement.{statement}

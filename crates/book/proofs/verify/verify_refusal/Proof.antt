@@ -2,10 +2,11 @@
 use mathlib.Core.Bool.{not, _||_}
 use mathlib.Core.Path.{ap, ap₂, _∙_}
 use Rattle.book.specs.Handed.{openedWith}
-use Rattle.book.specs.Reading.{papersIn, tiersIn, ledgerOf}
+use Rattle.records.specs.Reading.{papersIn, tiersIn}
+use Rattle.book.specs.Reading.{ledgerOf}
 use Rattle.ledger.specs.Causes.{verifyCauses, callCauses, refusal}
 use Rattle.ledger.specs.Calendar.{tierIsOpen}
-use Rattle.book.proofs.CauseLaws.{link, no-more}
+use Rattle.records.proofs.CauseLaws.{link, no-more}
 use Rattle.tariff.proofs.Tests.{not-not}
 use borrow.Author.Needs.{needs}
 use Rattle.book.proofs.verify.verify_refusal.Statement.{statement}

@@ -2,7 +2,7 @@
 use mathlib.Core.Path.{_∙_}
 use native.Mathlib.Nat.{le-trans}
 use Rattle.book.specs.Handed.{openedWith}
-use Rattle.book.specs.Setup.{openingOf}
+use Rattle.records.specs.Setup.{openingOf}
 use Rattle.ledger.proofs.PostingFacts.{carry-facts}
 use Rattle.book.proofs.CarryLaws.{carry-book}
 use Rattle.book.proofs.ReachedLaws.{reached-counts, reached-shaped}

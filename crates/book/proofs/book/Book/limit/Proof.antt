@@ -2,8 +2,9 @@
 use mathlib.Core.Path.{ap, sym, _∙_}
 use Rattle.ledger.specs.Limits.{tierLimit}
 use Rattle.ledger.specs.Season.{figure}
-use Rattle.book.specs.Setup.{openingOf}
-use Rattle.book.specs.Reading.{tiersIn, ledgerOf}
+use Rattle.records.specs.Setup.{openingOf}
+use Rattle.records.specs.Reading.{tiersIn}
+use Rattle.book.specs.Reading.{ledgerOf}
 use Rattle.book.specs.Handed.{openedWith}
 use Rattle.book.proofs.LimitLaws.{limit-holder, told-refused, told-figure}
 use borrow.Author.Needs.{needs}

@@ -1,7 +1,7 @@
 -- `book::Book::net` meets its contract. Assumes nothing.
 use mathlib.Core.Path.{sym, _∙_}
 use Rattle.ledger.specs.Season.{figure}
-use Rattle.book.specs.Setup.{openingOf}
+use Rattle.records.specs.Setup.{openingOf}
 use Rattle.book.specs.Handed.{openedWith}
 use Rattle.book.proofs.HeldLaws.{net-names}
 use Rattle.book.proofs.LimitLaws.{told-refused, told-figure}

@@ -3,7 +3,7 @@ use mathlib.Core.Path.{_∙_}
 use native.Mathlib.Nat.{le-trans}
 use native.Mathlib.Omega.{arith}
 use Rattle.ledger.proofs.TierFacts.{nominate-facts}
-use Rattle.book.specs.Setup.{openingOf}
+use Rattle.records.specs.Setup.{openingOf}
 use Rattle.book.specs.Handed.{openedWith}
 use Rattle.book.proofs.NominateLaws.{nominate-book}
 use Rattle.book.proofs.ReachedLaws.{reached-counts, reached-shaped}

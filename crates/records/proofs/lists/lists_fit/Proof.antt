@@ -1,0 +1,13 @@
+-- `records::lists::lists_fit` meets its contract: the tests are those of the definition. Assumes nothing.
+use mathlib.Core.Path.{refl}
+use Rattle.ledger.specs.Opening.{listsFit}
+use Rattle.records.specs.Setup.{openingFrom}
+use Rattle.records.proofs.lists.lists_fit.Statement.{statement}
+use Rattle.records.proofs.lists.lists_fit.Tie as tie
+
+returns : tie.Need-returns
+unfolding listsFit openingFrom
+returns c = refl
+
+pub lists-fit-spec : {M : Type 1} → statement M
+lists-fit-spec = tie.close (tie.spec returns)

@@ -1,0 +1,16 @@
+-- `records::setup::holder_kind` meets its contract: the entry of its list. Assumes nothing.
+use Rattle.records.specs.Setup.{openingOf}
+use Rattle.ledger.specs.Opening.{holderKind}
+use borrow.Author.Needs.{needs}
+use Rattle.records.proofs.setup.Setup.holder_kind.Statement.{statement}
+use Rattle.records.proofs.setup.Setup.holder_kind.Tie as tie
+
+entry-requires : tie.Need-entry-requires
+entry-requires c κs = search needs
+
+returns : tie.Need-returns
+unfolding holderKind openingOf
+returns c = c .entry .ensures
+
+pub holder-kind-spec : {M : Type 1} → statement M
+holder-kind-spec = tie.close (tie.spec entry-requires returns)
