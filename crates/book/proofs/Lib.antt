@@ -26,3 +26,4 @@ pub mod BlockLaws
 pub mod LoadLaws
 pub mod PostingLaws
 pub mod LoadHanded
+pub mod GoingOn

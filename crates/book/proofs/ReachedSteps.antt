@@ -1,18 +1,15 @@
 -- What a reached book answers is the ledger's answer, and what a call hands back is a reached book. Assumes nothing.
-use Prim.Native.Nat.{ℕ}
 use mathlib.Core.Path.{_≡_, sym, ap, _∙_}
-use mathlib.Core.Bool.{Bool, true, false, cond}
+use mathlib.Core.Bool.{true}
 use mathlib.Core.List.{List, [], _∷_, _++_}
 use Rattle.ledger.specs.Opening.{Opening, legal}
-use Rattle.tariff.specs.Netting.{classLinesOf, sameCounts}
-use Rattle.ledger.specs.Call.{Call, Query, migrate}
+use Rattle.ledger.specs.Call.{Call, Query}
 use Rattle.ledger.specs.Season.{call, query, answer, step, after}
 use Rattle.ledger.proofs.Steps.{after-more}
 use Rattle.book.specs.declared.book.Book.{Book}
 use Rattle.records.specs.Setup.{setupOf}
 use Rattle.book.specs.Reading.{ledgerOf, bookOf}
-use Rattle.book.specs.Handed.{openedWith, answerOf, refusedWith, handed, told}
-use Rattle.book.specs.Lines.{handedLines}
+use Rattle.book.specs.Handed.{openedWith, answerOf, handed, told}
 use Rattle.book.specs.Reached.{Reached}
 use Rattle.records.proofs.Confined.{confined}
 use Rattle.book.proofs.RoundTrip.{read-back}
@@ -53,12 +50,3 @@ handed-reached b r c =
       isLegal = r .isLegal;
       isBook = ap (λ x. handed x c .book) (r .isBook) ∙ at-next (r .opening) (r .isLegal) (r .calls) c;
     }
-
--- a migration by slices hands one back too: that of a call, or the book as it was
-pub lines-reached : (b : Book) → Reached b → (term sink : ℕ) (froms tos classes customers watts : List ℕ) → Reached (handedLines b term sink froms tos classes customers watts .book)
-unfolding handedLines refusedWith
-lines-reached b r term sink froms tos classes customers watts = go (sameCounts froms tos classes customers watts)
-  where
-    go : (even : Bool) → Reached (cond even (handed b (migrate term sink (classLinesOf froms tos classes customers watts))) (refusedWith b 1) .book)
-    go true = handed-reached b r (migrate term sink (classLinesOf froms tos classes customers watts))
-    go false = r

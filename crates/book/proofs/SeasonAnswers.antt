@@ -25,7 +25,7 @@ answer-back (ledger.refused number) = refl
 
 module _ (o : Opening) (e : legal o ≡ true) where
   pub answers-from : (cs : List Call) (asks : List Ask) → map answerIn (answersOf (bookAt o e cs) asks) ≡ answers o (after o cs) asks
-  unfolding answersOf answers stepAsk map
+  unfolding answersOf answers stepAsk
   answers-from cs [] = refl
   answers-from cs (call c ∷ asks) =
       ap₂ _∷_ (ap answerIn (at-answer o e cs c) ∙ answer-back (ledger.answer o (after o cs) (call c)))
@@ -51,12 +51,12 @@ module _ (o : Opening) (e : legal o ≡ true) where
   last-book asks = ap (λ b. bookAfter b asks) opened-at ∙ books-from [] asks
 
   legal-answered : (asks : List Ask) → map answerIn (seasonAnswers o asks) ≡ season o asks
-  unfolding seasonAnswers season openedAs map answerIn after afterFrom
+  unfolding seasonAnswers season openedAs answerIn after afterFrom
   legal-answered asks = rw e (ap (λ l. ledger.done ∷ l) (answers-from [] asks))
 
 -- an opening that is not legal is refused, and nothing follows
 refused-answered : (o : Opening) → legal o ≡ false → (asks : List Ask) → map answerIn (seasonAnswers o asks) ≡ season o asks
-unfolding seasonAnswers season openedAs map answerIn
+unfolding seasonAnswers season openedAs answerIn
 refused-answered o e asks = rw e
 
 pub season-answered : (o : Opening) (asks : List Ask) → map answerIn (seasonAnswers o asks) ≡ season o asks

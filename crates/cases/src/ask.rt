@@ -1,0 +1,146 @@
+// Each call put to a book, its answer written, and the next book handed on. So every book here is one that opening or a call handed back.
+use crate::write::answer;
+use book::book::Answered;
+use book::book::Book;
+use book::opening::open_book;
+ghost use Rattle.book.specs.Reached.{Reached};
+
+// The answer written, and the book to go on with.
+fn told(answered: Answered) -> Book
+    requires { ⌜ Reached (answered .book) ⌝ }
+    ensures { λ r. ⌜ Reached r ⌝ }
+{
+    let said = answered.answer;
+    answer(said);
+    answered.book
+}
+
+// A book with holders of these kinds, one sink, and a path to it from each of so many sources.
+pub fn open(kinds: &[u64], sink_kind: u64, path_sources: &[u64], path_sinks: &[u64]) -> Book
+    ensures { λ r. ⌜ Reached r ⌝ }
+{
+    let sink_kinds = [sink_kind];
+    let sink_parents = [0u64];
+    let holders = kinds.len() as u64;
+    let paths = path_sources.len() as u64;
+    told(open_book(
+        holders,
+        paths,
+        1,
+        paths,
+        kinds,
+        &sink_kinds,
+        &sink_parents,
+        path_sources,
+        path_sinks,
+    ))
+}
+
+pub fn load(
+    b: Book,
+    h: u64,
+    s: u64,
+    term: u64,
+    contract: u64,
+    n: u64,
+    firsts: &[u64],
+    hours: &[u64],
+    kws: &[u64],
+) -> Book
+    requires { ⌜ Reached b ⌝ }
+    ensures { λ r. ⌜ Reached r ⌝ }
+{
+    told(b.load(h, s, term, contract, n, firsts, hours, kws))
+}
+
+pub fn carry(b: Book, h: u64, p: u64, kw: u64) -> Book
+    requires { ⌜ Reached b ⌝ }
+    ensures { λ r. ⌜ Reached r ⌝ }
+{
+    told(b.carry(h, p, kw))
+}
+
+pub fn prior(b: Book, h: u64, p: u64, allocated: u64, long_term: u64) -> Book
+    requires { ⌜ Reached b ⌝ }
+    ensures { λ r. ⌜ Reached r ⌝ }
+{
+    told(b.prior(h, p, allocated, long_term))
+}
+
+pub fn verify(
+    b: Book,
+    h: u64,
+    s: u64,
+    kind: u64,
+    capacity: u64,
+    right: u64,
+    first: u64,
+    last: u64,
+) -> Book
+    requires { ⌜ Reached b ⌝ }
+    ensures { λ r. ⌜ Reached r ⌝ }
+{
+    told(b.verify(h, s, kind, capacity, right, first, last))
+}
+
+pub fn migrate(
+    b: Book,
+    term: u64,
+    sink: u64,
+    froms: &[u64],
+    tos: &[u64],
+    classes: &[u64],
+    customers: &[u64],
+    watts: &[u64],
+) -> Book
+    requires { ⌜ Reached b ⌝ }
+    ensures { λ r. ⌜ Reached r ⌝ }
+{
+    told(b.migrate(term, sink, froms, tos, classes, customers, watts))
+}
+
+pub fn open_tier(b: Book, tier: u64) -> Book
+    requires { ⌜ Reached b ⌝ }
+    ensures { λ r. ⌜ Reached r ⌝ }
+{
+    told(b.open_tier(tier))
+}
+
+pub fn nominate(b: Book, h: u64, p: u64, kw: u64) -> Book
+    requires { ⌜ Reached b ⌝ }
+    ensures { λ r. ⌜ Reached r ⌝ }
+{
+    told(b.nominate(h, p, kw))
+}
+
+pub fn award(b: Book, h: u64, p: u64, kw: u64) -> Book
+    requires { ⌜ Reached b ⌝ }
+    ensures { λ r. ⌜ Reached r ⌝ }
+{
+    told(b.award(h, p, kw))
+}
+
+pub fn close_tier(b: Book) -> Book
+    requires { ⌜ Reached b ⌝ }
+    ensures { λ r. ⌜ Reached r ⌝ }
+{
+    told(b.close_tier())
+}
+
+pub fn limit(b: Book, h: u64, s: u64)
+    requires { ⌜ Reached b ⌝ }
+{
+    answer(b.limit(h, s));
+}
+
+pub fn held(b: Book, h: u64, p: u64, month: u64)
+    requires { ⌜ Reached b ⌝ }
+{
+    answer(b.held(h, p, month));
+}
+
+pub fn net(b: Book, p: u64, month: u64)
+    requires { ⌜ Reached b ⌝ }
+{
+    answer(b.net(p, month));
+}
