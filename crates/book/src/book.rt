@@ -34,8 +34,6 @@ pub struct Answered {
 pub fn refused(b: Book, number: u64) -> Answered
     ensures { λ r. ⌜ r ≡ refusedWith b number ⌝ }
 {
-    Answered {
-        answer: Answer::Refused(number),
-        book: b,
-    }
+    let answer = Answer::Refused(number);
+    Answered { answer, book: b }
 }
