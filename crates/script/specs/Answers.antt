@@ -1,0 +1,49 @@
+-- What a script is answered, and the bytes of an answer (01, Script and host).
+use Prim.Native.Nat.{ℕ, zero, suc, _+_, _/_, _%_}
+use mathlib.Core.Bool.{cond}
+use mathlib.Core.List.{List, [], _∷_, _++_}
+use lib.Dec.{ltb}
+use Rattle.ledger.specs.Opening.{Opening, legal, openingRefusal}
+use Rattle.ledger.specs.Ledger.{Ledger, emptyLedger}
+use Rattle.ledger.specs.Season.{Answer, done, value, refused, answer, stepAsk}
+use Rattle.script.specs.declared.rows.Row.{Row}
+use Rattle.script.specs.Text.{bytesOf, lineFeed}
+use Rattle.script.specs.Groups.{Asked, nothing, asked, groupsOf, bookReadable, openingOfRows, callRows}
+
+-- a group with an unreadable or absent line gets one 1 and is passed over
+unfoldable pub answersTo : Opening → Ledger → List Asked → List Answer
+answersTo o L [] = []
+answersTo o L (nothing ∷ groups) = refused 1 ∷ answersTo o L groups
+answersTo o L (asked a ∷ groups) = answer o L a ∷ answersTo o (stepAsk o L a) groups
+
+-- after a refused book group the run stops
+unfoldable pub answersAfter : Opening → List Row → List Answer
+answersAfter o rows = cond (legal o) (done ∷ answersTo o emptyLedger (groupsOf rows)) (refused (openingRefusal o) ∷ [])
+
+-- a first line other than a readable book head is refused as a book group, with 1
+unfoldable pub scriptAnswers : List Row → List Answer
+scriptAnswers [] = []
+scriptAnswers (head ∷ rows) = cond (bookReadable head rows) (answersAfter (openingOfRows head rows) (callRows head rows)) (refused 1 ∷ [])
+
+-- the byte of a digit
+unfoldable pub digit : ℕ → ℕ
+digit d = 48 + d
+
+-- the decimal digits of a number that has at most so many
+unfoldable pub digitsOf : ℕ → ℕ → List ℕ
+digitsOf zero v = []
+digitsOf (suc most) v = cond (ltb v 10) (digit v ∷ []) (digitsOf most (v / 10) ++ (digit (v % 10) ∷ []))
+
+-- a number of 64 bits has at most 20
+unfoldable pub decimal : ℕ → List ℕ
+decimal v = digitsOf 20 v
+
+-- ok, ok,V or no,NN; a refusal's number has two digits
+unfoldable pub textOf : Answer → List ℕ
+textOf done = bytesOf "ok" ++ (lineFeed ∷ [])
+textOf (value v) = bytesOf "ok," ++ decimal v ++ (lineFeed ∷ [])
+textOf (refused number) = bytesOf "no," ++ (digit (number / 10 % 10) ∷ digit (number % 10) ∷ lineFeed ∷ [])
+
+unfoldable pub textsOf : List Answer → List ℕ
+textsOf [] = []
+textsOf (a ∷ answers) = textOf a ++ textsOf answers

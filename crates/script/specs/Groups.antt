@@ -1,0 +1,116 @@
+-- Groups: a head and the lines that it counts, and what they ask of the book (01, Script and host).
+use Prim.Native.Nat.{ℕ, zero, suc, _+_}
+use mathlib.Core.Bool.{Bool, true, cond, _&&_}
+use mathlib.Core.List.{List, [], _∷_, map}
+use lib.ListN.{length, getD, take, drop}
+use lib.Dec.{eqb}
+use Rattle.tariff.specs.declared.migration.ClassLine.{ClassLine}
+use Rattle.tariff.specs.Load.{Block}
+use Rattle.ledger.specs.Opening.{Opening}
+use Rattle.ledger.specs.Call.{load, carry, prior, verify, migrate, openTier, nominate, award, closeTier, limitOf, heldOn, netOn}
+use Rattle.ledger.specs.Season.{Ask, call, query}
+use Rattle.script.specs.declared.rows.Row.{Row}
+use Rattle.script.specs.Rows.{bookLine, holderLine, sinkLine, pathLine, loadLine, blockLine, carryLine, priorLine, verifyLine, migrateLine, classLine, openLine, nominateLine, awardLine, closeLine, limitLine, heldLine, netLine}
+
+-- a number of a row, counted from 0
+unfoldable pub field : ℕ → Row → ℕ
+field k r = getD (r .fields) k 0
+
+-- as many lines as were counted, all of one kind
+unfoldable pub allOfKind : ℕ → List Row → Bool
+allOfKind kind [] = true
+allOfKind kind (r ∷ rows) = eqb (r .kind) kind && allOfKind kind rows
+
+unfoldable pub counted : ℕ → ℕ → List Row → Bool
+counted kind n lines = eqb (length lines) n && allOfKind kind lines
+
+unfoldable pub blockOf : Row → Block
+blockOf r = record { first = field 0 r; hours = field 1 r; kw = field 2 r }
+
+unfoldable pub classLineOf : Row → ClassLine
+classLineOf r = record { from = field 0 r; to = field 1 r; class = field 2 r; customers = field 3 r; watts = field 4 r }
+
+-- what a group asks: a call or a query, or nothing where a line of it is unreadable or absent
+pub data Asked : Type 0 where
+  nothing : Asked
+  asked : Ask → Asked
+
+-- for a kind of head, what it asks
+pub data Entry : Type 0 where
+  entry : ℕ → Asked → Entry
+
+-- a kind that is not listed asks nothing: a second book, or a line that no head counts
+unfoldable pub lookUp : ℕ → List Entry → Asked
+lookUp kind [] = nothing
+lookUp kind (entry known what ∷ later) = cond (eqb kind known) what (lookUp kind later)
+
+-- load and migrate end in a count of the lines that follow
+unfoldable pub linesCounted : Row → ℕ
+linesCounted r = cond (eqb (r .kind) loadLine) (field 5 r) (cond (eqb (r .kind) migrateLine) (field 2 r) 0)
+
+unfoldable pub whole : Bool → Ask → Asked
+whole isWhole ask = cond isWhole (asked ask) nothing
+
+-- what a head asks with the lines that belong to it
+unfoldable pub asksOf : Row → List Row → Asked
+asksOf r lines =
+    lookUp (r .kind)
+    (entry loadLine (whole (counted blockLine (field 5 r) lines) (call (load (field 0 r) (field 1 r) (field 2 r) (field 3 r) (field 4 r) (map blockOf lines))))
+    ∷ entry carryLine (asked (call (carry (field 0 r) (field 1 r) (field 2 r))))
+    ∷ entry priorLine (asked (call (prior (field 0 r) (field 1 r) (field 2 r) (field 3 r))))
+    ∷ entry verifyLine (asked (call (verify (field 0 r) (field 1 r) (field 2 r) (field 3 r) (field 4 r) (field 5 r) (field 6 r))))
+    ∷ entry migrateLine (whole (counted classLine (field 2 r) lines) (call (migrate (field 0 r) (field 1 r) (map classLineOf lines))))
+    ∷ entry openLine (asked (call (openTier (field 0 r))))
+    ∷ entry nominateLine (asked (call (nominate (field 0 r) (field 1 r) (field 2 r))))
+    ∷ entry awardLine (asked (call (award (field 0 r) (field 1 r) (field 2 r))))
+    ∷ entry closeLine (asked (call closeTier))
+    ∷ entry limitLine (asked (query (limitOf (field 0 r) (field 1 r))))
+    ∷ entry heldLine (asked (query (heldOn (field 0 r) (field 1 r) (field 2 r))))
+    ∷ entry netLine (asked (query (netOn (field 0 r) (field 1 r))))
+    ∷ [])
+
+-- the groups of rows, at most so many: a head and the lines that it counts, or all lines left if fewer
+unfoldable pub groupsFrom : ℕ → List Row → List Asked
+groupsFrom zero rows = []
+groupsFrom (suc most) [] = []
+groupsFrom (suc most) (r ∷ rows) = asksOf r (take (linesCounted r) rows) ∷ groupsFrom most (drop (linesCounted r) rows)
+
+-- there are no more groups than rows
+unfoldable pub groupsOf : List Row → List Asked
+groupsOf rows = groupsFrom (length rows) rows
+
+-- the book group: a head, then as many holder, sink and path lines as it counts, in that order
+module _ (head : Row) (rows : List Row) where
+  unfoldable pub holderRows : List Row
+  holderRows = take (field 0 head) rows
+
+  unfoldable pub sinkRows : List Row
+  sinkRows = take (field 2 head) (drop (field 0 head) rows)
+
+  unfoldable pub pathRows : List Row
+  pathRows = take (field 3 head) (drop (field 0 head + field 2 head) rows)
+
+  unfoldable pub bookReadable : Bool
+  bookReadable =
+      eqb (head .kind) bookLine
+      && counted holderLine (field 0 head) holderRows
+      && counted sinkLine (field 2 head) sinkRows
+      && counted pathLine (field 3 head) pathRows
+
+  unfoldable pub openingOfRows : Opening
+  openingOfRows =
+      record {
+        holders = field 0 head;
+        sources = field 1 head;
+        sinks = field 2 head;
+        paths = field 3 head;
+        holderKinds = map (field 0) holderRows;
+        sinkKinds = map (field 0) sinkRows;
+        sinkParents = map (field 1) sinkRows;
+        pathSources = map (field 0) pathRows;
+        pathSinks = map (field 1) pathRows;
+      }
+
+  -- the rows after the book group
+  unfoldable pub callRows : List Row
+  callRows = drop (field 0 head + field 2 head + field 3 head) rows

@@ -1,0 +1,6 @@
+-- The script's format: bytes, lines, groups, answers, and a run over them.
+pub mod Text
+pub mod Rows
+pub mod Groups
+pub mod Answers
+pub mod Run

@@ -1,0 +1,33 @@
+-- A run over lent bytes: the number that the host gets, and the output buffer (01, Script and host).
+use Prim.Native.Nat.{ℕ, _*_}
+use mathlib.Core.Bool.{Bool, cond, _||_}
+use mathlib.Core.List.{List, [], _++_}
+use lib.ListN.{length, drop}
+use lib.Dec.{ltb}
+use Rattle.script.specs.Text.{linesOf}
+use Rattle.script.specs.Rows.{rowsOf}
+use Rattle.script.specs.Answers.{scriptAnswers, textsOf}
+
+-- over 65,536 bytes or 4,096 lines is 1
+unfoldable pub tooLong : List ℕ → Bool
+tooLong script = ltb 65536 (length script) || ltb 4096 (length (linesOf script))
+
+-- then output under 16 bytes a line is 15
+unfoldable pub tooShort : List ℕ → List ℕ → Bool
+tooShort script out = ltb (length out) (16 * length (linesOf script))
+
+-- the answers' bytes
+unfoldable pub answersText : List ℕ → List ℕ
+answersText script = textsOf (scriptAnswers (rowsOf script))
+
+-- what is written: nothing where the script or the buffer is refused
+unfoldable pub written : List ℕ → List ℕ → List ℕ
+written script out = cond (tooLong script) [] (cond (tooShort script out) [] (answersText script))
+
+-- the refusal, 0 for a run, times 1,000,000, and the written length
+unfoldable pub runNumber : List ℕ → List ℕ → ℕ
+runNumber script out = cond (tooLong script) 1000000 (cond (tooShort script out) 15000000 (length (answersText script)))
+
+-- bytes beyond the written length stay
+unfoldable pub outputAfter : List ℕ → List ℕ → List ℕ
+outputAfter script out = written script out ++ drop (length (written script out)) out

@@ -1,0 +1,3 @@
+// Scripts: the calls and queries of a season as lines of text, and the answers to them.
+
+pub mod rows;
