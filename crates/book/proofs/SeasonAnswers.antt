@@ -17,7 +17,7 @@ use Rattle.book.specs.SeasonTheorem.{callsOf, bookAfter, answersOf, seas
 use Rattle.book.proofs.ReachedSteps.{bookAt, at-answer, at-told, at-next}
 
 -- an answer read back is the ledger's
-answer-back : (a : ledger.Answer) → answerIn (answerOf a) ≡ a
+pub answer-back : (a : ledger.Answer) → answerIn (answerOf a) ≡ a
 unfolding answerIn answerOf
 answer-back ledger.done = refl
 answer-back (ledger.value v) = refl

@@ -1,1 +1,4 @@
 pub mod CaseOne
+pub mod GroupLaws
+pub mod PlayedLaws
+pub mod HeadLaws

@@ -4,3 +4,5 @@ pub mod Rows
 pub mod Groups
 pub mod Answers
 pub mod Run
+pub mod Heads
+pub mod Played
