@@ -1,12 +1,12 @@
 -- Groups, one at a time. Assumes nothing.
-use Prim.Native.Nat.{ℕ, zero, suc, _+_, _-_, _≤_}
+use Prim.Native.Nat.{ℕ, zero, suc, _-_, _≤_}
 use mathlib.Core.Path.{_≡_, refl, ap}
 use mathlib.Core.List.{List, [], _∷_}
 use native.Mathlib.Nat.{le-trans}
 use native.Mathlib.Omega.{arith}
 use lib.ListN.{length, take, drop, length-drop}
 use Rattle.script.specs.declared.rows.Row.{Row}
-use Rattle.script.specs.Groups.{Asked, linesCounted, asksOf, groupsFrom, groupsOf}
+use Rattle.script.specs.Groups.{linesCounted, asksOf, groupsFrom, groupsOf}
 
 -- what is left after a drop is no longer than before
 drop-shorter : {A : Type 0} (n : ℕ) (xs : List A) → length (drop n xs) ≤ length xs

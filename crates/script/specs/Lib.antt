@@ -4,5 +4,9 @@ pub mod Rows
 pub mod Groups
 pub mod Answers
 pub mod Run
+pub mod Reading
+pub mod Counted
 pub mod Heads
 pub mod Played
+pub mod Writing
+pub mod Told

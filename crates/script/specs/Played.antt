@@ -1,5 +1,4 @@
 -- Groups put to a book: what each is answered, and the book that it hands on.
-use Prim.Native.Nat.{ℕ}
 use mathlib.Core.List.{List, [], _∷_}
 use Rattle.ledger.specs.Season.{call, query}
 use Rattle.book.specs.declared.book.Book.{Book}

@@ -1,0 +1,128 @@
+-- Every answer that the ledger or a book gives has its place in sixteen bytes: a refusal's number has two digits, a figure at most twelve. Assumes nothing.
+use Prim.Native.Nat.{ℕ, _*_, _≤_, _<_}
+use mathlib.Core.Path.{_≡_, refl, sym, ap, _∙_, subst}
+use mathlib.Core.Bool.{Bool, true, false, cond, _&&_}
+use mathlib.Core.List.{List, [], _∷_}
+use native.Mathlib.Nat.{le-trans}
+use native.Mathlib.Omega.{arith}
+use lib.Dec.{ltb, eqb}
+use borrow.Author.Tests.{ltb-true, eqb-true}
+use Rattle.tariff.proofs.Tests.{and-both}
+use Rattle.tariff.proofs.Limits.{limit-le-load}
+use Rattle.tariff.specs.Terms.{termOf}
+use Rattle.ledger.specs.Opening.{Opening, legal, base, openingRefusal}
+use Rattle.ledger.specs.Ledger.{Ledger}
+use Rattle.ledger.specs.Call.{Call, load, carry, prior, verify, migrate, openTier, nominate, award, closeTier, Query, limitOf, heldOn, netOn}
+use Rattle.ledger.specs.Numbers.{Cause, cause, firstMet}
+use Rattle.ledger.specs.Causes.{loadCauses, carryCauses, priorCauses, verifyCauses, migrateCauses, openCauses, nominateCauses, awardCauses, closeCauses, callCauses, refusal, limitCauses, heldCauses, netCauses, queryCauses, queryRefusal}
+use Rattle.ledger.specs.Limits.{limitSums, tierLimit}
+use Rattle.ledger.specs.Season.{Ask, call, query, done, value, refused, accepted, answer, after, held, net, figure}
+use Rattle.ledger.proofs.Bounds.{mostTogether, figures-fit, one-fits}
+use Rattle.ledger.proofs.Conserved.{loadSum}
+use Rattle.ledger.proofs.SumBounds.{net-fits}
+use Rattle.ledger.proofs.Unmet.{unmet, open-number}
+use Rattle.book.specs.declared.book.Book.{Book}
+use Rattle.book.specs.Handed.{answerIn, handed, told}
+use Rattle.book.specs.Reached.{Reached}
+use Rattle.book.proofs.HeldLaws.{held-names, net-names}
+use Rattle.book.proofs.LimitLaws.{limit-holder}
+use Rattle.book.proofs.ReachedSteps.{at-answer, at-told}
+use Rattle.book.proofs.SeasonAnswers.{answer-back}
+use Rattle.script.specs.Writing.{leastOfThirteenDigits, Writable}
+
+-- each cause of a list has a number of two digits
+unfoldable twoDigits : List Cause → Bool
+twoDigits [] = true
+twoDigits (cause number met ∷ later) = ltb number 100 && twoDigits later
+
+first-met : (causes : List Cause) → twoDigits causes ≡ true → firstMet causes < 100
+unfolding twoDigits firstMet
+first-met [] e = omega arith
+first-met (cause number met ∷ later) e =
+    let both = and-both (ltb number 100) (twoDigits later) e in
+    go met (ltb-true number 100 (both .0)) (first-met later (both .1))
+  where
+    go : (t : Bool) → number < 100 → firstMet later < 100 → firstMet (cause number t ∷ later) < 100
+    go true here there = here
+    go false here there = there
+
+call-numbers : (o : Opening) (L : Ledger) (c : Call) → twoDigits (callCauses o L c) ≡ true
+unfolding twoDigits callCauses loadCauses carryCauses priorCauses verifyCauses migrateCauses openCauses nominateCauses awardCauses closeCauses
+call-numbers o L (load h s term contract n blocks) = refl
+call-numbers o L (carry h p kw) = refl
+call-numbers o L (prior h p a l) = refl
+call-numbers o L (verify h s kind capacity right first last) = refl
+call-numbers o L (migrate term sink lines) = refl
+call-numbers o L (openTier tier) = refl
+call-numbers o L (nominate h p kw) = refl
+call-numbers o L (award h p kw) = refl
+call-numbers o L closeTier = refl
+
+query-numbers : (o : Opening) (L : Ledger) (q : Query) → twoDigits (queryCauses o L q) ≡ true
+unfolding twoDigits queryCauses limitCauses heldCauses netCauses
+query-numbers o L (limitOf h s) = refl
+query-numbers o L (heldOn h p m) = refl
+query-numbers o L (netOn p m) = refl
+
+pub refusal-small : (o : Opening) (L : Ledger) (c : Call) → refusal o L c < 100
+unfolding refusal
+refusal-small o L c = first-met (callCauses o L c) (call-numbers o L c)
+
+pub query-refusal-small : (o : Opening) (L : Ledger) (q : Query) → queryRefusal o L q < 100
+unfolding queryRefusal
+query-refusal-small o L q = first-met (queryCauses o L q) (query-numbers o L q)
+
+pub opening-refusal-small : (o : Opening) → openingRefusal o < 100
+unfolding openingRefusal
+opening-refusal-small o = go (legal o)
+  where
+    go : (t : Bool) → cond t 0 16 < 100
+    go true = omega arith
+    go false = omega arith
+
+module _ (o : Opening) (ok : legal o ≡ true) (cs : List Call) where
+  -- a limit is at most the load of one holder
+  limit-small : (h s : ℕ) → queryRefusal o (after o cs) (limitOf h s) ≡ 0 → tierLimit o (after o cs) (after o cs .tiers .openNow) h (base o s) ≤ mostTogether
+  unfolding tierLimit limitSums queryRefusal queryCauses limitCauses loadSum
+  limit-small h s e =
+      let L = after o cs in
+      let tier = L .tiers .openNow in
+      le-trans (limit-le-load tier (limitSums o L tier h (base o s)) (open-number L (unmet 3 _ _ (unmet 1 _ _ e .1) .0)))
+      (one-fits (λ i. L .loads .kw i (base o s) (termOf tier)) (o .holders) mostTogether h (limit-holder o L h s e) (figures-fit o ok cs .loadsFit (base o s) (termOf tier)))
+
+  -- a holding is one of those that a net sums
+  held-small : (h p m : ℕ) → (h < o .holders) × (p < o .paths) → held (after o cs) h p m ≤ 11 * mostTogether
+  unfolding net
+  held-small h p m known = one-fits (λ i. held (after o cs) i p m) (o .holders) (11 * mostTogether) h (known .0) (net-fits o ok cs p m (known .1))
+
+  figure-small : (q : Query) → queryRefusal o (after o cs) q ≡ 0 → figure o (after o cs) q < leastOfThirteenDigits
+  unfolding figure
+  figure-small (limitOf h s) e = let most = limit-small h s e in omega arith
+  figure-small (heldOn h p m) e = let most = held-small h p m (held-names o (after o cs) h p m e) in omega arith
+  figure-small (netOn p m) e = let most = net-fits o ok cs p m (net-names o (after o cs) p m e) in omega arith
+
+  -- whatever is asked of a ledger that calls lead to
+  pub answer-writable : (a : Ask) → Writable (answer o (after o cs) a)
+  unfolding Writable answer
+  answer-writable (call c) = go (accepted o (after o cs) c)
+    where
+      go : (t : Bool) → Writable (cond t done (refused (refusal o (after o cs) c)))
+      go true = tt
+      go false = refusal-small o (after o cs) c
+  answer-writable (query q) = go (eqb (queryRefusal o (after o cs) q) 0) refl
+    where
+      go : (t : Bool) → eqb (queryRefusal o (after o cs) q) 0 ≡ t → Writable (cond t (value (figure o (after o cs) q)) (refused (queryRefusal o (after o cs) q)))
+      go true e = figure-small q (eqb-true (queryRefusal o (after o cs) q) 0 e)
+      go false e = query-refusal-small o (after o cs) q
+
+-- and of a book that opening or a call handed back
+module _ (b : Book) (r : Reached b) where
+  pub handed-writable : (c : Call) → Writable (answerIn (handed b c .answer))
+  handed-writable c =
+      subst Writable (sym (ap (λ x. answerIn (handed x c .answer)) (r .isBook) ∙ ap answerIn (at-answer (r .opening) (r .isLegal) (r .calls) c) ∙ answer-back _))
+      (answer-writable (r .opening) (r .isLegal) (r .calls) (call c))
+
+  pub told-writable : (q : Query) → Writable (answerIn (told b q))
+  told-writable q =
+      subst Writable (sym (ap (λ x. answerIn (told x q)) (r .isBook) ∙ ap answerIn (at-told (r .opening) (r .isLegal) (r .calls) q) ∙ answer-back _))
+      (answer-writable (r .opening) (r .isLegal) (r .calls) (query q))

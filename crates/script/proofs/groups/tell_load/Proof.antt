@@ -1,0 +1,160 @@
+-- `script::groups::tell_load` meets its contract: the lines are read, and the load put to the book if they are whole. Assumes nothing.
+use mathlib.Core.Path.{sym, _∙_}
+use native.Mathlib.Nat.{le-trans, le-of-eq}
+use borrow.Author.Tests.{not-true, not-false}
+use Rattle.script.specs.Groups.{field}
+use Rattle.script.proofs.ToldLaws.{kept-size, count-few, part-is, part-long, load-broken, load-told}
+use borrow.Author.Needs.{needs}
+use Rattle.script.proofs.groups.tell_load.Statement.{statement}
+use Rattle.script.proofs.groups.tell_load.Tie as tie
+
+array-read-count : tie.Need-array-read-count
+array-read-count c = search needs
+
+read-counted-requires : tie.Need-read-counted-requires
+read-counted-requires c κs = search needs
+
+same-length : tie.Need-same-length
+same-length c = search needs
+
+same-length-2 : tie.Need-same-length-2
+same-length-2 c = search needs
+
+same-length-3 : tie.Need-same-length-3
+same-length-3 c = search needs
+
+same-length-4 : tie.Need-same-length-4
+same-length-4 c = search needs
+
+same-length-5 : tie.Need-same-length-5
+same-length-5 c = search needs
+
+returns : tie.Need-returns
+unfolding field
+returns c =
+    let s = c .before .before .before .before .before .before .before .before .before .before .before .before .before .before .before .before .before .before .before .before .before .before .before .before .before in
+    let r = c .before .before .before .before .before .before .before .before .before .before .before .before .read-counted .ensures in
+    (load-broken _ _ _ (s .pre .0 .1) _ (r .0) (not-true _ (c .if1 .taken)), kept-size 0 _ _ _ _ (s .pre .1) (s .pre .2) (r .1), kept-size 1 _ _ _ _ (s .pre .1) (s .pre .3) (r .2), kept-size 2 _ _ _ _ (s .pre .1) (s .pre .4) (r .3), kept-size 3 _ _ _ _ (s .pre .1) (s .pre .5) (r .4), kept-size 4 _ _ _ _ (s .pre .1) (s .pre .6) (r .5))
+
+array-read-load : tie.Need-array-read-load
+array-read-load c = search needs
+
+array-read-load-2 : tie.Need-array-read-load-2
+array-read-load-2 c = search needs
+
+array-read-load-3 : tie.Need-array-read-load-3
+array-read-load-3 c = search needs
+
+array-read-load-4 : tie.Need-array-read-load-4
+array-read-load-4 c = search needs
+
+array-read-load-5 : tie.Need-array-read-load-5
+array-read-load-5 c = search needs
+
+slice-reshare-prefix-load : tie.Need-slice-reshare-prefix-load
+unfolding field
+slice-reshare-prefix-load c =
+    let s = c .before .before .before .before .before .before .before .before .before .before .before .before .before .before .before .before .before .before .before .before .before .before .before .before .before in
+    let r = c .before .before .before .before .before .before .before .before .before .before .before .before .read-counted .ensures in
+    let all = not-false _ (c .if1 .left) in
+    le-trans (count-few _ _ _ _ (r .0) all (s .pre .1)) (le-of-eq (sym (kept-size 0 _ _ _ _ (s .pre .1) (s .pre .2) (r .1))))
+
+slice-aggregate-load : tie.Need-slice-aggregate-load
+unfolding field
+slice-aggregate-load c =
+    let s = c .before .before .before .before .before .before .before .before .before .before .before .before .before .before .before .before .before .before .before .before .before .before .before .before .before .before in
+    let r = c .before .before .before .before .before .before .before .before .before .before .before .before .before .read-counted .ensures in
+    let all = not-false _ (c .before .if1 .left) in
+    part-long _ _ _ _ (r .0) all 0 _ _ (r .1)
+
+slice-reshare-prefix-load-2 : tie.Need-slice-reshare-prefix-load-2
+unfolding field
+slice-reshare-prefix-load-2 c =
+    let s = c .before .before .before .before .before .before .before .before .before .before .before .before .before .before .before .before .before .before .before .before .before .before .before .before .before .before in
+    let r = c .before .before .before .before .before .before .before .before .before .before .before .before .before .read-counted .ensures in
+    let all = not-false _ (c .before .if1 .left) in
+    le-trans (count-few _ _ _ _ (r .0) all (s .pre .1)) (le-of-eq (sym (kept-size 1 _ _ _ _ (s .pre .1) (s .pre .3) (r .2))))
+
+slice-aggregate-load-2 : tie.Need-slice-aggregate-load-2
+unfolding field
+slice-aggregate-load-2 c =
+    let s = c .before .before .before .before .before .before .before .before .before .before .before .before .before .before .before .before .before .before .before .before .before .before .before .before .before .before .before in
+    let r = c .before .before .before .before .before .before .before .before .before .before .before .before .before .before .read-counted .ensures in
+    let all = not-false _ (c .before .before .if1 .left) in
+    part-long _ _ _ _ (r .0) all 1 _ _ (r .2)
+
+slice-reshare-prefix-load-3 : tie.Need-slice-reshare-prefix-load-3
+unfolding field
+slice-reshare-prefix-load-3 c =
+    let s = c .before .before .before .before .before .before .before .before .before .before .before .before .before .before .before .before .before .before .before .before .before .before .before .before .before .before .before in
+    let r = c .before .before .before .before .before .before .before .before .before .before .before .before .before .before .read-counted .ensures in
+    let all = not-false _ (c .before .before .if1 .left) in
+    le-trans (count-few _ _ _ _ (r .0) all (s .pre .1)) (le-of-eq (sym (kept-size 2 _ _ _ _ (s .pre .1) (s .pre .4) (r .3))))
+
+slice-aggregate-load-3 : tie.Need-slice-aggregate-load-3
+unfolding field
+slice-aggregate-load-3 c =
+    let s = c .before .before .before .before .before .before .before .before .before .before .before .before .before .before .before .before .before .before .before .before .before .before .before .before .before .before .before .before in
+    let r = c .before .before .before .before .before .before .before .before .before .before .before .before .before .before .before .read-counted .ensures in
+    let all = not-false _ (c .before .before .before .if1 .left) in
+    part-long _ _ _ _ (r .0) all 2 _ _ (r .3)
+
+load-requires : tie.Need-load-requires
+load-requires c κs = search needs
+
+same-length-6 : tie.Need-same-length-6
+same-length-6 c =
+    let s = c .before .before .before .before .before .before .before .before .before .before .before .before .before .before .before .before .before .before .before .before .before .before .before .before .before .before .before .before .before .before in
+    let r = c .before .before .before .before .before .before .before .before .before .before .before .before .before .before .before .before .before .read-counted .ensures in
+    kept-size 0 _ _ _ _ (s .pre .1) (s .pre .2) (r .1) ∙ sym (s .pre .2)
+
+same-length-7 : tie.Need-same-length-7
+same-length-7 c = search needs
+
+same-length-8 : tie.Need-same-length-8
+same-length-8 c = search needs
+
+same-length-9 : tie.Need-same-length-9
+same-length-9 c = search needs
+
+same-length-10 : tie.Need-same-length-10
+same-length-10 c = search needs
+
+returns-2 : tie.Need-returns-2
+unfolding field
+returns-2 c =
+    let s = c .before .before .before .before .before .before .before .before .before .before .before .before .before .before .before .before .before .before .before .before .before .before .before .before .before .before .before .before .before .before in
+    let r = c .before .before .before .before .before .before .before .before .before .before .before .before .before .before .before .before .before .read-counted .ensures in
+    let all = not-false _ (c .before .before .before .before .before .if1 .left) in
+    (load-told _ _ _ (s .pre .0 .1) _ (r .0) all _ _ _ _ (c .before .load .ensures) (part-is _ _ _ _ (r .0) all 0 _ _ (r .1)) (part-is _ _ _ _ (r .0) all 1 _ _ (r .2)) (part-is _ _ _ _ (r .0) all 2 _ _ (r .3)), kept-size 0 _ _ _ _ (s .pre .1) (s .pre .2) (r .1), kept-size 1 _ _ _ _ (s .pre .1) (s .pre .3) (r .2), kept-size 2 _ _ _ _ (s .pre .1) (s .pre .4) (r .3), kept-size 3 _ _ _ _ (s .pre .1) (s .pre .5) (r .4), kept-size 4 _ _ _ _ (s .pre .1) (s .pre .6) (r .5))
+
+pub tell-load-spec : {M : Type 1} → statement M
+tell-load-spec =
+    tie.close
+    (tie.spec
+    array-read-count
+    read-counted-requires
+    same-length
+    same-length-2
+    same-length-3
+    same-length-4
+    same-length-5
+    returns
+    array-read-load
+    array-read-load-2
+    array-read-load-3
+    array-read-load-4
+    array-read-load-5
+    slice-reshare-prefix-load
+    slice-aggregate-load
+    slice-reshare-prefix-load-2
+    slice-aggregate-load-2
+    slice-reshare-prefix-load-3
+    slice-aggregate-load-3
+    load-requires
+    same-length-6
+    same-length-7
+    same-length-8
+    same-length-9
+    same-length-10
+    returns-2)

@@ -1,0 +1,13 @@
+-- `script::rows::no_fields` meets its contract. Assumes nothing.
+use Rattle.tariff.specs.Sum.{listTo}
+use Rattle.script.specs.Reading.{noFields}
+use borrow.Author.Needs.{needs}
+use Rattle.script.proofs.rows.no_fields.Statement.{statement}
+use Rattle.script.proofs.rows.no_fields.Tie as tie
+
+returns : tie.Need-returns
+unfolding noFields listTo
+returns c = search needs
+
+pub no-fields-spec : {M : Type 1} → statement M
+no-fields-spec = tie.close (tie.spec returns)

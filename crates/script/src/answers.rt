@@ -1,0 +1,45 @@
+// The line of an answer: ok, ok,V or no,NN (01, Script and host).
+use crate::digits::digit_byte;
+use crate::digits::write_decimal;
+use crate::output::write_bytes;
+use book::book::Answer;
+ghost use Prim.Native.Nat.{_+_, _≤_, _<_};
+ghost use mathlib.Core.Path.{_≡_};
+ghost use lib.ListN.{length};
+ghost use Rattle.ledger.specs.Season.{value, refused};
+ghost use Rattle.book.specs.Handed.{answerIn};
+ghost use Rattle.script.specs.Answers.{textOf};
+ghost use Rattle.script.specs.Writing.{leastOfThirteenDigits, writtenAt, Writable};
+
+// Writes `ok,` and a value.
+fn write_value(out: &mut [u8], at: usize, v: u64) -> usize
+    requires { ⌜ (at + 16 ≤ length (now out)) × (v < leastOfThirteenDigits) ⌝ }
+    ensures { λ r. ⌜ (r ≡ at + length (textOf (value v))) × (now (out .exit) ≡ writtenAt (now (out .entry)) at (textOf (value v))) ⌝ }
+{
+    let digits_at = write_bytes(out, at, b"ok,");
+    let end = write_decimal(out, digits_at, v);
+    write_bytes(out, end, b"\n")
+}
+
+// Writes `no,` and the two digits of a refusal's number.
+fn write_refusal(out: &mut [u8], at: usize, number: u64) -> usize
+    requires { ⌜ (at + 16 ≤ length (now out)) × (number < 100) ⌝ }
+    ensures { λ r. ⌜ (r ≡ at + length (textOf (refused number))) × (now (out .exit) ≡ writtenAt (now (out .entry)) at (textOf (refused number))) ⌝ }
+{
+    let tens = digit_byte(number / 10 % 10);
+    let ones = digit_byte(number % 10);
+    let line = [b'n', b'o', b',', tens, ones, b'\n'];
+    write_bytes(out, at, &line)
+}
+
+// Writes the line of an answer into the output at a place, and says where the next one goes.
+pub fn write_answer(out: &mut [u8], at: usize, answer: Answer) -> usize
+    requires { ⌜ (at + 16 ≤ length (now out)) × Writable (answerIn answer) ⌝ }
+    ensures { λ r. ⌜ (r ≡ at + length (textOf (answerIn answer))) × (now (out .exit) ≡ writtenAt (now (out .entry)) at (textOf (answerIn answer))) ⌝ }
+{
+    match answer {
+        Answer::Done => write_bytes(out, at, b"ok\n"),
+        Answer::Value(v) => write_value(out, at, v),
+        Answer::Refused(number) => write_refusal(out, at, number),
+    }
+}

@@ -1,0 +1,55 @@
+// Groups: a head with the lines that it counts, put to the book (01, Script and host).
+use crate::counted::read_counted;
+use crate::heads::ask_row;
+use crate::lines::next_row;
+use crate::rows::Row;
+use book::book::Answer;
+use book::book::Answered;
+use book::book::Book;
+use book::book::refused;
+ghost use mathlib.Core.Path.{_≡_};
+ghost use Prim.Native.Nat.{_≤_};
+ghost use lib.ListN.{length};
+ghost use Rattle.book.specs.Reached.{Reached};
+ghost use Rattle.script.specs.Rows.{rowsOf, loadLine};
+ghost use Rattle.script.specs.Told.{toldHead};
+
+// What a group is answered, the book that it hands on, and how many bytes it takes.
+pub struct Told {
+    pub answer: Answer,
+    pub book: Book,
+    pub used: usize,
+}
+
+// A load and the block lines that it counts, in slices of first hours, lengths and kW. The other two slices are room for what such lines lack.
+fn tell_load(
+    book: Book,
+    head: Row,
+    behind: &[u8],
+    a: &mut [u64],
+    b: &mut [u64],
+    c: &mut [u64],
+    d: &mut [u64],
+    e: &mut [u64],
+) -> Told
+    requires { ⌜ (Reached book × (head .kind ≡ loadLine)) × (length (rowsOf (now behind)) ≤ 4096) × (length (now a) ≡ 4096) × (length (now b) ≡ 4096) × (length (now c) ≡ 4096) × (length (now d) ≡ 4096) × (length (now e) ≡ 4096) ⌝ }
+    ensures { λ r. ⌜ (r ≡ toldHead book head (now (behind .entry))) × (length (now (a .exit)) ≡ 4096) × (length (now (b .exit)) ≡ 4096) × (length (now (c .exit)) ≡ 4096) × (length (now (d .exit)) ≡ 4096) × (length (now (e .exit)) ≡ 4096) ⌝ }
+{
+    let f = head.fields;
+    let count = f[5];
+    let read = read_counted(behind, 6, count, a, b, c, d, e);
+    let used = read.used;
+    if !read.whole {
+        let answer = Answer::Refused(1);
+        return Told { answer, book, used };
+    }
+    let n = count as usize;
+    let answered = book.load(f[0], f[1], f[2], f[3], f[4], &a[..n], &b[..n], &c[..n]);
+    let answer = answered.answer;
+    let next = answered.book;
+    Told {
+        answer,
+        book: next,
+        used,
+    }
+}
