@@ -4,6 +4,7 @@ use mathlib.Core.Path.{_≡_, refl, sym, ap, ap₂, _∙_, subst}
 use mathlib.Core.Bool.{Bool, true, false, cond}
 use mathlib.Core.List.{List, [], _∷_, map}
 use mathlib.Core.Logic.{⊎-elim}
+use native.Mathlib.Nat.{not-suc-le-zero}
 use native.Mathlib.Omega.{arith}
 use borrow.Author.Tests.{ltb-true, ltb-false}
 use lib.ListN.{length, getD, take, drop, length-map, List·getD-eq-default}
@@ -86,6 +87,11 @@ module _ (b : ℕ) (bytes : List ℕ) where
       go : FirstOf (b ∷ bytes) → firstBytes (linesOf (b ∷ bytes)) ≤ length (b ∷ bytes)
       go (with-end text e l) = subst (λ ls. firstBytes ls ≤ length (b ∷ bytes)) (sym e) l
       go (without l e) = subst (λ ls. firstBytes ls ≤ length (b ∷ bytes)) (sym e) (omega arith)
+
+-- the three of a script that is not at its end
+pub next-of : (rest : List ℕ) → 0 < length rest → (rowsOf rest ≡ nextRow rest .row ∷ rowsOf (drop (nextRow rest .used) rest)) × (1 ≤ nextRow rest .used) × (nextRow rest .used ≤ length rest)
+next-of [] l = absurd (not-suc-le-zero l)
+next-of (b ∷ bytes) l = (next-rows b bytes, next-some b bytes, next-fits b bytes)
 
 pub row-count : (script : List ℕ) → length (rowsOf script) ≡ length (linesOf script)
 unfolding rowsOf

@@ -1,31 +1,38 @@
 -- What a head and the lines it counts are told. Assumes nothing.
-use Prim.Native.Nat.{ℕ, _≤_}
+use Prim.Native.Nat.{ℕ, _+_, _-_, _≤_}
 use mathlib.Core.Path.{_≡_, sym, ap, _∙_}
 use mathlib.Core.Bool.{Bool, true, false, cond}
-use mathlib.Core.List.{List, map}
+use mathlib.Core.List.{List, [], map}
+use native.Mathlib.Nat.{le-trans, le-of-eq}
 use native.Mathlib.Omega.{arith}
 use lib.ListN.{length, take, drop, length-take, length-append, length-map, length-drop}
 use lib.Dec.{eqb}
-use borrow.Author.Tests.{eqb-true}
+use borrow.Author.Tests.{eqb-true, ne-eqb}
 use Rattle.tariff.proofs.Tests.{and-both}
 use Rattle.tariff.specs.Metered.{blocksOf}
-use Rattle.ledger.specs.Call.{load}
-use Rattle.ledger.specs.Season.{call}
+use Rattle.tariff.specs.Netting.{classLinesOf}
+use Rattle.ledger.specs.Call.{load, migrate}
+use Rattle.ledger.specs.Season.{Ask, call}
 use Rattle.book.specs.declared.book.Book.{Book}
 use Rattle.book.specs.declared.book.Answer.the-variants.{Refused}
 use Rattle.book.specs.declared.book.Answered.{Answered}
 use Rattle.book.specs.Handed.{refusedWith, handed}
 use Rattle.book.specs.Posting.{handedBlocks}
+use Rattle.book.specs.Lines.{handedLines}
 use Rattle.script.specs.declared.rows.Row.{Row}
 use Rattle.script.specs.declared.counted.Counted.{Counted}
 use Rattle.script.specs.declared.groups.Told.{Told}
-use Rattle.script.specs.Rows.{rowsOf, loadLine, blockLine}
-use Rattle.script.specs.Groups.{field, counted, allOfKind, blockOf, linesCounted, whole, asksOf}
+use Rattle.script.specs.declared.lines.NextRow.{NextRow}
+use Rattle.script.specs.Rows.{rowsOf, loadLine, migrateLine}
+use Rattle.script.specs.Groups.{field, counted, allOfKind, blockOf, classLineOf, asked, linesCounted, whole, asksOf}
+use Rattle.script.specs.Reading.{nextRow}
 use Rattle.script.specs.Counted.{bytesOfLines, rowsCounted, countedOf, withField}
 use Rattle.script.specs.Played.{answeredTo}
-use Rattle.script.specs.Told.{toldWith, toldHead}
-use Rattle.script.proofs.HeadLaws.{load-asks}
-use Rattle.script.proofs.RowLists.{fields-kept, blocks-of-rows, blocks-even}
+use Rattle.script.specs.Told.{toldWith, toldHead, groupAsked, groupBytes, toldFirst}
+use Rattle.script.proofs.FieldLaws.{rest-whole}
+use Rattle.script.proofs.RowSteps.{used-within}
+use Rattle.script.proofs.LineBytes.{bytes-within, rows-after}
+use Rattle.script.proofs.RowLists.{fields-kept, blocks-of-rows, blocks-even, class-lines-of-rows, class-lines-even}
 
 -- counted lines are at most those that are left
 rows-few : (n : ℕ) (s : List ℕ) → length (rowsCounted n s) ≤ length (rowsOf s)
@@ -71,36 +78,99 @@ module _ (kind n : ℕ) (s : List ℕ) (x : Counted) (read : x ≡ countedOf kin
     pub part-long : (j : ℕ) (numbers old : List ℕ) → old ≡ withField j rows numbers → n ≡ length (take n old)
     part-long j numbers old e = sym rows-many ∙ sym (length-map rows (field j)) ∙ sym (ap length (part-is j numbers old e))
 
--- a load with its lines
-module _ (b : Book) (head : Row) (s : List ℕ) (isLoad : head .kind ≡ loadLine) (x : Counted) (read : x ≡ countedOf blockLine (field 5 head) s) where
-  load-lines : linesCounted head ≡ field 5 head
-  unfolding linesCounted
-  load-lines = rw isLoad
-
-  load-head : toldWith b (asksOf head (rowsCounted (field 5 head) s)) (bytesOfLines (field 5 head) s) ≡ toldHead b head s
+-- a head that asks one thing if the lines it counts are whole
+module _ (b : Book) (head : Row) (s : List ℕ) (kind n : ℕ) (ask : Ask) (x : Counted) (read : x ≡ countedOf kind n s) (counts : linesCounted head ≡ n) (asks : asksOf head (rowsCounted n s) ≡ whole (counted kind n (rowsCounted n s)) ask) where
+  as-head : toldWith b (asksOf head (rowsCounted n s)) (bytesOfLines n s) ≡ toldHead b head s
   unfolding toldHead
-  load-head = ap (λ n. toldWith b (asksOf head (rowsCounted n s)) (bytesOfLines n s)) (sym load-lines)
+  as-head = ap (λ k. toldWith b (asksOf head (rowsCounted k s)) (bytesOfLines k s)) (sym counts)
 
-  load-what : (t : Bool) → x .whole ≡ t → asksOf head (rowsCounted (field 5 head) s) ≡ whole t (call (load (field 0 head) (field 1 head) (field 2 head) (field 3 head) (field 4 head) (map blockOf (rowsCounted (field 5 head) s))))
-  load-what t e = load-asks head (rowsCounted (field 5 head) s) isLoad ∙ ap (λ u. whole u (call (load (field 0 head) (field 1 head) (field 2 head) (field 3 head) (field 4 head) (map blockOf (rowsCounted (field 5 head) s))))) (sym (whole-is blockLine (field 5 head) s x read) ∙ e)
+  what : (t : Bool) → x .whole ≡ t → asksOf head (rowsCounted n s) ≡ whole t ask
+  what t e = asks ∙ ap (λ u. whole u ask) (sym (whole-is kind n s x read) ∙ e)
 
-  pub load-broken : x .whole ≡ false → _≡_ {A = Told} (record { answer = Refused 1; book = b; used = x .used }) (toldHead b head s)
+  -- lines that are not whole are unreadable, and the group is passed over
+  pub broken-told : x .whole ≡ false → _≡_ {A = Told} (record { answer = Refused 1; book = b; used = x .used }) (toldHead b head s)
   unfolding toldWith answeredTo whole refusedWith
-  load-broken e = (λ i. toldWith b (sym (load-what false e) i) (used-is blockLine (field 5 head) s x read i)) ∙ load-head
+  broken-told e = (λ i. toldWith b (sym (what false e) i) (used-is kind n s x read i)) ∙ as-head
 
-  pub load-told : x .whole ≡ true → (fs hs ks : List ℕ) (a : Answered) → a ≡ handedBlocks b (field 0 head) (field 1 head) (field 2 head) (field 3 head) (field 4 head) fs hs ks → fs ≡ map (field 0) (rowsCounted (field 5 head) s) → hs ≡ map (field 1) (rowsCounted (field 5 head) s) → ks ≡ map (field 2) (rowsCounted (field 5 head) s) → _≡_ {A = Told} (record { answer = a .answer; book = a .book; used = x .used }) (toldHead b head s)
-  unfolding toldWith answeredTo whole handedBlocks
-  load-told e fs hs ks a given f h k =
-      (λ i. record { answer = is i .answer; book = is i .book; used = used-is blockLine (field 5 head) s x read i })
-      ∙ ap (λ w. toldWith b w (bytesOfLines (field 5 head) s)) (sym (load-what true e))
-      ∙ load-head
-    where
-      rows : List Row
-      rows = rowsCounted (field 5 head) s
+  pub whole-told : x .whole ≡ true → (a : Answered) → a ≡ answeredTo b (asked ask) → _≡_ {A = Told} (record { answer = a .answer; book = a .book; used = x .used }) (toldHead b head s)
+  unfolding toldWith whole
+  whole-told e a is =
+      (λ i. record { answer = is i .answer; book = is i .book; used = used-is kind n s x read i })
+      ∙ ap (λ w. toldWith b w (bytesOfLines n s)) (sym (what true e))
+      ∙ as-head
 
-      is : a ≡ handed b (load (field 0 head) (field 1 head) (field 2 head) (field 3 head) (field 4 head) (map blockOf rows))
-      is =
-          given
-          ∙ (λ i. handedBlocks b (field 0 head) (field 1 head) (field 2 head) (field 3 head) (field 4 head) (f i) (h i) (k i))
-          ∙ ap (λ t. cond t (handed b (load (field 0 head) (field 1 head) (field 2 head) (field 3 head) (field 4 head) (blocksOf (map (field 0) rows) (map (field 1) rows) (map (field 2) rows)))) (refusedWith b 1)) (blocks-even rows)
-          ∙ ap (λ bs. handed b (load (field 0 head) (field 1 head) (field 2 head) (field 3 head) (field 4 head) bs)) (blocks-of-rows rows)
+module _ (b : Book) (head : Row) (rows : List Row) where
+  -- blocks that stand in slices as they stand in rows
+  pub load-is : (fs hs ks : List ℕ) (a : Answered) → a ≡ handedBlocks b (field 0 head) (field 1 head) (field 2 head) (field 3 head) (field 4 head) fs hs ks → fs ≡ map (field 0) rows → hs ≡ map (field 1) rows → ks ≡ map (field 2) rows → a ≡ answeredTo b (asked (call (load (field 0 head) (field 1 head) (field 2 head) (field 3 head) (field 4 head) (map blockOf rows))))
+  unfolding answeredTo handedBlocks
+  load-is fs hs ks a given f h k =
+      given
+      ∙ (λ i. handedBlocks b (field 0 head) (field 1 head) (field 2 head) (field 3 head) (field 4 head) (f i) (h i) (k i))
+      ∙ ap (λ t. cond t (handed b (load (field 0 head) (field 1 head) (field 2 head) (field 3 head) (field 4 head) (blocksOf (map (field 0) rows) (map (field 1) rows) (map (field 2) rows)))) (refusedWith b 1)) (blocks-even rows)
+      ∙ ap (λ bs. handed b (load (field 0 head) (field 1 head) (field 2 head) (field 3 head) (field 4 head) bs)) (blocks-of-rows rows)
+
+  -- class lines likewise
+  pub migrate-is : (fs ts cs us ws : List ℕ) (a : Answered) → a ≡ handedLines b (field 0 head) (field 1 head) fs ts cs us ws → fs ≡ map (field 0) rows → ts ≡ map (field 1) rows → cs ≡ map (field 2) rows → us ≡ map (field 3) rows → ws ≡ map (field 4) rows → a ≡ answeredTo b (asked (call (migrate (field 0 head) (field 1 head) (map classLineOf rows))))
+  unfolding answeredTo handedLines
+  migrate-is fs ts cs us ws a given f t c u w =
+      given
+      ∙ (λ i. handedLines b (field 0 head) (field 1 head) (f i) (t i) (c i) (u i) (w i))
+      ∙ ap (λ v. cond v (handed b (migrate (field 0 head) (field 1 head) (classLinesOf (map (field 0) rows) (map (field 1) rows) (map (field 2) rows) (map (field 3) rows) (map (field 4) rows)))) (refusedWith b 1)) (class-lines-even rows)
+      ∙ ap (λ ls. handed b (migrate (field 0 head) (field 1 head) ls)) (class-lines-of-rows rows)
+
+module _ (head : Row) where
+  pub load-counts : head .kind ≡ loadLine → linesCounted head ≡ field 5 head
+  unfolding linesCounted
+  load-counts e = rw e
+
+  pub migrate-counts : head .kind ≡ migrateLine → linesCounted head ≡ field 2 head
+  unfolding linesCounted
+  migrate-counts e = rw e
+
+  pub counts-none : (head .kind ≡ loadLine → ⊥) → (head .kind ≡ migrateLine → ⊥) → linesCounted head ≡ 0
+  unfolding linesCounted
+  counts-none l m = rw (ne-eqb (head .kind) loadLine l) (rw (ne-eqb (head .kind) migrateLine m))
+
+-- a head that counts no lines
+pub row-told : (b : Book) (head : Row) (s : List ℕ) (a : Answered) → linesCounted head ≡ 0 → a ≡ answeredTo b (asksOf head []) → _≡_ {A = Told} (record { answer = a .answer; book = a .book; used = 0 }) (toldHead b head s)
+unfolding toldHead toldWith rowsCounted bytesOfLines
+row-told b head s a counts is =
+    (λ i. record { answer = is i .answer; book = is i .book; used = 0 })
+    ∙ ap (λ n. toldWith b (asksOf head (rowsCounted n s)) (bytesOfLines n s)) (sym counts)
+
+-- the first group, with the head's own line
+pub first-told : (b : Book) (rest : List ℕ) (x : NextRow) (t : Told) → x ≡ nextRow rest → t ≡ toldHead b (x .row) (take (length rest - x .used) (drop (x .used) rest)) → _≡_ {A = Told} (record { answer = t .answer; book = t .book; used = x .used + t .used }) (toldFirst b rest)
+unfolding toldFirst groupAsked groupBytes toldWith toldHead
+first-told b rest x t read told =
+    (λ i. record { answer = told i .answer; book = told i .book; used = x .used + told i .used })
+    ∙ ap (λ behind. record { answer = toldHead b (x .row) behind .answer; book = toldHead b (x .row) behind .book; used = x .used + toldHead b (x .row) behind .used }) (rest-whole rest (x .used))
+    ∙ ap (λ y. record { answer = toldHead b (y .row) (drop (y .used) rest) .answer; book = toldHead b (y .row) (drop (y .used) rest) .book; used = y .used + toldHead b (y .row) (drop (y .used) rest) .used }) read
+
+no-more : (n : ℕ) → n ≡ n + 0
+no-more n = omega arith
+
+-- the head's line is among the bytes, and those behind it have no more rows
+module _ (rest : List ℕ) (x : NextRow) (read : x ≡ nextRow rest) where
+  pub head-within : x .used ≤ length rest
+  head-within = le-trans (le-of-eq (ap (λ y. y .used) read)) (used-within rest)
+
+  pub rows-behind : length (rowsOf rest) ≤ 4096 → length (rowsOf (take (length rest - x .used) (drop (x .used) rest))) ≤ 4096
+  unfolding bytesOfLines
+  rows-behind few =
+      let here = ap (λ behind. length (rowsOf behind)) (rest-whole rest (x .used)) in
+      let place = ap (λ y. length (rowsOf (drop (y .used) rest))) read in
+      let whole = ap (λ n. length (rowsOf (drop n rest))) (no-more (nextRow rest .used)) in
+      let after = ap length (rows-after 1 rest) in
+      let fewer = length-drop 1 (rowsOf rest) in
+      omega arith
+
+  -- the bytes of the whole group are among them too
+  pub group-within : (b : Book) (t : Told) → t ≡ toldHead b (x .row) (take (length rest - x .used) (drop (x .used) rest)) → x .used + t .used ≤ length rest
+  unfolding toldHead toldWith
+  group-within b t told =
+      let own = ap (λ y. y .used) told in
+      let within = bytes-within (linesCounted (x .row)) (take (length rest - x .used) (drop (x .used) rest)) in
+      let size = ap length (rest-whole rest (x .used)) in
+      let left = length-drop (x .used) rest in
+      let first = head-within in
+      omega arith

@@ -3,7 +3,9 @@ use mathlib.Core.Path.{sym, _∙_}
 use native.Mathlib.Nat.{le-trans, le-of-eq}
 use borrow.Author.Tests.{not-true, not-false}
 use Rattle.script.specs.Groups.{field}
-use Rattle.script.proofs.ToldLaws.{kept-size, count-few, part-is, part-long, load-broken, load-told}
+use Rattle.script.specs.Counted.{rowsCounted}
+use Rattle.script.proofs.ToldLaws.{kept-size, count-few, part-is, part-long, broken-told, whole-told, load-is, load-counts}
+use Rattle.script.proofs.HeadLaws.{load-asks}
 use borrow.Author.Needs.{needs}
 use Rattle.script.proofs.groups.tell_load.Statement.{statement}
 use Rattle.script.proofs.groups.tell_load.Tie as tie
@@ -34,7 +36,7 @@ unfolding field
 returns c =
     let s = c .before .before .before .before .before .before .before .before .before .before .before .before .before .before .before .before .before .before .before .before .before .before .before .before .before in
     let r = c .before .before .before .before .before .before .before .before .before .before .before .before .read-counted .ensures in
-    (load-broken _ _ _ (s .pre .0 .1) _ (r .0) (not-true _ (c .if1 .taken)), kept-size 0 _ _ _ _ (s .pre .1) (s .pre .2) (r .1), kept-size 1 _ _ _ _ (s .pre .1) (s .pre .3) (r .2), kept-size 2 _ _ _ _ (s .pre .1) (s .pre .4) (r .3), kept-size 3 _ _ _ _ (s .pre .1) (s .pre .5) (r .4), kept-size 4 _ _ _ _ (s .pre .1) (s .pre .6) (r .5))
+    (broken-told _ _ _ _ _ _ _ (r .0) (load-counts _ (s .pre .0 .1)) (load-asks _ _ (s .pre .0 .1)) (not-true _ (c .if1 .taken)), kept-size 0 _ _ _ _ (s .pre .1) (s .pre .2) (r .1), kept-size 1 _ _ _ _ (s .pre .1) (s .pre .3) (r .2), kept-size 2 _ _ _ _ (s .pre .1) (s .pre .4) (r .3), kept-size 3 _ _ _ _ (s .pre .1) (s .pre .5) (r .4), kept-size 4 _ _ _ _ (s .pre .1) (s .pre .6) (r .5))
 
 array-read-load : tie.Need-array-read-load
 array-read-load c = search needs
@@ -126,7 +128,7 @@ returns-2 c =
     let s = c .before .before .before .before .before .before .before .before .before .before .before .before .before .before .before .before .before .before .before .before .before .before .before .before .before .before .before .before .before .before in
     let r = c .before .before .before .before .before .before .before .before .before .before .before .before .before .before .before .before .before .read-counted .ensures in
     let all = not-false _ (c .before .before .before .before .before .if1 .left) in
-    (load-told _ _ _ (s .pre .0 .1) _ (r .0) all _ _ _ _ (c .before .load .ensures) (part-is _ _ _ _ (r .0) all 0 _ _ (r .1)) (part-is _ _ _ _ (r .0) all 1 _ _ (r .2)) (part-is _ _ _ _ (r .0) all 2 _ _ (r .3)), kept-size 0 _ _ _ _ (s .pre .1) (s .pre .2) (r .1), kept-size 1 _ _ _ _ (s .pre .1) (s .pre .3) (r .2), kept-size 2 _ _ _ _ (s .pre .1) (s .pre .4) (r .3), kept-size 3 _ _ _ _ (s .pre .1) (s .pre .5) (r .4), kept-size 4 _ _ _ _ (s .pre .1) (s .pre .6) (r .5))
+    (whole-told _ _ _ _ _ _ _ (r .0) (load-counts _ (s .pre .0 .1)) (load-asks _ _ (s .pre .0 .1)) all _ (load-is _ (s .args .head) (rowsCounted (field 5 (s .args .head)) (s .args .behind .now)) _ _ _ _ (c .before .load .ensures) (part-is _ _ _ _ (r .0) all 0 _ _ (r .1)) (part-is _ _ _ _ (r .0) all 1 _ _ (r .2)) (part-is _ _ _ _ (r .0) all 2 _ _ (r .3))), kept-size 0 _ _ _ _ (s .pre .1) (s .pre .2) (r .1), kept-size 1 _ _ _ _ (s .pre .1) (s .pre .3) (r .2), kept-size 2 _ _ _ _ (s .pre .1) (s .pre .4) (r .3), kept-size 3 _ _ _ _ (s .pre .1) (s .pre .5) (r .4), kept-size 4 _ _ _ _ (s .pre .1) (s .pre .6) (r .5))
 
 pub tell-load-spec : {M : Type 1} → statement M
 tell-load-spec =

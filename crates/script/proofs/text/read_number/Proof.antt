@@ -2,6 +2,8 @@
 use mathlib.Core.Path.{_∙_}
 use mathlib.Core.Logic.{⊎-elim}
 use Rattle.script.proofs.NumberLaws.{in-range, below-range, above-range, length-refused, zero-refused, digits-decide, one-digit, no-zero-leads}
+use native.Mathlib.Omega.{arith}
+use lib.ListN.{length}
 use borrow.Author.Needs.{needs}
 use Rattle.script.proofs.text.read_number.Statement.{statement}
 use Rattle.script.proofs.text.read_number.Tie as tie
@@ -10,13 +12,13 @@ returns : tie.Need-returns
 returns c = length-refused _ (below-range 1 9 _ (c .if1 .taken))
 
 returns-2 : tie.Need-returns-2
-returns-2 c = length-refused _ (above-range 1 9 _ (c .if2 .taken))
+returns-2 c = let field = c .before .before .before .args .field .now in length-refused field (above-range 1 9 (length field) (omega arith))
 
 shared-slice-read-if4 : tie.Need-shared-slice-read-if4
 shared-slice-read-if4 c = search needs
 
 returns-3 : tie.Need-returns-3
-returns-3 c = zero-refused _ (c .before .before .if3 .taken) (c .if4 .taken)
+returns-3 c = zero-refused (c .before .before .before .before .before .before .args .field .now) (omega arith) (c .if4 .taken)
 
 read-digits-requires : tie.Need-read-digits-requires
 read-digits-requires c κs = search needs

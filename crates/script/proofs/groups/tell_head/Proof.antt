@@ -1,0 +1,76 @@
+-- `script::groups::tell_head` meets its contract: a load, a migration, or a head that counts no lines. Assumes nothing.
+use Rattle.script.proofs.ToldLaws.{counts-none, row-told}
+use borrow.Author.Needs.{needs}
+use Rattle.script.proofs.groups.tell_head.Statement.{statement}
+use Rattle.script.proofs.groups.tell_head.Tie as tie
+
+tell-load-requires : tie.Need-tell-load-requires
+tell-load-requires c κs = search needs
+
+same-length : tie.Need-same-length
+same-length c = search needs
+
+same-length-2 : tie.Need-same-length-2
+same-length-2 c = search needs
+
+same-length-3 : tie.Need-same-length-3
+same-length-3 c = search needs
+
+same-length-4 : tie.Need-same-length-4
+same-length-4 c = search needs
+
+same-length-5 : tie.Need-same-length-5
+same-length-5 c = search needs
+
+returns : tie.Need-returns
+returns c = search needs
+
+tell-migrate-requires : tie.Need-tell-migrate-requires
+tell-migrate-requires c κs = search needs
+
+same-length-6 : tie.Need-same-length-6
+same-length-6 c = search needs
+
+same-length-7 : tie.Need-same-length-7
+same-length-7 c = search needs
+
+same-length-8 : tie.Need-same-length-8
+same-length-8 c = search needs
+
+same-length-9 : tie.Need-same-length-9
+same-length-9 c = search needs
+
+same-length-10 : tie.Need-same-length-10
+same-length-10 c = search needs
+
+returns-2 : tie.Need-returns-2
+returns-2 c = search needs
+
+ask-row-requires : tie.Need-ask-row-requires
+ask-row-requires c κs = search needs
+
+returns-3 : tie.Need-returns-3
+returns-3 c =
+    let s = c .before .before .before .before .before .before .before .before .before .before .before .before in
+    (row-told _ _ _ _ (counts-none _ (c .before .before .before .before .if1 .left) (c .before .before .if2 .left)) (c .before .ask-row .ensures), s .pre .2, s .pre .3, s .pre .4, s .pre .5, s .pre .6)
+
+pub tell-head-spec : {M : Type 1} → statement M
+tell-head-spec =
+    tie.close
+    (tie.spec
+    tell-load-requires
+    same-length
+    same-length-2
+    same-length-3
+    same-length-4
+    same-length-5
+    returns
+    tell-migrate-requires
+    same-length-6
+    same-length-7
+    same-length-8
+    same-length-9
+    same-length-10
+    returns-2
+    ask-row-requires
+    returns-3)
