@@ -9,7 +9,7 @@ use Rattle.script.specs.declared.rows.Row.{Row}
 use Rattle.script.specs.Groups.{linesCounted, asksOf, groupsFrom, groupsOf}
 
 -- what is left after a drop is no longer than before
-drop-shorter : {A : Type 0} (n : ℕ) (xs : List A) → length (drop n xs) ≤ length xs
+pub drop-shorter : {A : Type 0} (n : ℕ) (xs : List A) → length (drop n xs) ≤ length xs
 drop-shorter n xs = let len = length-drop n xs in omega arith
 
 -- any number of groups that is enough gives the same

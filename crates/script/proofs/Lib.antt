@@ -18,3 +18,8 @@ pub mod DigitLaws
 pub mod WritingLaws
 pub mod AnswerLaws
 pub mod WritableLaws
+pub mod PlayLaws
+pub mod BookLines
+pub mod StartedLaws
+pub mod RunLaws
+pub mod ScriptLaws

@@ -10,3 +10,4 @@ pub mod Heads
 pub mod Played
 pub mod Writing
 pub mod Told
+pub mod Started

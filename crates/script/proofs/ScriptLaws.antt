@@ -1,0 +1,86 @@
+-- A script that is answered: its book group first, then what is left of it. Assumes nothing.
+use Prim.Native.Nat.{ℕ, _+_, _*_, _≤_}
+use mathlib.Core.Path.{_≡_, sym, ap, _∙_, subst}
+use mathlib.Core.Bool.{true, false}
+use mathlib.Core.List.{List, _++_}
+use native.Mathlib.Nat.{le-trans, le-of-eq}
+use native.Mathlib.Omega.{arith}
+use lib.ListN.{length, drop, length-append}
+use Rattle.book.specs.Handed.{answerIn}
+use Rattle.book.specs.Reached.{Reached}
+use Rattle.script.specs.declared.opened.Started.{Started}
+use Rattle.script.specs.Rows.{rowsOf}
+use Rattle.script.specs.Groups.{field, callRows}
+use Rattle.script.specs.Answers.{textOf}
+use Rattle.script.specs.Reading.{nextRow}
+use Rattle.script.specs.Played.{textFrom}
+use Rattle.script.specs.Started.{startedOf}
+use Rattle.script.specs.Writing.{writtenAt, Writable}
+use Rattle.script.specs.Run.{answersText}
+use Rattle.script.proofs.RowSteps.{first-row}
+use Rattle.script.proofs.GroupLaws.{drop-shorter}
+use Rattle.script.proofs.StartedLaws.{start-readable, start-within, start-reached, start-writable}
+use Rattle.script.proofs.AnswerLaws.{text-short}
+use Rattle.script.proofs.WritingLaws.{written-length, written-again}
+use Rattle.script.proofs.RunLaws.{run-stops, run-goes-on}
+
+from-zero : (n : ℕ) → n ≡ 0 + n
+from-zero n = omega arith
+
+module _ (script out : List ℕ) (some : 1 ≤ length script) (few : length (rowsOf script) ≤ 4096) (room : 16 * length (rowsOf script) ≤ length out) (x : Started) (is : x ≡ startedOf script) where
+  abbrev text : List ℕ
+  text = textOf (answerIn (x .answer))
+
+  abbrev rest : List ℕ
+  rest = drop (x .used) script
+
+  -- the script has a row, so there is room for an answer
+  pub first-room : 16 ≤ length out
+  first-room = let all = ap length (first-row script some) in omega arith
+
+  pub first-writable : Writable (answerIn (x .answer))
+  first-writable = subst (λ y. Writable (answerIn (y .answer))) (sym is) (start-writable script)
+
+  -- at least the head is not among the rows that are left
+  rows-left : length (rowsOf rest) + 1 ≤ length (rowsOf script)
+  unfolding callRows
+  rows-left =
+      let head = nextRow script .row in
+      let rows = rowsOf (drop (nextRow script .used) script) in
+      let place = ap (λ y. length (rowsOf (drop (y .used) script))) is in
+      let after = ap length (start-readable script) in
+      let shorter = drop-shorter (field 0 head + field 2 head + field 3 head) rows in
+      let all = ap length (first-row script some) in
+      omega arith
+
+  module _ (w : ℕ) (out₁ : List ℕ) (place : w ≡ 0 + length text) (bytes : out₁ ≡ writtenAt out 0 text) where
+    -- a refused book group is all that is answered
+    pub stopped : x .«goes_on» ≡ false → (w ≡ length (answersText script)) × (out₁ ≡ writtenAt out 0 (answersText script))
+    stopped e =
+        let all = run-stops script some (sym (ap (λ y. y .«goes_on») is) ∙ e) ∙ ap (λ y. textOf (answerIn (y .answer))) (sym is) in
+        (place ∙ sym (from-zero (length text)) ∙ ap length (sym all), bytes ∙ ap (writtenAt out 0) (sym all))
+
+    pub left-reached : Reached (x .book)
+    left-reached = subst (λ y. Reached (y .book)) (sym is) (start-reached script)
+
+    pub left-within : x .used ≤ length script
+    left-within = le-trans (le-of-eq (ap (λ y. y .used) is)) (start-within script)
+
+    pub left-few : length (rowsOf rest) ≤ 4096
+    left-few = let left = rows-left in omega arith
+
+    short : length text ≤ 16
+    short = text-short (answerIn (x .answer)) first-writable
+
+    same-length : length out₁ ≡ length out
+    same-length = ap length bytes ∙ written-length out 0 text (let s = short in let r = first-room in omega arith)
+
+    pub left-room : w + 16 * length (rowsOf rest) ≤ length out₁
+    left-room = let left = rows-left in let s = short in let same = same-length in omega arith
+
+    pub gone-on : x .«goes_on» ≡ true → (w₂ : ℕ) (out₂ : List ℕ) → w₂ ≡ w + length (textFrom (x .book) rest) → out₂ ≡ writtenAt out₁ w (textFrom (x .book) rest) → w₂ ≤ length out₁ → (w₂ ≡ length (answersText script)) × (out₂ ≡ writtenAt out 0 (answersText script))
+    gone-on e w₂ out₂ n o within =
+        let all = run-goes-on script some (sym (ap (λ y. y .«goes_on») is) ∙ e) ∙ ap (λ y. textOf (answerIn (y .answer)) ++ textFrom (y .book) (drop (y .used) script)) (sym is) in
+        let sum = length-append text (textFrom (x .book) rest) in
+        let same = same-length in
+        (n ∙ omega arith ∙ ap length (sym all), o ∙ (λ i. writtenAt (bytes i) (place i) (textFrom (x .book) rest)) ∙ written-again out 0 text (textFrom (x .book) rest) (omega arith) ∙ ap (writtenAt out 0) (sym all))

@@ -1,0 +1,65 @@
+// A run over a lent script and a lent output buffer (01, Script and host).
+use crate::answers::write_answer;
+use crate::opened::start;
+use crate::play::play;
+use crate::text::count_lines;
+ghost use mathlib.Core.Path.{_≡_};
+ghost use Prim.Native.Nat.{_*_, _≤_};
+ghost use lib.ListN.{length};
+ghost use Rattle.script.specs.Rows.{rowsOf};
+ghost use Rattle.script.specs.Run.{answersText, runNumber, outputAfter};
+ghost use Rattle.script.specs.Writing.{writtenAt};
+
+// Answers a script that is neither too long for a run nor too long for the buffer; says how many bytes were written.
+fn answer_script(script: &[u8], out: &mut [u8]) -> usize
+    requires { ⌜ (1 ≤ length (now script)) × (length (now script) ≤ 65536) × (length (rowsOf (now script)) ≤ 4096) × (16 * length (rowsOf (now script)) ≤ length (now out)) ⌝ }
+    ensures { λ r. ⌜ (r ≡ length (answersText (now (script .entry)))) × (now (out .exit) ≡ writtenAt (now (out .entry)) 0 (answersText (now (script .entry)))) ⌝ }
+{
+    // A field of each counted line goes to an array; a script has no more lines.
+    let mut a = [0u64; 4096];
+    let mut b = [0u64; 4096];
+    let mut c = [0u64; 4096];
+    let mut d = [0u64; 4096];
+    let mut e = [0u64; 4096];
+    let started = start(script, &mut a, &mut b, &mut c, &mut d, &mut e);
+    let answer = started.answer;
+    let written = write_answer(out, 0, answer);
+    if !started.goes_on {
+        return written;
+    }
+    let book = started.book;
+    let used = started.used;
+    play(
+        script,
+        used,
+        book,
+        out,
+        written,
+        &mut a,
+        &mut b,
+        &mut c,
+        &mut d,
+        &mut e,
+    )
+}
+
+// Runs a script: the refusal, 0 for a run, times 1,000,000, plus the written length. Nothing is asked of the two slices.
+#[no_mangle]
+pub extern "C" fn run(script: &[u8], out: &mut [u8]) -> u64
+    ensures { λ r. ⌜ (r ≡ runNumber (now (script .entry)) (now (out .entry))) × (now (out .exit) ≡ outputAfter (now (script .entry)) (now (out .entry))) ⌝ }
+{
+    if 65_536 < script.len() {
+        return 1_000_000;
+    }
+    let lines = count_lines(script);
+    if 4_096 < lines {
+        return 1_000_000;
+    }
+    if (out.len() as u64) < 16 * lines {
+        return 15_000_000;
+    }
+    if script.len() == 0 {
+        return 0;
+    }
+    answer_script(script, out) as u64
+}
