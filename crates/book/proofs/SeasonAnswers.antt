@@ -43,7 +43,7 @@ module _ (o : Opening) (e : legal o ≡ true) where
   books-from cs (query q ∷ asks) = books-from cs asks
 
   -- opening hands back the book of no calls
-  opened-at : openedAs o .book ≡ bookAt o e []
+  pub opened-at : openedAs o .book ≡ bookAt o e []
   unfolding openedAs after afterFrom
   opened-at = ap (λ t. bookOf (setupOf (cond t o emptyOpening)) emptyLedger) e
 

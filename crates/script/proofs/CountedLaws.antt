@@ -4,6 +4,7 @@ use mathlib.Core.Path.{_≡_, refl, sym, ap, _∙_, subst}
 use native.Mathlib.Nat.{le-trans, le-of-eq}
 use mathlib.Core.Bool.{Bool, true, false, _&&_}
 use mathlib.Core.List.{List, [], _∷_, _++_, map}
+use native.Mathlib.Numerals.{add-one}
 use native.Mathlib.Omega.{arith}
 use lib.ListN.{length, take, drop, set, getD, length-append, length-map, length-drop, drop-of-length-le}
 use lib.Seq.{drop-drop, length-take-le}
@@ -20,9 +21,6 @@ use Rattle.script.specs.Reading.{firstBytes, nextRow}
 use Rattle.script.specs.Counted.{bytesOfLines, rowsCounted, countedOf, withField}
 use Rattle.script.proofs.RowSteps.{first-row, used-within}
 use Rattle.script.proofs.KeptFields.{take-more, drop-more, in-list, take-all, kinds-more, field-more}
-
-one-up : (k : ℕ) → suc k ≡ k + 1
-one-up k = omega arith
 
 -- one line more takes the bytes of the line that comes next
 pub bytes-more : (k : ℕ) (s : List ℕ) → bytesOfLines (suc k) s ≡ bytesOfLines k s + nextRow (drop (bytesOfLines k s) s) .used
@@ -96,11 +94,11 @@ module _ (s : List ℕ) (kind count k used : ℕ) (whole : Bool) (f : SoFar s ki
     read-more l =
         record {
           upTo = omega arith;
-          left = ap rowsOf (sym (drop-drop (nextRow rest .used) used s)) ∙ sym (drop-more k (rowsOf s) next (rowsOf (drop (nextRow rest .used) rest)) here) ∙ ap (λ n. drop n (rowsOf s)) (one-up k);
+          left = ap rowsOf (sym (drop-drop (nextRow rest .used) used s)) ∙ sym (drop-more k (rowsOf s) next (rowsOf (drop (nextRow rest .used) rest)) here) ∙ ap (λ n. drop n (rowsOf s)) (sym (add-one k));
           inRows = let below = row-below in omega arith;
-          bytes = (λ i. f .bytes i + nextRow (drop (f .bytes i) s) .used) ∙ sym (bytes-more k s) ∙ ap (λ n. bytesOfLines n s) (one-up k);
+          bytes = (λ i. f .bytes i + nextRow (drop (f .bytes i) s) .used) ∙ sym (bytes-more k s) ∙ ap (λ n. bytesOfLines n s) (sym (add-one k));
           inBytes = next-within;
-          kinds = (λ i. f .kinds i && eqb (next .kind) kind) ∙ sym (kinds-more kind (take k (rowsOf s)) next) ∙ ap (allOfKind kind) (sym one-more) ∙ ap (λ n. allOfKind kind (take n (rowsOf s))) (one-up k);
+          kinds = (λ i. f .kinds i && eqb (next .kind) kind) ∙ sym (kinds-more kind (take k (rowsOf s)) next) ∙ ap (allOfKind kind) (sym one-more) ∙ ap (λ n. allOfKind kind (take n (rowsOf s))) (sym (add-one k));
         }
 
     -- a turn stores the row's field behind those before it
@@ -111,7 +109,7 @@ module _ (s : List ℕ) (kind count k used : ℕ) (whole : Bool) (f : SoFar s ki
         (λ i. set (e i) (sym many i) (field j next))
         ∙ field-more j (take k (rowsOf s)) next numbers (omega arith)
         ∙ ap (λ rows. withField j rows numbers) (sym one-more)
-        ∙ ap (λ n. withField j (take n (rowsOf s)) numbers) (one-up k)
+        ∙ ap (λ n. withField j (take n (rowsOf s)) numbers) (sym (add-one k))
 
     -- the same of a row that was read there, from the part of the bytes that begins there
     module _ (x : NextRow) (read : x ≡ nextRow (take (length s - used) rest)) where

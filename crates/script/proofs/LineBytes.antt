@@ -2,6 +2,7 @@
 use Prim.Native.Nat.{ℕ, zero, suc, _+_, _≤_, zero-le}
 use mathlib.Core.Path.{_≡_, refl, sym, ap, _∙_}
 use mathlib.Core.List.{List, [], _∷_}
+use native.Mathlib.Nat.{zero-add, suc-add}
 use native.Mathlib.Omega.{arith}
 use lib.ListN.{length, drop, length-drop, drop-of-length-le}
 use lib.Seq.{drop-drop}
@@ -11,21 +12,15 @@ use Rattle.script.specs.Reading.{nextRow}
 use Rattle.script.specs.Counted.{bytesOfLines}
 use Rattle.script.proofs.RowSteps.{first-row, used-within}
 
-zero-first : (n : ℕ) → 0 + n ≡ n
-zero-first n = omega arith
-
-suc-first : (m n : ℕ) → suc m + n ≡ suc (m + n)
-suc-first m n = omega arith
-
 -- lines and those after them
 pub bytes-add : (m n : ℕ) (s : List ℕ) → bytesOfLines (m + n) s ≡ bytesOfLines m s + bytesOfLines n (drop (bytesOfLines m s) s)
 unfolding bytesOfLines
-bytes-add zero n s = ap (λ k. bytesOfLines k s) (zero-first n) ∙ sym (zero-first (bytesOfLines n s))
+bytes-add zero n s = ap (λ k. bytesOfLines k s) (zero-add n) ∙ sym (zero-add (bytesOfLines n s))
 bytes-add (suc m) n s =
     let u = nextRow s .used in
     let later = bytes-add m n (drop u s) in
     let place = ap (λ t. bytesOfLines n t) (drop-drop (bytesOfLines m (drop u s)) u s) in
-    ap (λ k. bytesOfLines k s) (suc-first m n) ∙ omega arith
+    ap (λ k. bytesOfLines k s) (suc-add m n) ∙ omega arith
 
 -- lines take no more bytes than there are
 pub bytes-within : (n : ℕ) (s : List ℕ) → bytesOfLines n s ≤ length s

@@ -3,6 +3,7 @@ use Prim.Native.Nat.{ℕ, zero, suc, _+_, _*_, _≤_, _<_, zero-le}
 use mathlib.Core.Path.{_≡_, refl, sym, ap, _∙_}
 use mathlib.Core.Bool.{Bool, true, false, cond, _&&_, _||_}
 use mathlib.Core.List.{List, [], _∷_, _++_, map, append-nil}
+use native.Mathlib.Nat.{zero-add}
 use native.Mathlib.Omega.{arith}
 use lib.ListN.{length, drop}
 use lib.Dec.{ltb}
@@ -12,12 +13,10 @@ use Rattle.ledger.specs.Opening.{Opening, legal, openingRefusal}
 use Rattle.ledger.specs.Ledger.{emptyLedger}
 use Rattle.ledger.specs.Season as ledger
 use Rattle.ledger.specs.Season.{after, afterFrom}
-use Rattle.records.specs.Setup.{setupOf, emptyOpening}
 use Rattle.book.specs.declared.book.Answer.the-variants.{Done, Refused}
-use Rattle.book.specs.Reading.{bookOf}
 use Rattle.book.specs.Handed.{answerIn}
 use Rattle.book.specs.Opened.{openedAs}
-use Rattle.book.proofs.ReachedSteps.{bookAt}
+use Rattle.book.proofs.SeasonAnswers.{opened-at}
 use Rattle.script.specs.declared.rows.Row.{Row}
 use Rattle.script.specs.Text.{linesOf}
 use Rattle.script.specs.Rows.{rowsOf}
@@ -31,11 +30,6 @@ use Rattle.script.specs.Run.{tooLong, tooShort, answersText, written, ru
 use Rattle.script.proofs.RowSteps.{first-row}
 use Rattle.script.proofs.PlayedLaws.{played}
 use Rattle.script.proofs.StartedLaws.{start-readable}
-
--- opening hands back the book of no calls
-opened-at : (o : Opening) (e : legal o ≡ true) → openedAs o .book ≡ bookAt o e []
-unfolding openedAs after afterFrom
-opened-at o e = ap (λ t. bookOf (setupOf (cond t o emptyOpening)) emptyLedger) e
 
 -- what the groups after a legal opening are answered
 groups-text : (o : Opening) → legal o ≡ true → (rows : List Row) → textsOf (map answerIn (answersOf (openedAs o .book) (groupsOf rows))) ≡ textsOf (answersTo o emptyLedger (groupsOf rows))
@@ -90,12 +84,9 @@ module _ (script : List ℕ) (some : 1 ≤ length script) where
       ∙ ap (λ calls. textOf (answerIn (startedOf script .answer)) ++ textsOf (map answerIn (answersOf (startedOf script .book) (groupsOf calls)))) (sym (start-readable script))
 
 -- what is written from the start on
-zero-first : (n : ℕ) → 0 + n ≡ n
-zero-first n = omega arith
-
 from-start : (out text : List ℕ) → writtenAt out 0 text ≡ text ++ drop (length text) out
 unfolding writtenAt
-from-start out text = ap (λ n. text ++ drop n out) (zero-first (length text))
+from-start out text = ap (λ n. text ++ drop n out) (zero-add (length text))
 
 either : (a b : Bool) → b ≡ true → (a || b) ≡ true
 either true b e = refl

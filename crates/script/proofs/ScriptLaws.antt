@@ -3,7 +3,7 @@ use Prim.Native.Nat.{ℕ, _+_, _*_, _≤_}
 use mathlib.Core.Path.{_≡_, sym, ap, _∙_, subst}
 use mathlib.Core.Bool.{true, false}
 use mathlib.Core.List.{List, _++_}
-use native.Mathlib.Nat.{le-trans, le-of-eq}
+use native.Mathlib.Nat.{le-trans, le-of-eq, zero-add}
 use native.Mathlib.Omega.{arith}
 use lib.ListN.{length, drop, length-append}
 use Rattle.book.specs.Handed.{answerIn}
@@ -23,9 +23,6 @@ use Rattle.script.proofs.StartedLaws.{start-readable, start-within, sta
 use Rattle.script.proofs.AnswerLaws.{text-short}
 use Rattle.script.proofs.WritingLaws.{written-length, written-again}
 use Rattle.script.proofs.RunLaws.{run-stops, run-goes-on}
-
-from-zero : (n : ℕ) → n ≡ 0 + n
-from-zero n = omega arith
 
 module _ (script out : List ℕ) (some : 1 ≤ length script) (few : length (rowsOf script) ≤ 4096) (room : 16 * length (rowsOf script) ≤ length out) (x : Started) (is : x ≡ startedOf script) where
   abbrev text : List ℕ
@@ -58,7 +55,7 @@ module _ (script out : List ℕ) (some : 1 ≤ length script) (few : length (row
     pub stopped : x .«goes_on» ≡ false → (w ≡ length (answersText script)) × (out₁ ≡ writtenAt out 0 (answersText script))
     stopped e =
         let all = run-stops script some (sym (ap (λ y. y .«goes_on») is) ∙ e) ∙ ap (λ y. textOf (answerIn (y .answer))) (sym is) in
-        (place ∙ sym (from-zero (length text)) ∙ ap length (sym all), bytes ∙ ap (writtenAt out 0) (sym all))
+        (place ∙ zero-add (length text) ∙ ap length (sym all), bytes ∙ ap (writtenAt out 0) (sym all))
 
     pub left-reached : Reached (x .book)
     left-reached = subst (λ y. Reached (y .book)) (sym is) (start-reached script)

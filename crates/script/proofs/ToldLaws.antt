@@ -3,7 +3,7 @@ use Prim.Native.Nat.{ℕ, _+_, _-_, _≤_}
 use mathlib.Core.Path.{_≡_, sym, ap, _∙_}
 use mathlib.Core.Bool.{Bool, true, false, cond}
 use mathlib.Core.List.{List, [], map}
-use native.Mathlib.Nat.{le-trans, le-of-eq}
+use native.Mathlib.Nat.{le-trans, le-of-eq, add-zero}
 use native.Mathlib.Omega.{arith}
 use lib.ListN.{length, take, drop, length-take, length-append, length-map, length-drop}
 use lib.Dec.{eqb}
@@ -146,9 +146,6 @@ first-told b rest x t read told =
     ∙ ap (λ behind. record { answer = toldHead b (x .row) behind .answer; book = toldHead b (x .row) behind .book; used = x .used + toldHead b (x .row) behind .used }) (rest-whole rest (x .used))
     ∙ ap (λ y. record { answer = toldHead b (y .row) (drop (y .used) rest) .answer; book = toldHead b (y .row) (drop (y .used) rest) .book; used = y .used + toldHead b (y .row) (drop (y .used) rest) .used }) read
 
-no-more : (n : ℕ) → n ≡ n + 0
-no-more n = omega arith
-
 -- the head's line is among the bytes, and those behind it have no more rows
 module _ (rest : List ℕ) (x : NextRow) (read : x ≡ nextRow rest) where
   pub head-within : x .used ≤ length rest
@@ -159,7 +156,7 @@ module _ (rest : List ℕ) (x : NextRow) (read : x ≡ nextRow rest) where
   rows-behind few =
       let here = ap (λ behind. length (rowsOf behind)) (rest-whole rest (x .used)) in
       let place = ap (λ y. length (rowsOf (drop (y .used) rest))) read in
-      let whole = ap (λ n. length (rowsOf (drop n rest))) (no-more (nextRow rest .used)) in
+      let whole = ap (λ n. length (rowsOf (drop n rest))) (sym (add-zero (nextRow rest .used))) in
       let after = ap length (rows-after 1 rest) in
       let fewer = length-drop 1 (rowsOf rest) in
       omega arith

@@ -2,6 +2,10 @@
 use crate::counted::read_counted;
 use crate::heads::ask_row;
 use crate::lines::next_row;
+use crate::rows::BLOCK;
+use crate::rows::CLASS;
+use crate::rows::LOAD;
+use crate::rows::MIGRATE;
 use crate::rows::Row;
 use book::book::Answer;
 use book::book::Book;
@@ -35,7 +39,7 @@ fn tell_load(
 {
     let f = head.fields;
     let count = f[5];
-    let read = read_counted(behind, 6, count, a, b, c, d, e);
+    let read = read_counted(behind, BLOCK, count, a, b, c, d, e);
     let used = read.used;
     if !read.whole {
         let answer = Answer::Refused(1);
@@ -68,7 +72,7 @@ fn tell_migrate(
 {
     let f = head.fields;
     let count = f[2];
-    let read = read_counted(behind, 11, count, a, b, c, d, e);
+    let read = read_counted(behind, CLASS, count, a, b, c, d, e);
     let used = read.used;
     if !read.whole {
         let answer = Answer::Refused(1);
@@ -99,10 +103,10 @@ fn tell_head(
     requires { ⌜ Reached book × (length (rowsOf (now behind)) ≤ 4096) × (length (now a) ≡ 4096) × (length (now b) ≡ 4096) × (length (now c) ≡ 4096) × (length (now d) ≡ 4096) × (length (now e) ≡ 4096) ⌝ }
     ensures { λ r. ⌜ (r ≡ toldHead book head (now (behind .entry))) × (length (now (a .exit)) ≡ 4096) × (length (now (b .exit)) ≡ 4096) × (length (now (c .exit)) ≡ 4096) × (length (now (d .exit)) ≡ 4096) × (length (now (e .exit)) ≡ 4096) ⌝ }
 {
-    if head.kind == 5 {
+    if head.kind == LOAD {
         return tell_load(book, head, behind, a, b, c, d, e);
     }
-    if head.kind == 10 {
+    if head.kind == MIGRATE {
         return tell_migrate(book, head, behind, a, b, c, d, e);
     }
     let answered = ask_row(book, head);

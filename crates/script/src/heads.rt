@@ -1,5 +1,15 @@
 // Heads that are a call or a query in one line, put to the book.
+use crate::rows::AWARD;
+use crate::rows::CARRY;
+use crate::rows::CLOSE;
+use crate::rows::HELD;
+use crate::rows::LIMIT;
+use crate::rows::NET;
+use crate::rows::NOMINATE;
+use crate::rows::OPEN;
+use crate::rows::PRIOR;
 use crate::rows::Row;
+use crate::rows::VERIFY;
 use book::book::Answer;
 use book::book::Answered;
 use book::book::Book;
@@ -19,9 +29,9 @@ fn query_answer(b: Book, r: Row) -> Answer
     let kind = r.kind;
     let f = r.fields;
     match kind {
-        16 => b.limit(f[0], f[1]),
-        17 => b.held(f[0], f[1], f[2]),
-        18 => b.net(f[0], f[1]),
+        LIMIT => b.limit(f[0], f[1]),
+        HELD => b.held(f[0], f[1], f[2]),
+        NET => b.net(f[0], f[1]),
         _ => Answer::Refused(1),
     }
 }
@@ -34,13 +44,13 @@ pub fn ask_row(b: Book, r: Row) -> Answered
     let kind = r.kind;
     let f = r.fields;
     match kind {
-        7 => b.carry(f[0], f[1], f[2]),
-        8 => b.prior(f[0], f[1], f[2], f[3]),
-        9 => b.verify(f[0], f[1], f[2], f[3], f[4], f[5], f[6]),
-        12 => b.open_tier(f[0]),
-        13 => b.nominate(f[0], f[1], f[2]),
-        14 => b.award(f[0], f[1], f[2]),
-        15 => b.close_tier(),
+        CARRY => b.carry(f[0], f[1], f[2]),
+        PRIOR => b.prior(f[0], f[1], f[2], f[3]),
+        VERIFY => b.verify(f[0], f[1], f[2], f[3], f[4], f[5], f[6]),
+        OPEN => b.open_tier(f[0]),
+        NOMINATE => b.nominate(f[0], f[1], f[2]),
+        AWARD => b.award(f[0], f[1], f[2]),
+        CLOSE => b.close_tier(),
         _ => {
             let answer = query_answer(b, r);
             Answered { answer, book: b }
