@@ -9,7 +9,8 @@
 //! - [`refusals`]: the sixteen causes, looked for in ascending number;
 //! - [`run`] and [`answers`]: scripts, groups, answers, and the host's number;
 //! - [`generate`]: whole seasons, and damaged ones, from a seed;
-//! - [`figures`]: single rules on plain numbers.
+//! - [`figures`]: single rules on plain numbers;
+//! - [`vectors`]: stored scripts.
 //!
 //! Numbers are `u64`. Every field is held to its range before it is reckoned
 //! with, so that no value at all can overflow.
@@ -31,6 +32,7 @@ mod run;
 mod script;
 pub mod sizes;
 mod tiers;
+pub mod vectors;
 
 pub use book::Book;
 pub use calls::{Answer, Block, Call, ClassLine, Load, Migrate, OnPath, Prior, Query, Verify};
