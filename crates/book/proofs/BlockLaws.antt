@@ -9,7 +9,7 @@ use lib.Dec.{leb, ltb}
 use Rattle.tariff.specs.Sum.{anyBelow, anyOf}
 use Rattle.tariff.specs.declared.load.Metered.the-variants.{Unequal, Broken, Missing, Kw}
 use Rattle.tariff.specs.Load.{Block, blocksBroken, tooManyMissing}
-use Rattle.tariff.specs.Metered.{blocksOf, unlessRefused}
+use Rattle.tariff.specs.Metered.{blocksOf, unlessRefused, meteredBy, blockRefusal}
 use Rattle.tariff.specs.Ranges.{mostKw, within, wrongTerm}
 use Rattle.tariff.proofs.Lists.{list-is, any-list-to}
 use Rattle.tariff.proofs.Blocks.{kws-of, any-of-map}
@@ -45,37 +45,37 @@ range-of-blocks term contract n fs hs ks p q =
 module _ (n : ℕ) (bs : List Block) (kw : ℕ) where
   -- blocks that the function takes for broken, or for too few, are; of those that it gives a kW for, neither holds
   pub broken-told : Broken ≡ unlessRefused n bs kw → blocksBroken n bs ≡ true
-  unfolding unlessRefused
+  unfolding unlessRefused meteredBy blockRefusal
   broken-told e = go (blocksBroken n bs) (tooManyMissing n bs) e
     where
-      go : (x y : Bool) → Broken ≡ cond x Broken (cond y Missing (Kw kw)) → x ≡ true
+      go : (x y : Bool) → Broken ≡ meteredBy (cond x 6 (cond y 7 0)) kw → x ≡ true
       go true y q = refl
       go false true q = cc
       go false false q = cc
 
   pub missing-told : Missing ≡ unlessRefused n bs kw → (blocksBroken n bs ≡ false) × (tooManyMissing n bs ≡ true)
-  unfolding unlessRefused
+  unfolding unlessRefused meteredBy blockRefusal
   missing-told e = go (blocksBroken n bs) (tooManyMissing n bs) e
     where
-      go : (x y : Bool) → Missing ≡ cond x Broken (cond y Missing (Kw kw)) → (x ≡ false) × (y ≡ true)
+      go : (x y : Bool) → Missing ≡ meteredBy (cond x 6 (cond y 7 0)) kw → (x ≡ false) × (y ≡ true)
       go true y q = (cc, cc)
       go false true q = (refl, refl)
       go false false q = (refl, cc)
 
   pub kw-told : (x : ℕ) → Kw x ≡ unlessRefused n bs kw → (blocksBroken n bs ≡ false) × (tooManyMissing n bs ≡ false) × (x ≡ kw)
-  unfolding unlessRefused
+  unfolding unlessRefused meteredBy blockRefusal
   kw-told x e = go (blocksBroken n bs) (tooManyMissing n bs) e
     where
-      go : (a b : Bool) → Kw x ≡ cond a Broken (cond b Missing (Kw kw)) → (a ≡ false) × (b ≡ false) × (x ≡ kw)
+      go : (a b : Bool) → Kw x ≡ meteredBy (cond a 6 (cond b 7 0)) kw → (a ≡ false) × (b ≡ false) × (x ≡ kw)
       go true b q = (cc, cc, cc)
       go false true q = (refl, cc, cc)
       go false false q = (refl, refl, cc)
 
   pub never-unequal : Unequal ≡ unlessRefused n bs kw → ⊥
-  unfolding unlessRefused
+  unfolding unlessRefused meteredBy blockRefusal
   never-unequal e = go (blocksBroken n bs) (tooManyMissing n bs) e
     where
-      go : (x y : Bool) → Unequal ≡ cond x Broken (cond y Missing (Kw kw)) → ⊥
+      go : (x y : Bool) → Unequal ≡ meteredBy (cond x 6 (cond y 7 0)) kw → ⊥
       go true y q = let z : _≡_ {A = ℕ} 0 1 = cc in omega arith
       go false true q = let z : _≡_ {A = ℕ} 0 1 = cc in omega arith
       go false false q = let z : _≡_ {A = ℕ} 0 1 = cc in omega arith

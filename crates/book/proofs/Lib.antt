@@ -27,3 +27,5 @@ pub mod LoadLaws
 pub mod PostingLaws
 pub mod LoadHanded
 pub mod GoingOn
+pub mod ClassLineLaws
+pub mod ClassLineCalls

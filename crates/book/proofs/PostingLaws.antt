@@ -10,7 +10,7 @@ use borrow.Author.Tests.{eqb-true, eq-eqb, ne-eqb}
 use Rattle.tariff.specs.declared.load.Metered.{Metered}
 use Rattle.tariff.specs.declared.load.Metered.the-variants.{Unequal, Broken, Missing, Kw as Posted}
 use Rattle.tariff.specs.Load.{Block, loadPosted}
-use Rattle.tariff.specs.Metered.{blocksOf, sameLengths, unlessRefused, postedOf}
+use Rattle.tariff.specs.Metered.{blocksOf, sameLengths, unlessRefused, postedOf, meteredBy}
 use Rattle.tariff.proofs.Tests.{and-both}
 use Rattle.ledger.specs.Call.{Call, load}
 use Rattle.ledger.specs.Numbers.{Cause, firstMet}
@@ -97,8 +97,8 @@ module _ (b : Book) (h s term contract n : ℕ) (fs hs ks : List ℕ) where
 
   module _ {early : ℕ} {notFor subLap : Bool} {given : Metered} (w : Passed early notFor subLap given) where
     told : {m : Metered} → given ≡ m → m ≡ unlessRefused n blocks (loadPosted contract blocks)
-    unfolding postedOf
-    told same = sym same ∙ w .metered ∙ ap (λ t. cond t (unlessRefused n blocks (loadPosted contract blocks)) Unequal) (w .even)
+    unfolding postedOf meteredBy
+    told same = sym same ∙ w .metered ∙ ap (λ t. cond t (unlessRefused n blocks (loadPosted contract blocks)) (meteredBy 1 0)) (w .even)
 
     -- a number that the later causes come to is the refusal
     late : (r : ℕ) → r ≡ firstMet (drop 4 (causes blocks)) → r ≡ number

@@ -6,7 +6,7 @@ use Rattle.tariff.specs.declared.evidence.Entry.{Entry}
 use Rattle.tariff.specs.declared.evidence.Filing.{Filing}
 use Rattle.tariff.specs.declared.evidence.Filing.the-variants.{OutOfRange, Filed}
 use Rattle.tariff.specs.Evidence.{noEntry, entryOf}
-use Rattle.tariff.specs.Filing.{filingOf}
+use Rattle.tariff.specs.Filing.{filingOf, filingBy}
 use Rattle.tariff.specs.Ranges.{wrongEvidence}
 use Rattle.ledger.specs.Opening.{Opening}
 use Rattle.ledger.specs.Ledger.{Ledger, withPapers}
@@ -29,8 +29,8 @@ entry-in (Filed e) = e
 
 -- evidence in range is filed
 pub in-range-filed : (kind capacity right first last : ℕ) → wrongEvidence kind capacity right first last ≡ false → filingOf kind capacity right first last ≡ Filed (entryOf kind capacity right first last)
-unfolding filingOf
-in-range-filed kind capacity right first last e = ap (λ b. cond b OutOfRange (Filed (entryOf kind capacity right first last))) e
+unfolding filingOf filingBy
+in-range-filed kind capacity right first last e = ap (λ b. filingBy (cond b 3 0) (entryOf kind capacity right first last)) e
 
 pub accepted-in-range : (o : Opening) (L : Ledger) (h s kind capacity right first last : ℕ) → accepted o L (verify h s kind capacity right first last) ≡ true → wrongEvidence kind capacity right first last ≡ false
 unfolding callCauses verifyCauses

@@ -7,3 +7,4 @@ pub mod SeasonTheorem
 pub mod Moving
 pub mod Lines
 pub mod Posting
+pub mod ClassLines

@@ -51,8 +51,8 @@ pub record SeasonHolds (o : Opening) (cs : List Call) (last : Book) : Type 0 whe
   -- 3. Rights and loads are conserved: what the holders have is what the accepted calls brought in.
   pub rightsConserved : (p m : ℕ) → isMonth m ≡ true → net o (ledgerOf last) p m ≡ carriedIn o cs p + awardedIn o cs p m
   pub loadsConserved : (s t : ℕ) → sumTo (o .holders) (λ h. ledgerOf last .loads .kw h s t) ≡ postedIn o cs s t
-  -- 4. Nothing goes below zero: no accepted migration took more from a record than it had.
-  pub neverBelowZero : (before later : List Call) (term sink : ℕ) (lines : List ClassLine) → cs ≡ before ++ (migrate term sink lines ∷ later) → accepted o (after o before) (migrate term sink lines) ≡ true → (h : ℕ) → h < o .holders → TakesNoMore o (after o before) term sink lines h
+  -- 4. Nothing goes below zero: no accepted migration took more from a record than it had, and what each record has after it is accounted for.
+  pub neverBelowZero : (before later : List Call) (term sink : ℕ) (lines : List ClassLine) → cs ≡ before ++ (migrate term sink lines ∷ later) → accepted o (after o before) (migrate term sink lines) ≡ true → (h : ℕ) → h < o .holders → TakesNoMore o (after o before) term sink lines (step o (after o before) (migrate term sink lines)) h
   -- 5. From each accepted open to the tier's close, or so far, a holder's nominations at a base are within the limit before that open.
   pub withinLimit : (before later : List Call) (tier : ℕ) → cs ≡ before ++ (openTier tier ∷ later) → accepted o (after o before) (openTier tier) ≡ true → (h b : ℕ) → nominatedIn o (step o (after o before) (openTier tier)) later h b ≤ tierLimit o (after o before) tier h b
 

@@ -3,6 +3,7 @@
 pub mod award;
 pub mod book;
 pub mod carry;
+pub mod class_lines;
 pub mod holdings;
 pub mod limits;
 pub mod load;

@@ -2,13 +2,16 @@
 -- Said by sums alone: a difference that stops at 0 could hide a loss.
 use Prim.Native.Nat.{ℕ, _+_, _≤_}
 use mathlib.Core.Path.{_≡_}
+use mathlib.Core.Bool.{Bool, not, _&&_}
 use mathlib.Core.List.{List}
+use lib.Dec.{eqb}
 use Rattle.tariff.specs.declared.migration.ClassLine.{ClassLine}
-use Rattle.tariff.specs.Sum.{sumTo}
+use Rattle.tariff.specs.Sum.{countIf, sumTo}
+use Rattle.tariff.specs.Terms.{hasMonth}
 use Rattle.tariff.specs.Migration.{netted, lostBy, shares}
-use Rattle.ledger.specs.Opening.{Opening}
+use Rattle.ledger.specs.Opening.{Opening, endsAt}
 use Rattle.ledger.specs.Ledger.{Ledger}
-use Rattle.ledger.specs.Moves.{loadBefore, loadAfter, columnAfter}
+use Rattle.ledger.specs.Moves.{loadBefore}
 
 module _ (o : Opening) (L : Ledger) (term sink : ℕ) (lines : List ClassLine) where
   -- what holder i gives of its record to all others, and what it gains of theirs; v is the holders' column of records before the call
@@ -18,9 +21,24 @@ module _ (o : Opening) (L : Ledger) (term sink : ℕ) (lines : List ClassLine) w
   unfoldable pub gained : (ℕ → ℕ) → ℕ → ℕ
   gained v i = sumTo (o .holders) (λ j. shares (netted lines) (loadBefore L term sink) v j i)
 
-  -- a holder gives no more load, and of no record more, than it has; what it has afterwards with what it gave is what it had with what it gained
-  pub record TakesNoMore (i : ℕ) : Type 0 where
-    pub loadCovers : lostBy (o .holders) (netted lines) i ≤ loadBefore L term sink i
-    pub loadBalance : loadAfter o lines (loadBefore L term sink) i + lostBy (o .holders) (netted lines) i ≡ loadBefore L term sink i + sumTo (o .holders) (λ j. netted lines j i)
-    pub recordCovers : (v : ℕ → ℕ) → given v i ≤ v i
-    pub recordBalance : (v : ℕ → ℕ) → columnAfter o L term sink lines v i + given v i ≡ v i + gained v i
+  -- the load that holder i gives to all others, and that it gains
+  unfoldable pub loadGiven : ℕ → ℕ
+  loadGiven i = lostBy (o .holders) (netted lines) i
+
+  unfoldable pub loadGained : ℕ → ℕ
+  loadGained i = sumTo (o .holders) (λ j. netted lines j i)
+
+  -- a record of holder i: what it gives is no more than it has, and what it has afterwards with what it gave is what it had with what it gained;
+  -- one that does not take part gives and gains nothing
+  pub record Taken (takesPart : Bool) (v : ℕ → ℕ) (afterwards i : ℕ) : Type 0 where
+    pub covers : countIf takesPart (given v i) ≤ v i
+    pub balance : afterwards + countIf takesPart (given v i) ≡ v i + countIf takesPart (gained v i)
+
+  -- every record of holder i, from the ledger L before the call to the ledger N after it
+  pub record TakesNoMore (N : Ledger) (i : ℕ) : Type 0 where
+    pub loadCovers : loadGiven i ≤ L .loads .kw i sink term
+    pub loads : (s t : ℕ) → N .loads .kw i s t + countIf (eqb s sink && eqb t term) (loadGiven i) ≡ L .loads .kw i s t + countIf (eqb s sink && eqb t term) (loadGained i)
+    pub carried : (p m : ℕ) → Taken (endsAt o sink p && hasMonth term m) (λ h. L .rights .carried h p m) (N .rights .carried i p m) i
+    pub awarded : (p m : ℕ) → Taken (endsAt o sink p && hasMonth term m && not (eqb term 0)) (λ h. L .rights .awarded h p m) (N .rights .awarded i p m) i
+    pub allocated : (p : ℕ) → Taken (endsAt o sink p && eqb term 0) (λ h. L .priors .allocated h p) (N .priors .allocated i p) i
+    pub renewable : (p : ℕ) → Taken (endsAt o sink p && eqb term 0) (λ h. L .priors .renewable h p) (N .priors .renewable i p) i

@@ -3,10 +3,11 @@ use Prim.Native.Nat.{ℕ, _≤_, _<_}
 use native.Mathlib.Omega.{arith}
 use lib.ListN.{length, length-append}
 use Rattle.ledger.specs.Season.{Answer, done, value, refused}
-use Rattle.script.specs.Text.{bytesOf}
-use Rattle.script.specs.Answers.{decimal, textOf}
-use Rattle.script.specs.Writing.{leastOfThirteenDigits, Writable}
-use Rattle.script.proofs.DigitLaws.{digits-few}
+use Rattle.lines.specs.Text.{bytesOf, decimal}
+use Rattle.lines.specs.Writing.{leastOfThirteenDigits}
+use Rattle.lines.proofs.DigitLaws.{digits-few}
+use Rattle.script.specs.Answers.{textOf}
+use Rattle.script.specs.Writing.{Writable}
 
 -- a number of at most twelve digits
 pub decimal-few : (v : ℕ) → v < leastOfThirteenDigits → length (decimal v) ≤ 12

@@ -5,7 +5,7 @@ use mathlib.Core.List.{List, [], _∷_}
 use native.Mathlib.Nat.{le-trans}
 use native.Mathlib.Omega.{arith}
 use lib.ListN.{length, take, drop, length-drop}
-use Rattle.script.specs.declared.rows.Row.{Row}
+use Rattle.lines.specs.declared.rows.Row.{Row}
 use Rattle.script.specs.Groups.{linesCounted, asksOf, groupsFrom, groupsOf}
 
 -- what is left after a drop is no longer than before

@@ -8,9 +8,9 @@ use Rattle.book.specs.declared.book.Book.{Book}
 use Rattle.book.specs.declared.book.Answer.{Answer}
 use Rattle.book.specs.declared.book.Answered.{Answered}
 use Rattle.book.specs.Handed.{refusedWith, handed, told}
-use Rattle.script.specs.declared.rows.Row.{Row}
-use Rattle.script.specs.Rows.{loadLine, blockLine, carryLine, priorLine, verifyLine, migrateLine, classLine, openLine, nominateLine, awardLine, closeLine, limitLine, heldLine, netLine}
-use Rattle.script.specs.Groups.{field, counted, blockOf, classLineOf, Asked, nothing, asked, lookUp, whole, asksOf}
+use Rattle.lines.specs.declared.rows.Row.{Row}
+use Rattle.lines.specs.Rows.{loadLine, blockLine, carryLine, priorLine, verifyLine, migrateLine, classLine, openLine, nominateLine, awardLine, closeLine, limitLine, heldLine, netLine, field, counted}
+use Rattle.script.specs.Groups.{blockOf, classLineOf, Asked, nothing, asked, lookUp, whole, asksOf}
 use Rattle.script.specs.Heads.{NoCall}
 use Rattle.script.specs.Played.{answeredTo}
 use mathlib.Core.List.{map}

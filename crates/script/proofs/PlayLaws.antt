@@ -11,22 +11,23 @@ use Rattle.ledger.specs.Season.{call, query}
 use Rattle.book.specs.declared.book.Book.{Book}
 use Rattle.book.specs.Handed.{answerIn, refusedWith}
 use Rattle.book.specs.Reached.{Reached}
+use Rattle.lines.specs.Rows.{rowsOf}
+use Rattle.lines.specs.Text.{linesOf}
+use Rattle.lines.specs.Reading.{nextRow}
+use Rattle.lines.specs.Counted.{bytesOfLines, rowsCounted}
+use Rattle.lines.specs.Writing.{writtenAt}
+use Rattle.lines.proofs.RowSteps.{first-row, used-some, used-within}
+use Rattle.lines.proofs.LineBytes.{bytes-within, rows-after}
+use Rattle.lines.proofs.FieldLaws.{rest-whole}
+use Rattle.lines.proofs.WritingLaws.{written-length, written-again}
 use Rattle.script.specs.declared.groups.Told.{Told}
-use Rattle.script.specs.Rows.{rowsOf}
-use Rattle.script.specs.Text.{linesOf}
 use Rattle.script.specs.Groups.{Asked, nothing, asked, linesCounted, asksOf, groupsFrom, groupsOf}
 use Rattle.script.specs.Answers.{textOf, textsOf}
-use Rattle.script.specs.Reading.{nextRow}
-use Rattle.script.specs.Counted.{bytesOfLines, rowsCounted}
 use Rattle.script.specs.Played.{answeredTo, answersOf, textFrom}
-use Rattle.script.specs.Writing.{writtenAt, Writable}
+use Rattle.script.specs.Writing.{Writable}
 use Rattle.script.specs.Told.{groupAsked, groupBytes, toldWith, toldFirst}
-use Rattle.script.proofs.RowSteps.{first-row, used-some, used-within}
-use Rattle.script.proofs.LineBytes.{bytes-within, rows-after}
-use Rattle.script.proofs.FieldLaws.{rest-whole}
 use Rattle.script.proofs.GroupLaws.{first-group, drop-shorter}
 use Rattle.script.proofs.PlayedLaws.{answered-reached}
-use Rattle.script.proofs.WritingLaws.{written-length, written-again}
 use Rattle.script.proofs.AnswerLaws.{text-short}
 use Rattle.script.proofs.WritableLaws.{handed-writable, told-writable}
 

@@ -4,22 +4,17 @@ use mathlib.Core.Path.{_≡_, refl, sym, ap, _∙_}
 use mathlib.Core.Bool.{true}
 use mathlib.Core.List.{List, [], _∷_, map}
 use native.Mathlib.Omega.{arith}
-use lib.ListN.{length, take, drop, getD, length-map, List·getD-map}
+use lib.ListN.{length, getD, length-map, List·getD-map}
 use lib.Dec.{eqb}
-use lib.Seq.{take-at, ext-getD}
+use lib.Seq.{ext-getD}
 use borrow.Author.Tests.{eq-eqb}
 use Rattle.tariff.proofs.Tests.{and-join}
 use Rattle.tariff.specs.Metered.{blocksOf, sameLengths}
 use Rattle.tariff.specs.Netting.{classLineAt, classLinesOf, sameCounts}
 use Rattle.tariff.proofs.Lists.{length-list-to, at-list-to}
-use Rattle.script.specs.declared.rows.Row.{Row}
-use Rattle.script.specs.Groups.{field, blockOf, classLineOf}
-use Rattle.script.specs.Counted.{withField}
-
--- as much of an array as there are rows
-pub fields-kept : (j n : ℕ) (rows : List Row) (numbers : List ℕ) → length rows ≡ n → take n (withField j rows numbers) ≡ map (field j) rows
-unfolding withField
-fields-kept j n rows numbers e = take-at (map (field j) rows) (drop (length rows) numbers) n (length-map rows (field j) ∙ e)
+use Rattle.lines.specs.declared.rows.Row.{Row}
+use Rattle.lines.specs.Rows.{field}
+use Rattle.script.specs.Groups.{blockOf, classLineOf}
 
 pub blocks-of-rows : (rows : List Row) → blocksOf (map (field 0) rows) (map (field 1) rows) (map (field 2) rows) ≡ map blockOf rows
 unfolding blocksOf blockOf

@@ -17,17 +17,17 @@ use Rattle.book.specs.declared.book.Answer.the-variants.{Done, Refused}
 use Rattle.book.specs.Handed.{answerIn}
 use Rattle.book.specs.Opened.{openedAs}
 use Rattle.book.proofs.SeasonAnswers.{opened-at}
-use Rattle.script.specs.declared.rows.Row.{Row}
-use Rattle.script.specs.Text.{linesOf}
-use Rattle.script.specs.Rows.{rowsOf}
+use Rattle.lines.specs.declared.rows.Row.{Row}
+use Rattle.lines.specs.Text.{linesOf}
+use Rattle.lines.specs.Rows.{rowsOf}
+use Rattle.lines.specs.Reading.{nextRow}
+use Rattle.lines.specs.Writing.{writtenAt}
+use Rattle.lines.proofs.RowSteps.{first-row}
 use Rattle.script.specs.Groups.{groupsOf, bookReadable, openingOfRows, callRows}
 use Rattle.script.specs.Answers.{answersTo, answersAfter, scriptAnswers, textOf, textsOf}
-use Rattle.script.specs.Reading.{nextRow}
 use Rattle.script.specs.Played.{answersOf, textFrom}
 use Rattle.script.specs.Started.{startedWith, startedOf}
-use Rattle.script.specs.Writing.{writtenAt}
-use Rattle.script.specs.Run.{tooLong, tooShort, answersText, written, runNumber, outputAfter}
-use Rattle.script.proofs.RowSteps.{first-row}
+use Rattle.script.specs.Run.{tooLong, tooShort, answersText, written, runRefusal, runNumber, outputAfter}
 use Rattle.script.proofs.PlayedLaws.{played}
 use Rattle.script.proofs.StartedLaws.{start-readable}
 
@@ -94,7 +94,7 @@ either false b e = e
 
 module _ (script out : List ℕ) where
   long : tooLong script ≡ true → (1000000 ≡ runNumber script out) × (out ≡ outputAfter script out)
-  unfolding runNumber outputAfter written
+  unfolding runNumber runRefusal outputAfter written
   long e = rw e (refl, refl)
 
   pub long-bytes : 65536 < length script → (1000000 ≡ runNumber script out) × (out ≡ outputAfter script out)
@@ -111,12 +111,12 @@ module _ (script out : List ℕ) where
     not-long = rw (le-ltb 65536 (length script) bytes) (le-ltb 4096 (length (linesOf script)) lines)
 
     pub short-output : length out < 16 * length (linesOf script) → (15000000 ≡ runNumber script out) × (out ≡ outputAfter script out)
-    unfolding runNumber outputAfter written tooShort
+    unfolding runNumber runRefusal outputAfter written tooShort
     short-output l = rw not-long (rw (lt-ltb (length out) (16 * length (linesOf script)) l) (refl, refl))
 
     pub a-run : 16 * length (linesOf script) ≤ length out → (number : ℕ) (out₁ : List ℕ) → number ≡ length (answersText script) → out₁ ≡ writtenAt out 0 (answersText script) → (number ≡ runNumber script out) × (out₁ ≡ outputAfter script out)
-    unfolding runNumber outputAfter written tooShort
-    a-run room number out₁ n o = rw not-long (rw (le-ltb (length out) (16 * length (linesOf script)) room) (n, o ∙ from-start out (answersText script)))
+    unfolding runNumber runRefusal outputAfter written tooShort
+    a-run room number out₁ n o = rw not-long (rw (le-ltb (length out) (16 * length (linesOf script)) room) (let same = n in omega arith, o ∙ from-start out (answersText script)))
 
 no-answers : answersText [] ≡ []
 unfolding answersText rowsOf linesOf scriptAnswers textsOf

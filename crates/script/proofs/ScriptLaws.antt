@@ -8,20 +8,21 @@ use native.Mathlib.Omega.{arith}
 use lib.ListN.{length, drop, length-append}
 use Rattle.book.specs.Handed.{answerIn}
 use Rattle.book.specs.Reached.{Reached}
+use Rattle.lines.specs.Rows.{rowsOf, field}
+use Rattle.lines.specs.Reading.{nextRow}
+use Rattle.lines.specs.Writing.{writtenAt}
+use Rattle.lines.proofs.RowSteps.{first-row}
+use Rattle.lines.proofs.WritingLaws.{written-length, written-again}
 use Rattle.script.specs.declared.opened.Started.{Started}
-use Rattle.script.specs.Rows.{rowsOf}
-use Rattle.script.specs.Groups.{field, callRows}
+use Rattle.script.specs.Groups.{callRows}
 use Rattle.script.specs.Answers.{textOf}
-use Rattle.script.specs.Reading.{nextRow}
 use Rattle.script.specs.Played.{textFrom}
 use Rattle.script.specs.Started.{startedOf}
-use Rattle.script.specs.Writing.{writtenAt, Writable}
+use Rattle.script.specs.Writing.{Writable}
 use Rattle.script.specs.Run.{answersText}
-use Rattle.script.proofs.RowSteps.{first-row}
 use Rattle.script.proofs.GroupLaws.{drop-shorter}
 use Rattle.script.proofs.StartedLaws.{start-readable, start-within, start-reached, start-writable}
 use Rattle.script.proofs.AnswerLaws.{text-short}
-use Rattle.script.proofs.WritingLaws.{written-length, written-again}
 use Rattle.script.proofs.RunLaws.{run-stops, run-goes-on}
 
 module _ (script out : List ℕ) (some : 1 ≤ length script) (few : length (rowsOf script) ≤ 4096) (room : 16 * length (rowsOf script) ≤ length out) (x : Started) (is : x ≡ startedOf script) where

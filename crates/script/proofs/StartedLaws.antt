@@ -18,19 +18,20 @@ use Rattle.book.specs.Handed.{answerIn}
 use Rattle.book.specs.Opened.{openedAs}
 use Rattle.book.specs.Reached.{Reached}
 use Rattle.book.proofs.OpenedLaws.{opened-reached}
-use Rattle.script.specs.declared.rows.Row.{Row}
-use Rattle.script.specs.declared.counted.Counted.{Counted}
-use Rattle.script.specs.declared.lines.NextRow.{NextRow}
+use Rattle.lines.specs.declared.rows.Row.{Row}
+use Rattle.lines.specs.declared.counted.Counted.{Counted}
+use Rattle.lines.specs.declared.lines.NextRow.{NextRow}
+use Rattle.lines.specs.Rows.{rowsOf, bookLine, holderLine, sinkLine, pathLine, field, allOfKind, counted, holderRows, sinkRows, pathRows}
+use Rattle.lines.specs.Reading.{nextRow}
+use Rattle.lines.specs.Counted.{bytesOfLines}
+use Rattle.lines.specs.BookLines.{keeps, bookLinesWhole, bookLinesOf}
+use Rattle.lines.proofs.KeptFields.{take-all}
+use Rattle.lines.proofs.RowSteps.{used-within}
+use Rattle.lines.proofs.LineBytes.{bytes-within, rows-after}
 use Rattle.script.specs.declared.opened.Started.{Started}
-use Rattle.script.specs.Rows.{rowsOf, bookLine, holderLine, sinkLine, pathLine}
-use Rattle.script.specs.Groups.{field, allOfKind, counted, holderRows, sinkRows, pathRows, bookReadable, openingOfRows, callRows}
-use Rattle.script.specs.Reading.{nextRow}
-use Rattle.script.specs.Counted.{bytesOfLines}
+use Rattle.script.specs.Groups.{bookReadable, openingOfRows, callRows}
 use Rattle.script.specs.Writing.{Writable}
-use Rattle.script.specs.Started.{isDone, keeps, bookLinesWhole, bookLinesOf, startedWith, startedOf}
-use Rattle.script.proofs.KeptFields.{take-all}
-use Rattle.script.proofs.RowSteps.{used-within}
-use Rattle.script.proofs.LineBytes.{bytes-within, rows-after}
+use Rattle.script.specs.Started.{isDone, startedWith, startedOf}
 use Rattle.script.proofs.WritableLaws.{opening-refusal-small}
 
 -- the head is one line
@@ -143,8 +144,8 @@ module _ (head : Row) (rest : List ℕ) (lines : Counted) (e : lines ≡ bookLin
           ∙ (λ i. record { answer = cond (so i) (openedAs o .answer) (Refused 1); book = openedAs (cond (so i) o emptyOpening) .book; used = used + bytesOfLines (field 0 head + field 2 head + field 3 head) rest; «goes_on» = so i && legal o })
 
   -- and what is answered where they are not
-  pub started-refused : (lines .whole && eqb (head .kind) bookLine) ≡ false → (used : ℕ) (opened : Answered) → opened ≡ openedAs (openingFrom 0 0 0 0 [] [] [] [] []) → _≡_ {A = Started} (record { answer = Refused 1; book = opened .book; used = used + lines .used; «goes_on» = false }) (startedWith head rows (used + bytesOfLines (field 0 head + field 2 head + field 3 head) rest))
-  unfolding startedWith openingFrom emptyOpening
+  pub started-refused : (lines .whole && eqb (head .kind) bookLine) ≡ false → (used : ℕ) (opened : Answered) → opened ≡ openedAs emptyOpening → _≡_ {A = Started} (record { answer = Refused 1; book = opened .book; used = used + lines .used; «goes_on» = false }) (startedWith head rows (used + bytesOfLines (field 0 head + field 2 head + field 3 head) rest))
+  unfolding startedWith
   started-refused unread used opened eo =
       let o = openingOfRows head rows in
       let so = sym (sym is-readable ∙ unread) in

@@ -19,20 +19,21 @@ use Rattle.book.specs.declared.book.Answered.{Answered}
 use Rattle.book.specs.Handed.{refusedWith, handed}
 use Rattle.book.specs.Posting.{handedBlocks}
 use Rattle.book.specs.Lines.{handedLines}
-use Rattle.script.specs.declared.rows.Row.{Row}
-use Rattle.script.specs.declared.counted.Counted.{Counted}
+use Rattle.lines.specs.declared.rows.Row.{Row}
+use Rattle.lines.specs.declared.counted.Counted.{Counted}
+use Rattle.lines.specs.declared.lines.NextRow.{NextRow}
+use Rattle.lines.specs.Rows.{rowsOf, loadLine, migrateLine, field, counted, allOfKind}
+use Rattle.lines.specs.Reading.{nextRow}
+use Rattle.lines.specs.Counted.{bytesOfLines, rowsCounted, countedOf, withField}
+use Rattle.lines.proofs.FieldLaws.{rest-whole}
+use Rattle.lines.proofs.RowSteps.{used-within}
+use Rattle.lines.proofs.LineBytes.{bytes-within, rows-after}
+use Rattle.lines.proofs.KeptFields.{fields-kept}
 use Rattle.script.specs.declared.groups.Told.{Told}
-use Rattle.script.specs.declared.lines.NextRow.{NextRow}
-use Rattle.script.specs.Rows.{rowsOf, loadLine, migrateLine}
-use Rattle.script.specs.Groups.{field, counted, allOfKind, blockOf, classLineOf, asked, linesCounted, whole, asksOf}
-use Rattle.script.specs.Reading.{nextRow}
-use Rattle.script.specs.Counted.{bytesOfLines, rowsCounted, countedOf, withField}
+use Rattle.script.specs.Groups.{blockOf, classLineOf, asked, linesCounted, whole, asksOf}
 use Rattle.script.specs.Played.{answeredTo}
 use Rattle.script.specs.Told.{toldWith, toldHead, groupAsked, groupBytes, toldFirst}
-use Rattle.script.proofs.FieldLaws.{rest-whole}
-use Rattle.script.proofs.RowSteps.{used-within}
-use Rattle.script.proofs.LineBytes.{bytes-within, rows-after}
-use Rattle.script.proofs.RowLists.{fields-kept, blocks-of-rows, blocks-even, class-lines-of-rows, class-lines-even}
+use Rattle.script.proofs.RowLists.{blocks-of-rows, blocks-even, class-lines-of-rows, class-lines-even}
 
 -- counted lines are at most those that are left
 rows-few : (n : ℕ) (s : List ℕ) → length (rowsCounted n s) ≤ length (rowsOf s)

@@ -28,7 +28,8 @@ use Rattle.book.proofs.HeldLaws.{held-names, net-names}
 use Rattle.book.proofs.LimitLaws.{limit-holder}
 use Rattle.book.proofs.ReachedSteps.{at-answer, at-told}
 use Rattle.book.proofs.SeasonAnswers.{answer-back}
-use Rattle.script.specs.Writing.{leastOfThirteenDigits, Writable}
+use Rattle.lines.specs.Writing.{leastOfThirteenDigits}
+use Rattle.script.specs.Writing.{Writable}
 
 -- each cause of a list has a number of two digits
 unfoldable twoDigits : List Cause → Bool

@@ -1,13 +1,12 @@
 -- What a script is answered, and the bytes of an answer (01, Script and host).
-use Prim.Native.Nat.{ℕ, zero, suc, _+_, _/_, _%_}
+use Prim.Native.Nat.{ℕ, _/_, _%_}
 use mathlib.Core.Bool.{cond}
 use mathlib.Core.List.{List, [], _∷_, _++_}
-use lib.Dec.{ltb}
 use Rattle.ledger.specs.Opening.{Opening, legal, openingRefusal}
 use Rattle.ledger.specs.Ledger.{Ledger, emptyLedger}
 use Rattle.ledger.specs.Season.{Answer, done, value, refused, answer, stepAsk}
-use Rattle.script.specs.declared.rows.Row.{Row}
-use Rattle.script.specs.Text.{bytesOf, lineFeed}
+use Rattle.lines.specs.declared.rows.Row.{Row}
+use Rattle.lines.specs.Text.{bytesOf, lineFeed, digit, decimal}
 use Rattle.script.specs.Groups.{Asked, nothing, asked, groupsOf, bookReadable, openingOfRows, callRows}
 
 -- a group with an unreadable or absent line gets one 1 and is passed over
@@ -24,19 +23,6 @@ answersAfter o rows = cond (legal o) (done ∷ answersTo o emptyLedger (groupsOf
 unfoldable pub scriptAnswers : List Row → List Answer
 scriptAnswers [] = []
 scriptAnswers (head ∷ rows) = cond (bookReadable head rows) (answersAfter (openingOfRows head rows) (callRows head rows)) (refused 1 ∷ [])
-
--- the byte of a digit
-unfoldable pub digit : ℕ → ℕ
-digit d = 48 + d
-
--- the decimal digits of a number that has at most so many
-unfoldable pub digitsOf : ℕ → ℕ → List ℕ
-digitsOf zero v = []
-digitsOf (suc most) v = cond (ltb v 10) (digit v ∷ []) (digitsOf most (v / 10) ++ (digit (v % 10) ∷ []))
-
--- a number of 64 bits has at most 20
-unfoldable pub decimal : ℕ → List ℕ
-decimal v = digitsOf 20 v
 
 -- ok, ok,V or no,NN; a refusal's number has two digits
 unfoldable pub textOf : Answer → List ℕ

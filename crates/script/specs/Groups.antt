@@ -1,28 +1,16 @@
 -- Groups: a head and the lines that it counts, and what they ask of the book (01, Script and host).
 use Prim.Native.Nat.{ℕ, zero, suc, _+_}
-use mathlib.Core.Bool.{Bool, true, cond, _&&_}
+use mathlib.Core.Bool.{Bool, cond, _&&_}
 use mathlib.Core.List.{List, [], _∷_, map}
-use lib.ListN.{length, getD, take, drop}
+use lib.ListN.{length, take, drop}
 use lib.Dec.{eqb}
 use Rattle.tariff.specs.declared.migration.ClassLine.{ClassLine}
 use Rattle.tariff.specs.Load.{Block}
 use Rattle.ledger.specs.Opening.{Opening}
 use Rattle.ledger.specs.Call.{load, carry, prior, verify, migrate, openTier, nominate, award, closeTier, limitOf, heldOn, netOn}
 use Rattle.ledger.specs.Season.{Ask, call, query}
-use Rattle.script.specs.declared.rows.Row.{Row}
-use Rattle.script.specs.Rows.{bookLine, holderLine, sinkLine, pathLine, loadLine, blockLine, carryLine, priorLine, verifyLine, migrateLine, classLine, openLine, nominateLine, awardLine, closeLine, limitLine, heldLine, netLine}
-
--- a number of a row, counted from 0
-unfoldable pub field : ℕ → Row → ℕ
-field k r = getD (r .fields) k 0
-
--- as many lines as were counted, all of one kind
-unfoldable pub allOfKind : ℕ → List Row → Bool
-allOfKind kind [] = true
-allOfKind kind (r ∷ rows) = eqb (r .kind) kind && allOfKind kind rows
-
-unfoldable pub counted : ℕ → ℕ → List Row → Bool
-counted kind n lines = eqb (length lines) n && allOfKind kind lines
+use Rattle.lines.specs.declared.rows.Row.{Row}
+use Rattle.lines.specs.Rows.{field, counted, bookLine, holderLine, sinkLine, pathLine, loadLine, blockLine, carryLine, priorLine, verifyLine, migrateLine, classLine, openLine, nominateLine, awardLine, closeLine, limitLine, heldLine, netLine, holderRows, sinkRows, pathRows}
 
 unfoldable pub blockOf : Row → Block
 blockOf r = record { first = field 0 r; hours = field 1 r; kw = field 2 r }
@@ -79,23 +67,14 @@ groupsFrom (suc most) (r ∷ rows) = asksOf r (take (linesCounted r) rows) ∷ g
 unfoldable pub groupsOf : List Row → List Asked
 groupsOf rows = groupsFrom (length rows) rows
 
--- the book group: a head, then as many holder, sink and path lines as it counts, in that order
+-- the book group: its head and the rows after that
 module _ (head : Row) (rows : List Row) where
-  unfoldable pub holderRows : List Row
-  holderRows = take (field 0 head) rows
-
-  unfoldable pub sinkRows : List Row
-  sinkRows = take (field 2 head) (drop (field 0 head) rows)
-
-  unfoldable pub pathRows : List Row
-  pathRows = take (field 3 head) (drop (field 0 head + field 2 head) rows)
-
   unfoldable pub bookReadable : Bool
   bookReadable =
       eqb (head .kind) bookLine
-      && counted holderLine (field 0 head) holderRows
-      && counted sinkLine (field 2 head) sinkRows
-      && counted pathLine (field 3 head) pathRows
+      && counted holderLine (field 0 head) (holderRows head rows)
+      && counted sinkLine (field 2 head) (sinkRows head rows)
+      && counted pathLine (field 3 head) (pathRows head rows)
 
   unfoldable pub openingOfRows : Opening
   openingOfRows =
@@ -104,11 +83,11 @@ module _ (head : Row) (rows : List Row) where
         sources = field 1 head;
         sinks = field 2 head;
         paths = field 3 head;
-        holderKinds = map (field 0) holderRows;
-        sinkKinds = map (field 0) sinkRows;
-        sinkParents = map (field 1) sinkRows;
-        pathSources = map (field 0) pathRows;
-        pathSinks = map (field 1) pathRows;
+        holderKinds = map (field 0) (holderRows head rows);
+        sinkKinds = map (field 0) (sinkRows head rows);
+        sinkParents = map (field 1) (sinkRows head rows);
+        pathSources = map (field 0) (pathRows head rows);
+        pathSinks = map (field 1) (pathRows head rows);
       }
 
   -- the rows after the book group

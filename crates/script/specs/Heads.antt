@@ -1,7 +1,7 @@
 -- Heads by kind: those that count lines, and those that are calls.
 use Prim.Native.Nat.{ℕ}
 use mathlib.Core.Path.{_≡_}
-use Rattle.script.specs.Rows.{loadLine, carryLine, priorLine, verifyLine, migrateLine, openLine, nominateLine, awardLine, closeLine}
+use Rattle.lines.specs.Rows.{loadLine, carryLine, priorLine, verifyLine, migrateLine, openLine, nominateLine, awardLine, closeLine}
 
 -- all but load and migrate
 pub record CountsNoLines (kind : ℕ) : Type 0 where

@@ -1,11 +1,7 @@
--- The script's format: bytes, lines, groups, answers, and a run over them.
-pub mod Text
-pub mod Rows
+-- The script's format above its lines: groups, answers, and a run over them.
 pub mod Groups
 pub mod Answers
 pub mod Run
-pub mod Reading
-pub mod Counted
 pub mod Heads
 pub mod Played
 pub mod Writing

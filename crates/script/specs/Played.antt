@@ -6,7 +6,7 @@ use Rattle.book.specs.declared.book.Book.{Book}
 use Rattle.book.specs.declared.book.Answer.{Answer}
 use Rattle.book.specs.declared.book.Answered.{Answered}
 use Rattle.book.specs.Handed.{answerIn, refusedWith, handed, told}
-use Rattle.script.specs.Rows.{rowsOf}
+use Rattle.lines.specs.Rows.{rowsOf}
 use Rattle.script.specs.Groups.{Asked, nothing, asked, groupsOf}
 use Rattle.script.specs.Answers.{textsOf}
 

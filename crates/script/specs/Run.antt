@@ -1,11 +1,11 @@
 -- A run over lent bytes: the number that the host gets, and the output buffer (01, Script and host).
-use Prim.Native.Nat.{ℕ, _*_}
+use Prim.Native.Nat.{ℕ, _+_, _*_}
 use mathlib.Core.Bool.{Bool, cond, _||_}
 use mathlib.Core.List.{List, [], _++_}
 use lib.ListN.{length, drop}
 use lib.Dec.{ltb}
-use Rattle.script.specs.Text.{linesOf}
-use Rattle.script.specs.Rows.{rowsOf}
+use Rattle.lines.specs.Text.{linesOf}
+use Rattle.lines.specs.Rows.{rowsOf}
 use Rattle.script.specs.Answers.{scriptAnswers, textsOf}
 
 -- over 65,536 bytes or 4,096 lines is 1
@@ -24,9 +24,13 @@ answersText script = textsOf (scriptAnswers (rowsOf script))
 unfoldable pub written : List ℕ → List ℕ → List ℕ
 written script out = cond (tooLong script) [] (cond (tooShort script out) [] (answersText script))
 
--- the refusal, 0 for a run, times 1,000,000, and the written length
+-- the refusal of a whole script, 0 for a run
+unfoldable pub runRefusal : List ℕ → List ℕ → ℕ
+runRefusal script out = cond (tooLong script) 1 (cond (tooShort script out) 15 0)
+
+-- the refusal times 1,000,000, and the written length
 unfoldable pub runNumber : List ℕ → List ℕ → ℕ
-runNumber script out = cond (tooLong script) 1000000 (cond (tooShort script out) 15000000 (length (answersText script)))
+runNumber script out = runRefusal script out * 1000000 + length (written script out)
 
 -- bytes beyond the written length stay
 unfoldable pub outputAfter : List ℕ → List ℕ → List ℕ

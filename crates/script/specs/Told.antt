@@ -3,11 +3,11 @@ use Prim.Native.Nat.{ℕ, _+_}
 use mathlib.Core.List.{List}
 use lib.ListN.{drop}
 use Rattle.book.specs.declared.book.Book.{Book}
-use Rattle.script.specs.declared.rows.Row.{Row}
+use Rattle.lines.specs.declared.rows.Row.{Row}
+use Rattle.lines.specs.Reading.{nextRow}
+use Rattle.lines.specs.Counted.{bytesOfLines, rowsCounted}
 use Rattle.script.specs.declared.groups.Told.{Told}
 use Rattle.script.specs.Groups.{Asked, linesCounted, asksOf}
-use Rattle.script.specs.Reading.{nextRow}
-use Rattle.script.specs.Counted.{bytesOfLines, rowsCounted}
 use Rattle.script.specs.Played.{answeredTo}
 
 unfoldable pub toldWith : Book → Asked → ℕ → Told

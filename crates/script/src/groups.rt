@@ -1,19 +1,19 @@
 // Groups: a head with the lines that it counts, put to the book (01, Script and host).
-use crate::counted::read_counted;
 use crate::heads::ask_row;
-use crate::lines::next_row;
-use crate::rows::BLOCK;
-use crate::rows::CLASS;
-use crate::rows::LOAD;
-use crate::rows::MIGRATE;
-use crate::rows::Row;
 use book::book::Answer;
 use book::book::Book;
+use lines::counted::read_counted;
+use lines::lines::next_row;
+use lines::rows::BLOCK;
+use lines::rows::CLASS;
+use lines::rows::LOAD;
+use lines::rows::MIGRATE;
+use lines::rows::Row;
 ghost use mathlib.Core.Path.{_≡_};
 ghost use Prim.Native.Nat.{_≤_};
 ghost use lib.ListN.{length};
 ghost use Rattle.book.specs.Reached.{Reached};
-ghost use Rattle.script.specs.Rows.{rowsOf, loadLine, migrateLine};
+ghost use Rattle.lines.specs.Rows.{rowsOf, loadLine, migrateLine};
 ghost use Rattle.script.specs.Told.{toldHead, toldFirst};
 
 // What a group is answered, the book that it hands on, and how many bytes it takes.

@@ -6,9 +6,9 @@ ghost use mathlib.Core.Path.{_≡_};
 ghost use Prim.Native.Nat.{_+_, _*_, _≤_};
 ghost use lib.ListN.{length, drop};
 ghost use Rattle.book.specs.Reached.{Reached};
-ghost use Rattle.script.specs.Rows.{rowsOf};
+ghost use Rattle.lines.specs.Rows.{rowsOf};
+ghost use Rattle.lines.specs.Writing.{writtenAt};
 ghost use Rattle.script.specs.Played.{textFrom};
-ghost use Rattle.script.specs.Writing.{writtenAt};
 
 // Puts what is left of a script to the book and writes the answers from a place on; says where they end.
 pub fn play(

@@ -2,13 +2,13 @@
 use crate::answers::write_answer;
 use crate::opened::start;
 use crate::play::play;
-use crate::text::count_lines;
+use lines::text::count_lines;
 ghost use mathlib.Core.Path.{_≡_};
 ghost use Prim.Native.Nat.{_*_, _≤_};
 ghost use lib.ListN.{length};
-ghost use Rattle.script.specs.Rows.{rowsOf};
+ghost use Rattle.lines.specs.Rows.{rowsOf};
+ghost use Rattle.lines.specs.Writing.{writtenAt};
 ghost use Rattle.script.specs.Run.{answersText, runNumber, outputAfter};
-ghost use Rattle.script.specs.Writing.{writtenAt};
 
 // Answers a script that is neither too long for a run nor too long for the buffer; says how many bytes were written.
 fn answer_script(script: &[u8], out: &mut [u8]) -> usize

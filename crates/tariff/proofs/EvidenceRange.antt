@@ -8,7 +8,7 @@ use Rattle.tariff.specs.Terms.{isMonth}
 use Rattle.tariff.specs.declared.evidence.Evidence.the-variants.{Ownership, Contract}
 use Rattle.tariff.specs.declared.evidence.Filing.the-variants.{OutOfRange, Filed}
 use Rattle.tariff.specs.Evidence.{evidenceOf, entryOf, highestRight}
-use Rattle.tariff.specs.Filing.{filingOf}
+use Rattle.tariff.specs.Filing.{filingOf, filingBy}
 use Rattle.tariff.specs.Ranges.{mostKw, within, wrongKw, wrongMonth, wrongEvidence}
 use Rattle.tariff.proofs.Tests.{or-unmet, and-both, not-or, not-not, not-ltb}
 
@@ -48,13 +48,13 @@ evidence-facts kind capacity right first last e =
 
 -- what a filing comes to
 pub filing-wrong : (kind capacity right first last : ℕ) → wrongEvidence kind capacity right first last ≡ true → filingOf kind capacity right first last ≡ OutOfRange
-unfolding filingOf
+unfolding filingOf filingBy
 filing-wrong kind capacity right first last w = rw w
 
 pub filing-owned : (kind capacity right first last : ℕ) → wrongEvidence kind capacity right first last ≡ false → kind ≡ 1 → filingOf kind capacity right first last ≡ Filed (record { evidence = Ownership capacity right; first = first; last = last })
-unfolding filingOf entryOf evidenceOf
+unfolding filingOf entryOf evidenceOf filingBy
 filing-owned kind capacity right first last w k = rw (w, eq-eqb kind 1 k)
 
 pub filing-contract : (kind capacity right first last : ℕ) → wrongEvidence kind capacity right first last ≡ false → (kind ≡ 1 → ⊥) → filingOf kind capacity right first last ≡ Filed (record { evidence = Contract right; first = first; last = last })
-unfolding filingOf entryOf evidenceOf
+unfolding filingOf entryOf evidenceOf filingBy
 filing-contract kind capacity right first last w k = rw (w, ne-eqb kind 1 k)

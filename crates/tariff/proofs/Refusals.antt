@@ -11,7 +11,7 @@ use Rattle.tariff.specs.declared.load.Metered.{Metered}
 use Rattle.tariff.specs.declared.load.Metered.the-variants.{Unequal, Broken, Missing, Kw}
 use Rattle.tariff.specs.declared.load.InOrder.the-variants.{Hours, Broken as OutOfOrder}
 use Rattle.tariff.specs.Load.{Block, inOrder, isEmpty, blocksBroken, presentHours, missingHours, tooManyMissing, metric, loadPosted}
-use Rattle.tariff.specs.Metered.{blocksOf, sameLengths, unlessRefused, meteredOf, postedOf}
+use Rattle.tariff.specs.Metered.{blocksOf, sameLengths, unlessRefused, meteredOf, postedOf, meteredBy, blockRefusal}
 use Rattle.tariff.specs.Levels.{spansOf, loadsOf, orderedHours, Covering}
 use Rattle.tariff.proofs.Tests.{and-join, and-left-false, and-right-false}
 use Rattle.tariff.proofs.Blocks.{metric-by-loads, present-by-loads, present-by-spans, order-by-spans}
@@ -67,11 +67,11 @@ broken-order n bs e = go (inOrder n 0 bs) refl e
 
 module _ (fs hs ks : List ℕ) (n : ℕ) where
   pub unequal-firsts : (length fs ≡ length hs → ⊥) → Unequal ≡ meteredOf fs hs ks n
-  unfolding meteredOf sameLengths
+  unfolding meteredOf sameLengths meteredBy
   unequal-firsts ne = rw (and-left-false (eqb (length hs) (length ks)) (ne-eqb (length fs) (length hs) ne))
 
   pub unequal-kws : (length hs ≡ length ks → ⊥) → Unequal ≡ meteredOf fs hs ks n
-  unfolding meteredOf sameLengths
+  unfolding meteredOf sameLengths meteredBy
   unequal-kws ne = rw (and-right-false (eqb (length fs) (length hs)) (ne-eqb (length hs) (length ks) ne))
 
   module _ (p : length fs ≡ length hs) (q : length hs ≡ length ks) where
@@ -80,7 +80,7 @@ module _ (fs hs ks : List ℕ) (n : ℕ) where
     same-lengths = and-join (eq-eqb (length fs) (length hs) p) (eq-eqb (length hs) (length ks) q)
 
     refused-broken : blocksBroken n (blocksOf fs hs ks) ≡ true → Broken ≡ meteredOf fs hs ks n
-    unfolding meteredOf unlessRefused
+    unfolding meteredOf unlessRefused meteredBy blockRefusal
     refused-broken e = rw (same-lengths, e)
 
     -- no block
@@ -125,14 +125,14 @@ module _ {fs hs ks : List ℕ} {n present : ℕ} (w : Passed fs hs ks n present)
 
   -- more than 1 hour in 50 is missing
   pub missing-hours : n / 50 < n - present → Missing ≡ meteredOf fs hs ks n
-  unfolding meteredOf unlessRefused
+  unfolding meteredOf unlessRefused meteredBy blockRefusal
   missing-hours l =
       let many = too-many n present (blocksOf fs hs ks) covered l in
       rw (same-lengths fs hs ks n (w .timed) (w .paired), unbroken, many)
 
   -- no refusal
   pub metered : {kw : ℕ} → n - present ≤ n / 50 → kw ≡ metric (loadsOf hs ks) → Kw kw ≡ meteredOf fs hs ks n
-  unfolding meteredOf unlessRefused
+  unfolding meteredOf unlessRefused meteredBy blockRefusal
   metered l found =
       let few = few-enough n present (blocksOf fs hs ks) covered l in
       rw (same-lengths fs hs ks n (w .timed) (w .paired), unbroken, few, found, metric-by-loads fs hs ks (w .timed))
@@ -145,14 +145,14 @@ less contract Missing = Missing
 less contract (Kw kw) = Kw (kw - contract)
 
 posted-is-less : (fs hs ks : List ℕ) (n contract : ℕ) → less contract (meteredOf fs hs ks n) ≡ postedOf fs hs ks n contract
-unfolding meteredOf postedOf unlessRefused loadPosted
+unfolding meteredOf postedOf unlessRefused meteredBy blockRefusal loadPosted
 posted-is-less fs hs ks n contract = go (sameLengths fs hs ks) (blocksBroken n (blocksOf fs hs ks)) (tooManyMissing n (blocksOf fs hs ks))
   where
     kw : ℕ
     kw = metric (blocksOf fs hs ks)
 
-    go : (same broken missing : Bool) → less contract (cond same (cond broken Broken (cond missing Missing (Kw kw))) Unequal)
-        ≡ cond same (cond broken Broken (cond missing Missing (Kw (kw - contract)))) Unequal
+    go : (same broken missing : Bool) → less contract (cond same (meteredBy (cond broken 6 (cond missing 7 0)) kw) (meteredBy 1 0))
+        ≡ cond same (meteredBy (cond broken 6 (cond missing 7 0)) (kw - contract)) (meteredBy 1 0)
     go false broken missing = refl
     go true true missing = refl
     go true false true = refl

@@ -1,15 +1,16 @@
 -- What a caller's numbers for verify come to: an entry, or a field outside its range (01, Posting, Verify; cause 3).
 use Prim.Native.Nat.{ℕ}
 use mathlib.Core.Bool.{cond}
+use lib.Dec.{eqb}
+use Rattle.tariff.specs.declared.evidence.Entry.{Entry}
 use Rattle.tariff.specs.declared.evidence.Filing.{Filing}
 use Rattle.tariff.specs.declared.evidence.Filing.the-variants.{OutOfRange, Filed}
 use Rattle.tariff.specs.Evidence.{entryOf}
 use Rattle.tariff.specs.Ranges.{wrongEvidence}
 
-unfoldable pub filingOf : ℕ → ℕ → ℕ → ℕ → ℕ → Filing
-filingOf kind capacity right first last = cond (wrongEvidence kind capacity right first last) OutOfRange (Filed (entryOf kind capacity right first last))
+-- 01's number for each case, and the entry where no cause is met
+unfoldable pub filingBy : ℕ → Entry → Filing
+filingBy number e = cond (eqb number 3) OutOfRange (Filed e)
 
--- 01's number for each case, 0 where an entry is filed
-unfoldable pub filingNumber : Filing → ℕ
-filingNumber OutOfRange = 3
-filingNumber (Filed e) = 0
+unfoldable pub filingOf : ℕ → ℕ → ℕ → ℕ → ℕ → Filing
+filingOf kind capacity right first last = filingBy (cond (wrongEvidence kind capacity right first last) 3 0) (entryOf kind capacity right first last)

@@ -19,22 +19,22 @@ blocksOf (f ∷ fs) (h ∷ hs) (k ∷ ks) = record { first = f; hours = h; kw = 
 unfoldable pub sameLengths : List ℕ → List ℕ → List ℕ → Bool
 sameLengths fs hs ks = eqb (length fs) (length hs) && eqb (length hs) (length ks)
 
--- the block list broken or empty is cause 6, too many hours missing is cause 7, and the lower number decides (01, Refusals by cause)
+-- 01's number for each case of what is given, and its kW where no cause is met
+unfoldable pub meteredBy : ℕ → ℕ → Metered
+meteredBy number kw = cond (eqb number 1) Unequal (cond (eqb number 6) Broken (cond (eqb number 7) Missing (Kw kw)))
+
+-- the block list broken or empty is cause 6, too many hours missing is cause 7, and the lower number decides; 0 for none (01, Refusals by cause)
+unfoldable pub blockRefusal : ℕ → List Block → ℕ
+blockRefusal n bs = cond (blocksBroken n bs) 6 (cond (tooManyMissing n bs) 7 0)
+
 unfoldable pub unlessRefused : ℕ → List Block → ℕ → Metered
-unlessRefused n bs kw = cond (blocksBroken n bs) Broken (cond (tooManyMissing n bs) Missing (Kw kw))
+unlessRefused n bs kw = meteredBy (blockRefusal n bs) kw
 
 -- the metric: the smallest kW among the blocks that is exceeded in at most 0.5% of the present hours (01, Posting, Load)
 unfoldable pub meteredOf : List ℕ → List ℕ → List ℕ → ℕ → Metered
-meteredOf fs hs ks n = cond (sameLengths fs hs ks) (unlessRefused n (blocksOf fs hs ks) (metric (blocksOf fs hs ks))) Unequal
+meteredOf fs hs ks n = cond (sameLengths fs hs ks) (unlessRefused n (blocksOf fs hs ks) (metric (blocksOf fs hs ks))) (meteredBy 1 0)
 
 -- the load posted: contract load comes off the metric, not below 0 (01, Posting, Load; house)
 unfoldable pub postedOf : List ℕ → List ℕ → List ℕ → ℕ → ℕ → Metered
 postedOf fs hs ks n contract =
-    cond (sameLengths fs hs ks) (unlessRefused n (blocksOf fs hs ks) (loadPosted contract (blocksOf fs hs ks))) Unequal
-
--- the number that 01 gives each cause, 0 where there is none
-unfoldable pub meteredNumber : Metered → ℕ
-meteredNumber Unequal = 1
-meteredNumber Broken = 6
-meteredNumber Missing = 7
-meteredNumber (Kw kw) = 0
+    cond (sameLengths fs hs ks) (unlessRefused n (blocksOf fs hs ks) (loadPosted contract (blocksOf fs hs ks))) (meteredBy 1 0)

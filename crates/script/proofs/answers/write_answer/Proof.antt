@@ -8,9 +8,10 @@ use Rattle.ledger.specs.Season as season
 use Rattle.book.specs.declared.book.Answer.{Answer}
 use Rattle.book.specs.declared.book.Answer.the-variants.{Done, Value, Refused}
 use Rattle.book.specs.Handed.{answerIn}
-use Rattle.script.specs.Text.{bytesOf}
+use Rattle.lines.specs.Text.{bytesOf}
+use Rattle.lines.specs.Writing.{leastOfThirteenDigits, writtenAt}
 use Rattle.script.specs.Answers.{textOf}
-use Rattle.script.specs.Writing.{leastOfThirteenDigits, writtenAt, Writable}
+use Rattle.script.specs.Writing.{Writable}
 use Rattle.script.proofs.answers.write_answer.Statement.{statement}
 use Rattle.script.proofs.answers.write_answer.Tie as tie
 

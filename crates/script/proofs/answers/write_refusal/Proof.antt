@@ -5,9 +5,9 @@ use mathlib.Core.List.{[], _∷_}
 use lib.ListN.{length}
 use borrow.Author.Needs.{needs}
 use Rattle.ledger.specs.Season.{refused}
-use Rattle.script.specs.Text.{bytesOf}
-use Rattle.script.specs.Answers.{digit, textOf}
-use Rattle.script.specs.Writing.{writtenAt}
+use Rattle.lines.specs.Text.{bytesOf, digit}
+use Rattle.lines.specs.Writing.{writtenAt}
+use Rattle.script.specs.Answers.{textOf}
 use Rattle.script.proofs.answers.write_refusal.Statement.{statement}
 use Rattle.script.proofs.answers.write_refusal.Tie as tie
 

@@ -6,11 +6,11 @@ use native.Mathlib.Omega.{arith}
 use lib.ListN.{length, length-append}
 use borrow.Author.Needs.{needs}
 use Rattle.ledger.specs.Season.{value}
-use Rattle.script.specs.Text.{bytesOf}
-use Rattle.script.specs.Answers.{decimal, textOf}
-use Rattle.script.specs.Writing.{leastOfThirteenDigits, writtenAt}
+use Rattle.lines.specs.Text.{bytesOf, decimal}
+use Rattle.lines.specs.Writing.{leastOfThirteenDigits, writtenAt}
+use Rattle.lines.proofs.WritingLaws.{written-again}
+use Rattle.script.specs.Answers.{textOf}
 use Rattle.script.proofs.AnswerLaws.{decimal-few}
-use Rattle.script.proofs.WritingLaws.{written-again}
 use Rattle.script.proofs.answers.write_value.Statement.{statement}
 use Rattle.script.proofs.answers.write_value.Tie as tie
 

@@ -2,8 +2,8 @@
 use mathlib.Core.Path.{sym, _∙_}
 use native.Mathlib.Nat.{le-trans, le-of-eq}
 use borrow.Author.Tests.{not-true, not-false}
-use Rattle.script.specs.Groups.{field}
-use Rattle.script.specs.Counted.{rowsCounted}
+use Rattle.lines.specs.Rows.{field}
+use Rattle.lines.specs.Counted.{rowsCounted}
 use Rattle.script.proofs.ToldLaws.{kept-size, count-few, part-is, part-long, broken-told, whole-told, migrate-is, migrate-counts}
 use Rattle.script.proofs.HeadLaws.{migrate-asks}
 use borrow.Author.Needs.{needs}

@@ -1,5 +1,5 @@
 -- `script::heads::ask_row` meets its contract: each arm is the call that its kind asks. Assumes nothing.
-use Rattle.script.specs.Groups.{field}
+use Rattle.lines.specs.Rows.{field}
 use Rattle.script.proofs.HeadLaws.{carry-asks, prior-asks, verify-asks, open-asks, nominate-asks, award-asks, close-asks, by-call}
 use borrow.Author.Needs.{needs}
 use Rattle.script.proofs.heads.ask_row.Statement.{statement}

@@ -1,6 +1,6 @@
 -- `script::heads::query_answer` meets its contract: each arm is the query that its kind asks. Assumes nothing.
 use Rattle.book.specs.Handed.{refusedWith}
-use Rattle.script.specs.Groups.{field}
+use Rattle.lines.specs.Rows.{field}
 use Rattle.script.proofs.HeadLaws.{limit-asks, held-asks, net-asks, no-head, by-query, by-nothing}
 use borrow.Author.Needs.{needs}
 use Rattle.script.proofs.heads.query_answer.Statement.{statement}

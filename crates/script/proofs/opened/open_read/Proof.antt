@@ -1,7 +1,7 @@
 -- `script::opened::open_read` meets its contract: it opens with as much of each array as is counted. Assumes nothing.
 use mathlib.Core.Path.{sym}
 use lib.Seq.{length-take-le}
-use Rattle.script.specs.Groups.{field}
+use Rattle.lines.specs.Rows.{field}
 use borrow.Author.Needs.{needs}
 use Rattle.script.proofs.opened.open_read.Statement.{statement}
 use Rattle.script.proofs.opened.open_read.Tie as tie

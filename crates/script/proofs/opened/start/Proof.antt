@@ -2,7 +2,7 @@
 use Prim.Native.Nat.{ℕ, _≤_}
 use mathlib.Core.Path.{_≡_, _∙_}
 use native.Mathlib.Omega.{arith}
-use Rattle.script.proofs.BookLines.{rest-few, here-within}
+use Rattle.lines.proofs.BookLines.{rest-few, here-within}
 use Rattle.script.proofs.StartedLaws.{after-head, lines-fit, counts-fit, started-opened, started-refused, whole-start}
 use borrow.Author.Needs.{needs}
 use Rattle.script.proofs.opened.start.Statement.{statement}
@@ -98,35 +98,20 @@ returns c =
     let kept = lines .ensures in
     (started-opened (first .result .row) _ (lines .result) (kept .0) (test .taken) _ _ _ _ _ (kept .1) (kept .2) (kept .3) (kept .4) (kept .5) (first .result .used) (opened .result) (done .result) (opened .ensures) (done .ensures) ∙ whole-start _ (first .result) (first .ensures), aSame .given ∙ start .pre .1, bSame .given ∙ start .pre .2, cSame .given ∙ start .pre .3, dSame .given ∙ start .pre .4, eSame .given ∙ start .pre .5)
 
-slice-aggregate-open-book : tie.Need-slice-aggregate-open-book
-slice-aggregate-open-book c = search needs
-
-slice-aggregate-open-book-2 : tie.Need-slice-aggregate-open-book-2
-slice-aggregate-open-book-2 c = search needs
-
-slice-aggregate-open-book-3 : tie.Need-slice-aggregate-open-book-3
-slice-aggregate-open-book-3 c = search needs
-
-slice-aggregate-open-book-4 : tie.Need-slice-aggregate-open-book-4
-slice-aggregate-open-book-4 c = search needs
-
-slice-aggregate-open-book-5 : tie.Need-slice-aggregate-open-book-5
-slice-aggregate-open-book-5 c = search needs
-
-open-book-requires : tie.Need-open-book-requires
-open-book-requires c κs = search needs
+open-nothing-requires : tie.Need-open-nothing-requires
+open-nothing-requires c κs = search needs
 
 same-length-6 : tie.Need-same-length-6
 same-length-6 c =
-    c .before .before .before .before .before .before .before .before .before .before .before .before .before .before .before .before .before .before .before .before .a .given
+    c .before .before .before .before .before .before .before .before .before .before .before .before .before .before .before .a .given
 
 same-length-7 : tie.Need-same-length-7
 same-length-7 c =
-    c .before .before .before .before .before .before .before .before .before .before .before .before .before .before .before .before .before .before .b .given
+    c .before .before .before .before .before .before .before .before .before .before .before .before .before .b .given
 
 same-length-8 : tie.Need-same-length-8
 same-length-8 c =
-    c .before .before .before .before .before .before .before .before .before .before .before .before .before .before .before .before .c .given
+    c .before .before .before .before .before .before .before .before .before .before .before .c .given
 
 same-length-9 : tie.Need-same-length-9
 same-length-9 c = search needs
@@ -136,16 +121,16 @@ same-length-10 c = search needs
 
 returns-2 : tie.Need-returns-2
 returns-2 c =
-    let start = c .before .before .before .before .before .before .before .before .before .before .before .before .before .before .before .before .before .before .before .before .before .before .before .before .before .before .before .before .before .before .before .before .before .before .before .before in
-    let first = c .before .before .before .before .before .before .before .before .before .before .before .before .before .before .before .before .before .before .before .before .before .before .before .before .before .before .before .before .before .next-row in
-    let lines = c .before .before .before .before .before .before .before .before .before .before .before .before .before .before .before .before .before .before .before .before .before .read-book-lines in
-    let test = c .before .before .before .before .before .before .before .if1 in
-    let opened = c .before .open-book in
-    let aSame = c .before .before .before .before .before .before .before .before .before .before .before .before .before .before .before .before .before .before .before .before .a in
-    let bSame = c .before .before .before .before .before .before .before .before .before .before .before .before .before .before .before .before .before .before .b in
-    let cSame = c .before .before .before .before .before .before .before .before .before .before .before .before .before .before .before .before .c in
-    let dSame = c .before .before .before .before .before .before .before .before .before .before .before .before .before .before .d in
-    let eSame = c .before .before .before .before .before .before .before .before .before .before .before .before .e in
+    let start = c .before .before .before .before .before .before .before .before .before .before .before .before .before .before .before .before .before .before .before .before .before .before .before .before .before .before .before .before .before .before .before in
+    let first = c .before .before .before .before .before .before .before .before .before .before .before .before .before .before .before .before .before .before .before .before .before .before .before .before .next-row in
+    let lines = c .before .before .before .before .before .before .before .before .before .before .before .before .before .before .before .before .read-book-lines in
+    let test = c .before .before .if1 in
+    let opened = c .before .open-nothing in
+    let aSame = c .before .before .before .before .before .before .before .before .before .before .before .before .before .before .before .a in
+    let bSame = c .before .before .before .before .before .before .before .before .before .before .before .before .before .b in
+    let cSame = c .before .before .before .before .before .before .before .before .before .before .before .c in
+    let dSame = c .before .before .before .before .before .before .before .before .before .d in
+    let eSame = c .before .before .before .before .before .before .before .e in
     (started-refused (first .result .row) _ (lines .result) (lines .ensures .0) (test .left) (first .result .used) (opened .result) (opened .ensures) ∙ whole-start _ (first .result) (first .ensures), aSame .given ∙ start .pre .1, bSame .given ∙ start .pre .2, cSame .given ∙ start .pre .3, dSame .given ∙ start .pre .4, eSame .given ∙ start .pre .5)
 
 pub start-spec : {M : Type 1} → statement M
@@ -166,12 +151,7 @@ start-spec =
     same-length-4
     same-length-5
     returns
-    slice-aggregate-open-book
-    slice-aggregate-open-book-2
-    slice-aggregate-open-book-3
-    slice-aggregate-open-book-4
-    slice-aggregate-open-book-5
-    open-book-requires
+    open-nothing-requires
     same-length-6
     same-length-7
     same-length-8

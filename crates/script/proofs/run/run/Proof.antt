@@ -2,7 +2,7 @@
 use Prim.Native.Nat.{_*_}
 use mathlib.Core.Path.{sym, ap}
 use native.Mathlib.Nat.{le-trans, le-of-eq}
-use Rattle.script.proofs.NextRowLaws.{row-count}
+use Rattle.lines.proofs.NextRowLaws.{row-count}
 use Rattle.script.proofs.RunLaws.{long-bytes, long-lines, short-output, a-run, no-bytes, some-bytes}
 use borrow.Author.Needs.{needs}
 use Rattle.script.proofs.run.run.Statement.{statement}

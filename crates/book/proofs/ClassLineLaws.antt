@@ -1,0 +1,240 @@
+-- Class lines taken apart into columns: what stands in the columns, what the largest holder number tells, and what a migration of the columns hands back. Assumes nothing.
+use Prim.Native.Nat.{ℕ, zero, suc, _+_, _≤_, _<_}
+use mathlib.Core.Path.{_≡_, refl, sym, ap, ap₂, _∙_, subst}
+use mathlib.Core.Bool.{Bool, true, false, cond, _||_, or-true, or-false, or-assoc, or-comm}
+use mathlib.Core.List.{List}
+use mathlib.Core.Logic.{_⊎_, inl, inr}
+use native.Mathlib.Omega.{arith}
+use lib.ListN.{length, getD, set, take, replicate, length-set, length-replicate}
+use lib.Seq.{ext-getD, getD-take, length-take-le}
+use lib.Dec.{leb, ltb}
+use borrow.Author.Tests.{leb-true, le-leb, ltb-true, ltb-false, lt-ltb, le-ltb}
+use Rattle.tariff.specs.declared.migration.ClassLine.{ClassLine}
+use Rattle.tariff.specs.Sum.{anyOf, anyBelow, listTo}
+use Rattle.tariff.specs.Ranges.{wrongTerm, wrongClassLine}
+use Rattle.tariff.specs.Netting.{classLineAt, classLinesOf, SameLengths}
+use Rattle.tariff.proofs.Tests.{decided, or-left-true, any-at}
+use Rattle.tariff.proofs.Lists.{length-list-to, at-list-to, any-list-to, Filled, filled-none, filled-more}
+use Rattle.tariff.proofs.FitLines.{counted}
+use Rattle.ledger.specs.Opening.{Opening}
+use Rattle.ledger.specs.Ranges.{noHolder, noSink, strangerIn, wrongMigration}
+use Rattle.ledger.specs.Call.{migrate}
+use Rattle.ledger.specs.Causes.{migrateCauses, callCauses, refusal}
+use Rattle.records.proofs.CauseLaws.{link}
+use Rattle.book.specs.declared.book.Book.{Book}
+use Rattle.book.specs.declared.book.Answered.{Answered}
+use Rattle.book.specs.declared.class_lines.Columns.{Columns}
+use Rattle.book.specs.Reading.{ledgerOf}
+use Rattle.book.specs.Handed.{handed, openedWith, refusedWith}
+use Rattle.book.specs.Reached.{Reached}
+use Rattle.book.specs.Lines.{handedLines}
+use Rattle.book.specs.ClassLines.{larger, placed, noLine, noColumns, withLine, columnsTo, FullColumns, handedColumns}
+use Rattle.book.proofs.HandedLaws.{handed-refused}
+use Rattle.book.proofs.ReachedLaws.{reached-shaped}
+use Rattle.book.proofs.MigrateLaws.{handed-even}
+
+-- no line as yet, and one more
+pub columns-none : (lines : List ClassLine) → noColumns ≡ columnsTo lines 0
+unfolding columnsTo
+columns-none lines = refl
+
+pub columns-more : (lines : List ClassLine) (k : ℕ) → withLine (columnsTo lines k) k (getD lines k noLine) ≡ columnsTo lines (k + 1)
+unfolding columnsTo
+columns-more lines k = ap (columnsTo lines) (let e : suc k ≡ k + 1 = omega arith in e)
+
+-- a number put into a column
+pub placed-in : (xs : List ℕ) (k v : ℕ) → k < 64 → set xs k v ≡ placed xs k v
+unfolding placed
+placed-in xs k v l = sym (ap (λ t. cond t (set xs k v) xs) (lt-ltb k 64 l))
+
+pub placed-out : (xs : List ℕ) (k v : ℕ) → 64 ≤ k → xs ≡ placed xs k v
+unfolding placed
+placed-out xs k v l = sym (ap (λ t. cond t (set xs k v) xs) (le-ltb k 64 l))
+
+placed-long : (xs : List ℕ) (k v : ℕ) → length (placed xs k v) ≡ length xs
+unfolding placed
+placed-long xs k v = go (ltb k 64)
+  where
+    go : (t : Bool) → length (cond t (set xs k v) xs) ≡ length xs
+    go true = length-set xs k v
+    go false = refl
+
+-- the first n of a full column
+pub first-long : (n : ℕ) (xs : List ℕ) → n ≤ 64 → length xs ≡ 64 → n ≡ length (take n xs)
+first-long n xs few full = sym (length-take-le n xs (omega arith))
+
+-- one column: the field f of each line
+module _ (lines : List ClassLine) (f : ClassLine → ℕ) (column : Columns → List ℕ) (starts : column noColumns ≡ replicate 64 0) (puts : (c : Columns) (k : ℕ) (l : ClassLine) → column (withLine c k l) ≡ placed (column c) k (f l)) where
+  abbrev fieldAt : ℕ → ℕ
+  fieldAt j = f (getD lines j noLine)
+
+  column-long : (k : ℕ) → length (column (columnsTo lines k)) ≡ 64
+  unfolding columnsTo
+  column-long zero = ap length starts ∙ length-replicate {A = ℕ} 64 0
+  column-long (suc k) = ap length (puts (columnsTo lines k) k (getD lines k noLine)) ∙ placed-long (column (columnsTo lines k)) k (fieldAt k) ∙ column-long k
+
+  column-filled : (k : ℕ) → k ≤ 64 → Filled fieldAt k (column (columnsTo lines k))
+  unfolding columnsTo
+  column-filled zero l = filled-none fieldAt (column noColumns)
+  column-filled (suc k) l =
+      let old = column (columnsTo lines k) in
+      let full = column-long k in
+      subst (Filled fieldAt (suc k)) (placed-in old k (fieldAt k) l ∙ sym (puts (columnsTo lines k) k (getD lines k noLine)))
+      (λ q b. filled-more fieldAt k old (fieldAt k) (omega arith) refl (column-filled k (omega arith)) q (omega arith))
+
+  module _ (n : ℕ) (few : n ≤ 64) where
+    column-count : length (take n (column (columnsTo lines n))) ≡ n
+    column-count = sym (first-long n (column (columnsTo lines n)) few (column-long n))
+
+    column-at : (j : ℕ) → j < n → getD (take n (column (columnsTo lines n))) j 0 ≡ fieldAt j
+    column-at j l = getD-take n (column (columnsTo lines n)) j 0 l ∙ column-filled n few j l
+
+-- every column is full, from the first line on
+pub columns-full : (lines : List ClassLine) (k : ℕ) → FullColumns (columnsTo lines k)
+unfolding noColumns withLine
+columns-full lines k =
+    record {
+      ofFroms = column-long lines (λ l. l .from) (λ c. c .froms) refl (λ c k l. refl) k;
+      ofTos = column-long lines (λ l. l .to) (λ c. c .tos) refl (λ c k l. refl) k;
+      ofClasses = column-long lines (λ l. l .class) (λ c. c .classes) refl (λ c k l. refl) k;
+      ofCustomers = column-long lines (λ l. l .customers) (λ c. c .customers) refl (λ c k l. refl) k;
+      ofWatts = column-long lines (λ l. l .watts) (λ c. c .watts) refl (λ c k l. refl) k;
+    }
+
+-- the lines, by their places
+listed : (lines : List ClassLine) → listTo (length lines) (λ j. getD lines j noLine) ≡ lines
+listed lines =
+    let long = length-list-to (length lines) (λ j. getD lines j noLine) in
+    ext-getD noLine (listTo (length lines) (λ j. getD lines j noLine)) lines long (λ j l. at-list-to (length lines) (λ j. getD lines j noLine) noLine j (omega arith))
+
+-- a number below the larger of two is below one of them
+or-implied : (a b : Bool) → (a ≡ true → b ≡ true) → b ≡ (a || b)
+or-implied true b k = k refl
+or-implied false b k = refl
+
+reaches-larger : (h x y : ℕ) → leb h (larger x y) ≡ (leb h x || leb h y)
+unfolding larger
+reaches-larger h x y = go (decided (ltb x y))
+  where
+    go : (ltb x y ≡ true) ⊎ (ltb x y ≡ false) → leb h (cond (ltb x y) y x) ≡ (leb h x || leb h y)
+    go (inl e) = ap (λ t. leb h (cond t y x)) e ∙ or-implied (leb h x) (leb h y) (λ t. let a = ltb-true x y e in let b = leb-true h x t in le-leb h y (omega arith))
+    go (inr e) = ap (λ t. leb h (cond t y x)) e ∙ or-implied (leb h y) (leb h x) (λ t. let a = ltb-false x y e in let b = leb-true h y t in le-leb h x (omega arith)) ∙ or-comm (leb h y) (leb h x)
+
+-- whether the largest holder number is a stranger tells whether any is
+module _ (lines : List ClassLine) (h : ℕ) where
+  abbrev named : ℕ → Bool
+  named j = leb h (getD lines j noLine .from) || leb h (getD lines j noLine .to)
+
+  top-reaches : (k : ℕ) → leb h (columnsTo lines k .top) ≡ (leb h 0 || anyBelow k named)
+  unfolding columnsTo anyBelow noColumns withLine
+  top-reaches zero = sym (or-false (leb h 0))
+  top-reaches (suc k) =
+      let l = getD lines k noLine in
+      reaches-larger h (columnsTo lines k .top) (larger (l .from) (l .to))
+      ∙ ap₂ (λ a b. a || b) (top-reaches k) (reaches-larger h (l .from) (l .to))
+      ∙ or-assoc (leb h 0) (anyBelow k named) (named k)
+
+  some-named : (k : ℕ) → 0 < k → (leb h 0 || anyBelow k named) ≡ anyBelow k named
+  some-named k pos = go (decided (leb h 0))
+    where
+      go : (leb h 0 ≡ true) ⊎ (leb h 0 ≡ false) → (leb h 0 || anyBelow k named) ≡ anyBelow k named
+      go (inl e) = or-left-true (anyBelow k named) e ∙ sym (any-at k named 0 pos (or-left-true _ (let z = leb-true h 0 e in le-leb h (getD lines 0 noLine .from) (omega arith))))
+      go (inr e) = ap (λ t. t || anyBelow k named) e
+
+strangers : (o : Opening) (lines : List ClassLine) → 0 < length lines → noHolder o (columnsTo lines (length lines) .top) ≡ strangerIn o lines
+unfolding noHolder strangerIn
+strangers o lines pos =
+    let test : ClassLine → Bool = λ l. leb (o .holders) (l .from) || leb (o .holders) (l .to) in
+    top-reaches lines (o .holders) (length lines) ∙ some-named lines (o .holders) (length lines) pos
+    ∙ sym (any-list-to (length lines) (λ j. getD lines j noLine) test)
+    ∙ ap (λ xs. anyOf xs test) (listed lines)
+
+-- what n lines in columns hand back, past 64 and up to 64
+module _ (b : Book) (term sink n : ℕ) (c : Columns) where
+  abbrev answered : Bool → Answered
+  answered t =
+      cond t (refusedWith b (cond (noSink (openedWith b) sink || noHolder (openedWith b) (c .top)) 2 3))
+      (handedLines b term sink (take n (c .froms)) (take n (c .tos)) (take n (c .classes)) (take n (c .customers)) (take n (c .watts)))
+
+  pub many-handed : 64 < n → answered true ≡ handedColumns b term sink n c
+  unfolding handedColumns
+  many-handed l = sym (ap answered (lt-ltb 64 n l))
+
+  pub few-handed : n ≤ 64 → answered false ≡ handedColumns b term sink n c
+  unfolding handedColumns
+  few-handed l = sym (ap answered (le-ltb 64 n l))
+
+module _ (b : Book) (r : Reached b) (term sink : ℕ) (lines : List ClassLine) where
+  abbrev n : ℕ
+  n = length lines
+
+  abbrev c : Columns
+  c = columnsTo lines n
+
+  abbrev firsts : List ℕ → List ℕ
+  firsts xs = take n xs
+
+  abbrev number : ℕ
+  number = cond (noSink (openedWith b) sink || noHolder (openedWith b) (c .top)) 2 3
+
+  -- more than 64 lines: 2 for a stranger among all of them, else 3
+  module _ (many : 64 < n) where
+    wrong-count : true ≡ wrongMigration term lines
+    unfolding wrongMigration
+    wrong-count = sym (or-left-true (anyOf lines wrongClassLine) (ap (λ t. wrongTerm term || t) (lt-ltb 64 n many) ∙ or-true (wrongTerm term)))
+
+    number-found : number ≡ refusal (openedWith b) (ledgerOf b) (migrate term sink lines)
+    unfolding refusal callCauses migrateCauses
+    number-found = link 2 _ _ _ refl (ap (λ t. noSink (openedWith b) sink || t) (strangers (openedWith b) lines (omega arith))) (link 3 true _ _ refl wrong-count refl)
+
+    too-many : refusedWith b number ≡ handed b (migrate term sink lines)
+    too-many = handed-refused b (migrate term sink lines) number number-found (reached-shaped b r) (some-number (noSink (openedWith b) sink || noHolder (openedWith b) (c .top)))
+      where
+        some-number : (t : Bool) → _≡_ {A = ℕ} (cond t 2 3) 0 → ⊥
+        some-number true e = omega (arith, e)
+        some-number false e = omega (arith, e)
+
+  module _ (few : n ≤ 64) where
+    as-many : (xs : List ℕ) → length xs ≡ 64 → length (firsts xs) ≡ length (firsts (c .froms))
+    as-many xs e = sym (first-long n xs few e) ∙ first-long n (c .froms) few (columns-full lines n .ofFroms)
+
+    same : SameLengths (firsts (c .froms)) (firsts (c .tos)) (firsts (c .classes)) (firsts (c .customers)) (firsts (c .watts))
+    same =
+        let full = columns-full lines n in
+        record {
+          ofTos = as-many (c .tos) (full .ofTos);
+          ofClasses = as-many (c .classes) (full .ofClasses);
+          ofCustomers = as-many (c .customers) (full .ofCustomers);
+          ofWatts = as-many (c .watts) (full .ofWatts);
+        }
+
+    -- up to 64 lines the columns have them whole
+    lines-back : classLinesOf (firsts (c .froms)) (firsts (c .tos)) (firsts (c .classes)) (firsts (c .customers)) (firsts (c .watts)) ≡ lines
+    unfolding classLinesOf noColumns withLine
+    lines-back =
+        let at = classLineAt (firsts (c .froms)) (firsts (c .tos)) (firsts (c .classes)) (firsts (c .customers)) (firsts (c .watts)) in
+        let count = first-long n (c .froms) few (columns-full lines n .ofFroms) in
+        ap (λ m. listTo m at) (sym count)
+        ∙ ext-getD noLine (listTo n at) lines (length-list-to n at) (λ j l.
+        let below : j < n = let long = length-list-to n at in omega arith in
+        at-list-to n at noLine j below
+        ∙ (λ i.
+        record {
+          from = column-at lines (λ l. l .from) (λ c. c .froms) refl (λ c k l. refl) n few j below i;
+          to = column-at lines (λ l. l .to) (λ c. c .tos) refl (λ c k l. refl) n few j below i;
+          class = column-at lines (λ l. l .class) (λ c. c .classes) refl (λ c k l. refl) n few j below i;
+          customers = column-at lines (λ l. l .customers) (λ c. c .customers) refl (λ c k l. refl) n few j below i;
+          watts = column-at lines (λ l. l .watts) (λ c. c .watts) refl (λ c k l. refl) n few j below i;
+        }))
+
+  -- so a migration of the columns is one of the lines
+  pub columns-handed : handedColumns b term sink n c ≡ handed b (migrate term sink lines)
+  columns-handed = go (decided (ltb 64 n))
+    where
+      go : (ltb 64 n ≡ true) ⊎ (ltb 64 n ≡ false) → handedColumns b term sink n c ≡ handed b (migrate term sink lines)
+      go (inl e) = let many = ltb-true 64 n e in sym (many-handed b term sink n c many) ∙ too-many many
+      go (inr e) =
+          let few = ltb-false 64 n e in
+          sym (few-handed b term sink n c few)
+          ∙ sym (handed-even b term sink (firsts (c .froms)) (firsts (c .tos)) (firsts (c .classes)) (firsts (c .customers)) (firsts (c .watts)) (counted (firsts (c .froms)) (firsts (c .tos)) (firsts (c .classes)) (firsts (c .customers)) (firsts (c .watts)) (same few)))
+          ∙ ap (λ ls. handed b (migrate term sink ls)) (lines-back few)

@@ -1,0 +1,67 @@
+-- Class lines taken apart: a column of 64 numbers to a field, and what a migration of the columns hands back.
+use Prim.Native.Nat.{ℕ, zero, suc}
+use mathlib.Core.Path.{_≡_}
+use mathlib.Core.Bool.{cond, _||_}
+use mathlib.Core.List.{List}
+use lib.ListN.{length, getD, set, replicate, take}
+use lib.Dec.{ltb}
+use Rattle.tariff.specs.declared.migration.ClassLine.{ClassLine}
+use Rattle.ledger.specs.Ranges.{noHolder, noSink}
+use Rattle.book.specs.declared.book.Book.{Book}
+use Rattle.book.specs.declared.book.Answered.{Answered}
+use Rattle.book.specs.declared.class_lines.Columns.{Columns}
+use Rattle.book.specs.Handed.{openedWith, refusedWith}
+use Rattle.book.specs.Lines.{handedLines}
+
+unfoldable pub larger : ℕ → ℕ → ℕ
+larger x y = cond (ltb x y) y x
+
+-- a number put into a column, which has no room past its end
+unfoldable pub placed : List ℕ → ℕ → ℕ → List ℕ
+placed column k v = cond (ltb k 64) (set column k v) column
+
+unfoldable pub noColumns : Columns
+noColumns =
+    record {
+      froms = replicate 64 0;
+      tos = replicate 64 0;
+      classes = replicate 64 0;
+      customers = replicate 64 0;
+      watts = replicate 64 0;
+      top = 0;
+    }
+
+-- the columns with line k in them
+unfoldable pub withLine : Columns → ℕ → ClassLine → Columns
+withLine c k l =
+    record {
+      froms = placed (c .froms) k (l .from);
+      tos = placed (c .tos) k (l .to);
+      classes = placed (c .classes) k (l .class);
+      customers = placed (c .customers) k (l .customers);
+      watts = placed (c .watts) k (l .watts);
+      top = larger (c .top) (larger (l .from) (l .to));
+    }
+
+-- what stands past the end of a list of lines
+abbrev pub noLine : ClassLine
+noLine = record { from = 0; to = 0; class = 0; customers = 0; watts = 0 }
+
+-- the columns of the first k lines
+unfoldable pub columnsTo : List ClassLine → ℕ → Columns
+columnsTo lines zero = noColumns
+columnsTo lines (suc k) = withLine (columnsTo lines k) k (getD lines k noLine)
+
+-- each column has its 64 numbers
+pub record FullColumns (c : Columns) : Type 0 where
+  pub ofFroms : length (c .froms) ≡ 64
+  pub ofTos : length (c .tos) ≡ 64
+  pub ofClasses : length (c .classes) ≡ 64
+  pub ofCustomers : length (c .customers) ≡ 64
+  pub ofWatts : length (c .watts) ≡ 64
+
+-- what a migration of n lines in columns hands back: past 64 lines a stranger is looked for first
+unfoldable pub handedColumns : Book → ℕ → ℕ → ℕ → Columns → Answered
+handedColumns b term sink n c =
+    cond (ltb 64 n) (refusedWith b (cond (noSink (openedWith b) sink || noHolder (openedWith b) (c .top)) 2 3))
+    (handedLines b term sink (take n (c .froms)) (take n (c .tos)) (take n (c .classes)) (take n (c .customers)) (take n (c .watts)))

@@ -1,0 +1,179 @@
+-- Counted lines, read one after another. Assumes nothing.
+use Prim.Native.Nat.{ℕ, zero, suc, _+_, _-_, _≤_, _<_, zero-le}
+use mathlib.Core.Path.{_≡_, refl, sym, ap, _∙_, subst}
+use native.Mathlib.Nat.{le-trans, le-of-eq}
+use mathlib.Core.Bool.{Bool, true, false, _&&_}
+use mathlib.Core.List.{List, [], _∷_, _++_, map}
+use native.Mathlib.Numerals.{add-one}
+use native.Mathlib.Omega.{arith}
+use lib.ListN.{length, take, drop, set, getD, length-append, length-map, length-drop, drop-of-length-le}
+use lib.Seq.{drop-drop, length-take-le}
+use lib.Dec.{eqb}
+use borrow.Author.Tests.{eq-eqb, ne-eqb}
+use Rattle.tariff.proofs.Tests.{and-left-false}
+use Rattle.lines.specs.declared.rows.Row.{Row}
+use Rattle.lines.specs.declared.counted.Counted.{Counted}
+use Rattle.lines.specs.declared.lines.NextRow.{NextRow}
+use Rattle.lines.specs.Text.{linesOf}
+use Rattle.lines.specs.Rows.{rowsOf, field, allOfKind, counted}
+use Rattle.lines.specs.Reading.{firstBytes, nextRow}
+use Rattle.lines.specs.Counted.{bytesOfLines, rowsCounted, countedOf, withField}
+use Rattle.lines.proofs.RowSteps.{first-row, used-within}
+use Rattle.lines.proofs.KeptFields.{take-more, drop-more, in-list, take-all, kinds-more, field-more}
+
+-- one line more takes the bytes of the line that comes next
+pub bytes-more : (k : ℕ) (s : List ℕ) → bytesOfLines (suc k) s ≡ bytesOfLines k s + nextRow (drop (bytesOfLines k s) s) .used
+unfolding bytesOfLines
+bytes-more zero s = omega arith
+bytes-more (suc k) s =
+    let u = nextRow s .used in
+    let later = bytes-more k (drop u s) in
+    let same = ap (λ t. nextRow t .used) (drop-drop (bytesOfLines k (drop u s)) u s) in
+    omega arith
+
+-- past the last byte there is nothing more
+nothing-left : (k : ℕ) → bytesOfLines k [] ≡ 0
+unfolding bytesOfLines nextRow linesOf firstBytes
+nothing-left zero = refl
+nothing-left (suc k) = let later = nothing-left k in omega arith
+
+pub bytes-all : (m n : ℕ) (s : List ℕ) → length s ≤ bytesOfLines m s → m ≤ n → bytesOfLines m s ≡ bytesOfLines n s
+unfolding bytesOfLines
+bytes-all zero n [] a b = sym (nothing-left n)
+bytes-all zero n (x ∷ s) a b = absurd (let z : ⊥ = omega arith in z)
+bytes-all (suc m) zero s a b = absurd (let z : ⊥ = omega arith in z)
+bytes-all (suc m) (suc n) s a b =
+    let u = nextRow s .used in
+    let left = length-drop u s in
+    ap (λ t. u + t) (bytes-all m n (drop u s) (omega arith) (omega arith))
+
+-- before any line is read an array is as it was
+pub none-kept : (j : ℕ) (numbers : List ℕ) → numbers ≡ withField j [] numbers
+unfolding withField
+none-kept j numbers = refl
+
+-- what is known when k lines have been read
+pub record SoFar (s : List ℕ) (kind count k used : ℕ) (whole : Bool) : Type 0 where
+  pub upTo : k ≤ count
+  pub left : rowsOf (drop used s) ≡ drop k (rowsOf s)
+  pub inRows : k ≤ length (rowsOf s)
+  pub bytes : used ≡ bytesOfLines k s
+  pub inBytes : used ≤ length s
+  pub kinds : whole ≡ allOfKind kind (take k (rowsOf s))
+
+pub none-read : (s : List ℕ) (kind count : ℕ) → SoFar s kind count 0 0 true
+unfolding bytesOfLines allOfKind
+none-read s kind count = record { upTo = zero-le; left = refl; inRows = zero-le; bytes = refl; inBytes = zero-le; kinds = refl }
+
+module _ (s : List ℕ) (kind count k used : ℕ) (whole : Bool) (f : SoFar s kind count k used whole) where
+  abbrev rest : List ℕ
+  rest = drop used s
+
+  abbrev next : Row
+  next = nextRow rest .row
+
+  module _ (some : used < length s) where
+    left-some : 1 ≤ length rest
+    left-some = let len = length-drop used s in omega arith
+
+    -- the next row is the k-th
+    here : drop k (rowsOf s) ≡ (next ∷ rowsOf (drop (nextRow rest .used) rest))
+    here = sym (f .left) ∙ first-row rest left-some
+
+    pub row-below : k < length (rowsOf s)
+    row-below = in-list k (rowsOf s) next (rowsOf (drop (nextRow rest .used) rest)) here
+
+    pub next-within : used + nextRow rest .used ≤ length s
+    next-within = let u = used-within rest in let len = length-drop used s in omega arith
+
+    one-more : take (suc k) (rowsOf s) ≡ take k (rowsOf s) ++ (next ∷ [])
+    one-more = take-more k (rowsOf s) next (rowsOf (drop (nextRow rest .used) rest)) here
+
+    pub read-more : k < count → SoFar s kind count (k + 1) (used + nextRow rest .used) (whole && eqb (next .kind) kind)
+    read-more l =
+        record {
+          upTo = omega arith;
+          left = ap rowsOf (sym (drop-drop (nextRow rest .used) used s)) ∙ sym (drop-more k (rowsOf s) next (rowsOf (drop (nextRow rest .used) rest)) here) ∙ ap (λ n. drop n (rowsOf s)) (sym (add-one k));
+          inRows = let below = row-below in omega arith;
+          bytes = (λ i. f .bytes i + nextRow (drop (f .bytes i) s) .used) ∙ sym (bytes-more k s) ∙ ap (λ n. bytesOfLines n s) (sym (add-one k));
+          inBytes = next-within;
+          kinds = (λ i. f .kinds i && eqb (next .kind) kind) ∙ sym (kinds-more kind (take k (rowsOf s)) next) ∙ ap (allOfKind kind) (sym one-more) ∙ ap (λ n. allOfKind kind (take n (rowsOf s))) (sym (add-one k));
+        }
+
+    -- a turn stores the row's field behind those before it
+    pub stored : (j : ℕ) (numbers old : List ℕ) → length numbers ≡ 4096 → length (rowsOf s) ≤ 4096 → old ≡ withField j (take k (rowsOf s)) numbers → set old k (field j next) ≡ withField j (take (k + 1) (rowsOf s)) numbers
+    stored j numbers old len few e =
+        let many = length-take-le k (rowsOf s) (f .inRows) in
+        let below = row-below in
+        (λ i. set (e i) (sym many i) (field j next))
+        ∙ field-more j (take k (rowsOf s)) next numbers (omega arith)
+        ∙ ap (λ rows. withField j rows numbers) (sym one-more)
+        ∙ ap (λ n. withField j (take n (rowsOf s)) numbers) (sym (add-one k))
+
+    -- the same of a row that was read there, from the part of the bytes that begins there
+    module _ (x : NextRow) (read : x ≡ nextRow (take (length s - used) rest)) where
+      e : x ≡ nextRow rest
+      e = read ∙ ap nextRow (take-all (length s - used) rest (let len = length-drop used s in omega arith))
+
+      pub turn : k < count → SoFar s kind count (k + 1) (used + x .used) (whole && eqb (x .row .kind) kind)
+      turn l = subst (λ y. SoFar s kind count (k + 1) (used + y .used) (whole && eqb (y .row .kind) kind)) (sym e) (read-more l)
+
+      pub turn-stored : (j : ℕ) (numbers old : List ℕ) → length numbers ≡ 4096 → length (rowsOf s) ≤ 4096 → old ≡ withField j (take k (rowsOf s)) numbers → set old k (getD (x .row .fields) j 0) ≡ withField j (take (k + 1) (rowsOf s)) numbers
+      unfolding field
+      turn-stored j numbers old len few p = ap (λ y. set old k (field j (y .row))) e ∙ stored j numbers old len few p
+
+      pub turn-within : used + x .used ≤ length s
+      turn-within = le-trans (le-of-eq (ap (λ y. used + y .used) e)) next-within
+
+  -- an array keeps its length
+  pub kept-length : (j : ℕ) (numbers old : List ℕ) → length numbers ≡ 4096 → length (rowsOf s) ≤ 4096 → old ≡ withField j (take k (rowsOf s)) numbers → length old ≡ length numbers
+  unfolding withField
+  kept-length j numbers old len few e =
+      let rows = take k (rowsOf s) in
+      let many = length-take-le k (rowsOf s) (f .inRows) in
+      let whole-length = ap length e in
+      let parts = length-append (map (field j) rows) (drop (length rows) numbers) in
+      let front = length-map rows (field j) in
+      let back = length-drop (length rows) numbers in
+      let below = f .inRows in
+      omega arith
+
+  -- where the bytes run out the lines that are left are all there are
+  module _ (none : length s ≤ used) (short : k < count) where
+    all-rows : length (rowsOf s) ≤ k
+    unfolding rowsOf linesOf
+    all-rows =
+        let gone = ap (λ t. length (rowsOf t)) (drop-of-length-le s none) in
+        let same = ap length (f .left) in
+        let len = length-drop k (rowsOf s) in
+        omega arith
+
+    rows-same : take k (rowsOf s) ≡ take count (rowsOf s)
+    rows-same = take-all k (rowsOf s) all-rows ∙ sym (take-all count (rowsOf s) (let few = all-rows in omega arith))
+
+    pub cut-short : _≡_ {A = Counted} (record { whole = false; used = used }) (countedOf kind count s)
+    unfolding countedOf counted rowsCounted
+    cut-short =
+        let few = all-rows in
+        let all = ap length (take-all count (rowsOf s) (omega arith)) in
+        λ i. record { whole = sym (and-left-false (allOfKind kind (take count (rowsOf s))) (ne-eqb (length (take count (rowsOf s))) count (λ e. omega (arith, e)))) i; used = (f .bytes ∙ bytes-all k count s (let same = f .bytes in omega arith) (omega arith)) i }
+
+    pub kept-all : (j : ℕ) (numbers old : List ℕ) → old ≡ withField j (take k (rowsOf s)) numbers → old ≡ withField j (rowsCounted count s) numbers
+    unfolding rowsCounted
+    kept-all j numbers old e = e ∙ ap (λ rows. withField j rows numbers) rows-same
+
+  -- where all are read
+  module _ (done : count ≤ k) where
+    reached-count : k ≡ count
+    reached-count = let up = f .upTo in omega arith
+
+    pub all-read : _≡_ {A = Counted} (record { whole = whole; used = used }) (countedOf kind count s)
+    unfolding countedOf counted rowsCounted
+    all-read =
+        let same = reached-count in
+        let many = length-take-le count (rowsOf s) (let few = f .inRows in omega arith) in
+        λ i. record { whole = (f .kinds ∙ ap (λ n. allOfKind kind (take n (rowsOf s))) same ∙ sym (ap (λ t. t && allOfKind kind (take count (rowsOf s))) (eq-eqb (length (take count (rowsOf s))) count many))) i; used = (f .bytes ∙ ap (λ n. bytesOfLines n s) same) i }
+
+    pub kept-read : (j : ℕ) (numbers old : List ℕ) → old ≡ withField j (take k (rowsOf s)) numbers → old ≡ withField j (rowsCounted count s) numbers
+    unfolding rowsCounted
+    kept-read j numbers old e = e ∙ ap (λ n. withField j (take n (rowsOf s)) numbers) reached-count

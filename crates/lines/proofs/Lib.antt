@@ -1,0 +1,13 @@
+pub mod TextLaws
+pub mod NumberLaws
+pub mod RowLaws
+pub mod FieldLaws
+pub mod ReadRowLaws
+pub mod NextRowLaws
+pub mod RowSteps
+pub mod LineBytes
+pub mod KeptFields
+pub mod CountedLaws
+pub mod BookLines
+pub mod DigitLaws
+pub mod WritingLaws

@@ -1,0 +1,159 @@
+-- Laws of the next line: a script's rows are the next line's and those of the bytes after it, and every number of a row has at most nine digits. Assumes nothing.
+use Prim.Native.Nat.{ℕ, zero, suc, _+_, _≤_, _<_}
+use mathlib.Core.Path.{_≡_, refl, sym, ap, ap₂, _∙_, subst}
+use mathlib.Core.Bool.{Bool, true, false, cond}
+use mathlib.Core.List.{List, [], _∷_, map}
+use mathlib.Core.Logic.{⊎-elim}
+use native.Mathlib.Nat.{not-suc-le-zero}
+use native.Mathlib.Omega.{arith}
+use borrow.Author.Tests.{ltb-true, ltb-false}
+use lib.ListN.{length, getD, take, drop, length-map, List·getD-eq-default}
+use lib.Seq.{length-take-le, drop-length}
+use lib.Dec.{ltb, eqb}
+use Rattle.tariff.specs.Sum.{listTo}
+use Rattle.tariff.proofs.Tests.{decided, and-both}
+use Rattle.tariff.proofs.Lists.{length-list-to, at-list-to}
+use Rattle.lines.specs.declared.rows.Row.{Row}
+use Rattle.lines.specs.declared.lines.NextRow.{NextRow}
+use Rattle.lines.specs.Text.{lineFeed, Line, ended, unended, linesOf, fieldsOf, isNumber, valueOf}
+use Rattle.lines.specs.Rows.{kindOf, allNumbers, row, unreadableRow, rowIf, rowOfFields, rowOf, rowsOf}
+use Rattle.lines.specs.Reading.{lengthUpTo, firstRow, firstBytes, nextRow}
+use Rattle.lines.proofs.TextLaws.{up-to-le, line-ended, line-unended}
+use Rattle.lines.proofs.NumberLaws.{number-below}
+
+-- a row, and the bytes that its line takes
+nextOf : Row → ℕ → NextRow
+nextOf r n = record { row = r; used = n }
+
+-- the next line has an end
+pub ended-next : (rest : List ℕ) (n : ℕ) (r : Row) → n ≡ lengthUpTo lineFeed rest → n < length rest → r ≡ rowOfFields (fieldsOf (take n rest)) → record { row = r; used = n + 1 } ≡ nextRow rest
+unfolding nextRow firstRow firstBytes rowOf nextOf
+ended-next rest n r e l q =
+    let at : linesOf rest ≡ ended (take n rest) ∷ linesOf (drop (suc n) rest) = line-ended rest (omega arith) ∙ ap (λ k. ended (take k rest) ∷ linesOf (drop (suc k) rest)) (sym e) in
+    ap₂ nextOf q (ap (λ k. k + 1) (sym (length-take-le n rest (omega arith)))) ∙ sym (ap (λ lines. nextOf (firstRow lines) (firstBytes lines)) at)
+
+-- no LF is left
+pub unended-next : (rest : List ℕ) (n : ℕ) (r : Row) → n ≡ lengthUpTo lineFeed rest → length rest ≤ n → r ≡ unreadableRow → record { row = r; used = n } ≡ nextRow rest
+unfolding nextRow firstRow firstBytes rowOf nextOf linesOf
+unended-next [] n r e l q = let none = up-to-le lineFeed [] in ap₂ nextOf q (let z : n ≡ 0 = omega arith in z)
+unended-next (b ∷ bytes) n r e l q =
+    let most = up-to-le lineFeed (b ∷ bytes) in
+    ap₂ nextOf q (let all : n ≡ length (b ∷ bytes) = omega arith in all) ∙ sym (ap (λ lines. nextOf (firstRow lines) (firstBytes lines)) (line-unended b bytes (omega arith)))
+
+-- the lines of a script are the first one and those of the bytes after it
+data FirstOf : List ℕ → Type 0 where
+  with-end : {rest : List ℕ} (text : List ℕ) → linesOf rest ≡ ended text ∷ linesOf (drop (length text + 1) rest) → length text + 1 ≤ length rest → FirstOf rest
+  without : {rest : List ℕ} → 1 ≤ length rest → linesOf rest ≡ unended rest ∷ [] → FirstOf rest
+
+first-of : (b : ℕ) (bytes : List ℕ) → FirstOf (b ∷ bytes)
+first-of b bytes = ⊎-elim (λ t. end-at (ltb-true n (length rest) t)) (λ t. without (omega arith) (line-unended b bytes (ltb-false n (length rest) t))) (decided (ltb n (length rest)))
+  where
+    rest : List ℕ
+    rest = b ∷ bytes
+
+    n : ℕ
+    n = lengthUpTo lineFeed (b ∷ bytes)
+
+    end-at : n < length rest → FirstOf rest
+    end-at l =
+        let width : length (take n rest) ≡ n = length-take-le n rest (omega arith) in
+        let after : suc n ≡ length (take n rest) + 1 = omega arith in
+        with-end (take n rest) (line-ended rest l ∙ ap (λ k. ended (take n rest) ∷ linesOf (drop k rest)) after) (omega arith)
+
+module _ (b : ℕ) (bytes : List ℕ) where
+  pub next-rows : rowsOf (b ∷ bytes) ≡ nextRow (b ∷ bytes) .row ∷ rowsOf (drop (nextRow (b ∷ bytes) .used) (b ∷ bytes))
+  unfolding rowsOf nextRow firstRow firstBytes linesOf
+  next-rows = go (first-of b bytes)
+    where
+      both : (lines : List Line) → linesOf (b ∷ bytes) ≡ lines → map rowOf lines ≡ firstRow lines ∷ map rowOf (linesOf (drop (firstBytes lines) (b ∷ bytes))) → map rowOf (linesOf (b ∷ bytes)) ≡ firstRow (linesOf (b ∷ bytes)) ∷ map rowOf (linesOf (drop (firstBytes (linesOf (b ∷ bytes))) (b ∷ bytes)))
+      both lines e p = subst (λ ls. map rowOf ls ≡ firstRow ls ∷ map rowOf (linesOf (drop (firstBytes ls) (b ∷ bytes)))) (sym e) p
+
+      go : FirstOf (b ∷ bytes) → map rowOf (linesOf (b ∷ bytes)) ≡ firstRow (linesOf (b ∷ bytes)) ∷ map rowOf (linesOf (drop (firstBytes (linesOf (b ∷ bytes))) (b ∷ bytes)))
+      go (with-end text e l) = both _ e refl
+      go (without l e) = both _ e (ap (λ left. rowOf (unended (b ∷ bytes)) ∷ map rowOf (linesOf left)) (sym (drop-length (b ∷ bytes))))
+
+  pub next-some : 1 ≤ nextRow (b ∷ bytes) .used
+  unfolding nextRow firstBytes
+  next-some = go (first-of b bytes)
+    where
+      go : FirstOf (b ∷ bytes) → 1 ≤ firstBytes (linesOf (b ∷ bytes))
+      go (with-end text e l) = subst (λ ls. 1 ≤ firstBytes ls) (sym e) (omega arith)
+      go (without l e) = subst (λ ls. 1 ≤ firstBytes ls) (sym e) (omega arith)
+
+  pub next-fits : nextRow (b ∷ bytes) .used ≤ length (b ∷ bytes)
+  unfolding nextRow firstBytes
+  next-fits = go (first-of b bytes)
+    where
+      go : FirstOf (b ∷ bytes) → firstBytes (linesOf (b ∷ bytes)) ≤ length (b ∷ bytes)
+      go (with-end text e l) = subst (λ ls. firstBytes ls ≤ length (b ∷ bytes)) (sym e) l
+      go (without l e) = subst (λ ls. firstBytes ls ≤ length (b ∷ bytes)) (sym e) (omega arith)
+
+-- the three of a script that is not at its end
+pub next-of : (rest : List ℕ) → 0 < length rest → (rowsOf rest ≡ nextRow rest .row ∷ rowsOf (drop (nextRow rest .used) rest)) × (1 ≤ nextRow rest .used) × (nextRow rest .used ≤ length rest)
+next-of [] l = absurd (not-suc-le-zero l)
+next-of (b ∷ bytes) l = (next-rows b bytes, next-some b bytes, next-fits b bytes)
+
+pub row-count : (script : List ℕ) → length (rowsOf script) ≡ length (linesOf script)
+unfolding rowsOf
+row-count script = length-map (linesOf script) rowOf
+
+-- seven numbers, each of at most nine digits
+pub record NumbersFit (r : Row) : Type 0 where
+  pub width : length (r .fields) ≡ 7
+  pub below : (k : ℕ) → getD (r .fields) k 0 < 1000000000
+
+row-fits : (kind : ℕ) (numbers : List ℕ) → ((k : ℕ) → getD numbers k 0 < 1000000000) → NumbersFit (row kind numbers)
+unfolding row
+row-fits kind numbers small = record { width = length-list-to 7 (λ k. getD numbers k 0); below = λ k. ⊎-elim (λ t. inside k (ltb-true k 7 t)) (λ t. past k (ltb-false k 7 t)) (decided (ltb k 7)) }
+  where
+    inside : (k : ℕ) → k < 7 → getD (listTo 7 (λ i. getD numbers i 0)) k 0 < 1000000000
+    inside k l = subst (λ v. v < 1000000000) (sym (at-list-to 7 (λ i. getD numbers i 0) 0 k l)) (small k)
+
+    past : (k : ℕ) → 7 ≤ k → getD (listTo 7 (λ i. getD numbers i 0)) k 0 < 1000000000
+    past k l = let width = length-list-to 7 (λ i. getD numbers i 0) in subst (λ v. v < 1000000000) (sym (List·getD-eq-default (listTo 7 (λ i. getD numbers i 0)) 0 {n = k} (omega arith))) (omega arith)
+
+values-below : (fields : List (List ℕ)) → allNumbers fields ≡ true → (k : ℕ) → getD (map valueOf fields) k 0 < 1000000000
+unfolding allNumbers
+values-below [] e k = omega arith
+values-below (field ∷ fields) e zero = number-below field (and-both (isNumber field) (allNumbers fields) e .0)
+values-below (field ∷ fields) e (suc k) = values-below fields (and-both (isNumber field) (allNumbers fields) e .1) k
+
+unreadable-fits : NumbersFit unreadableRow
+unfolding unreadableRow
+unreadable-fits = row-fits 0 [] (λ k. omega arith)
+
+fields-fit : (fields : List (List ℕ)) → NumbersFit (rowOfFields fields)
+unfolding rowOfFields rowIf
+fields-fit [] = unreadable-fits
+fields-fit (word ∷ fields) = go (allNumbers fields) refl
+  where
+    kind : (t : Bool) → allNumbers fields ≡ true → NumbersFit (cond t unreadableRow (row (kindOf word (length fields)) (map valueOf fields)))
+    kind true e = unreadable-fits
+    kind false e = row-fits _ (map valueOf fields) (values-below fields e)
+
+    go : (t : Bool) → allNumbers fields ≡ t → NumbersFit (cond t (rowIf (kindOf word (length fields)) (map valueOf fields)) unreadableRow)
+    go true e = kind (eqb (kindOf word (length fields)) 0) e
+    go false e = unreadable-fits
+
+pub line-fits : (line : Line) → NumbersFit (rowOf line)
+unfolding rowOf
+line-fits (ended text) = fields-fit (fieldsOf text)
+line-fits (unended text) = unreadable-fits
+
+pub next-row-fits : (rest : List ℕ) → NumbersFit (nextRow rest .row)
+unfolding nextRow firstRow
+next-row-fits rest = go (linesOf rest)
+  where
+    go : (lines : List Line) → NumbersFit (firstRow lines)
+    go [] = unreadable-fits
+    go (line ∷ lines) = line-fits line
+
+-- every row of a script, and the unreadable one past the last
+pub rows-fit : (script : List ℕ) (i : ℕ) → NumbersFit (getD (rowsOf script) i unreadableRow)
+unfolding rowsOf
+rows-fit script i = go (linesOf script) i
+  where
+    go : (lines : List Line) (i : ℕ) → NumbersFit (getD (map rowOf lines) i unreadableRow)
+    go [] i = unreadable-fits
+    go (line ∷ lines) zero = line-fits line
+    go (line ∷ lines) (suc i) = go lines i

@@ -1,0 +1,158 @@
+-- What a line says: its kind, by its word and count of fields, and its numbers (01, Script and host).
+use Prim.Native.Nat.{ℕ, _+_}
+use Prim.Native.String.{String}
+use mathlib.Core.Bool.{Bool, true, false, cond, _&&_}
+use mathlib.Core.List.{List, [], _∷_, map}
+use lib.ListN.{length, getD, take, drop}
+use lib.Dec.{eqb}
+use Rattle.tariff.specs.Sum.{listTo}
+use Rattle.lines.specs.declared.rows.Row.{Row}
+use Rattle.lines.specs.Text.{bytesOf, Line, ended, unended, linesOf, fieldsOf, isNumber, valueOf}
+
+-- the kinds of lines; 0 is a line that cannot be read
+abbrev pub unreadable : ℕ
+unreadable = 0
+
+abbrev pub bookLine : ℕ
+bookLine = 1
+
+abbrev pub holderLine : ℕ
+holderLine = 2
+
+abbrev pub sinkLine : ℕ
+sinkLine = 3
+
+abbrev pub pathLine : ℕ
+pathLine = 4
+
+abbrev pub loadLine : ℕ
+loadLine = 5
+
+abbrev pub blockLine : ℕ
+blockLine = 6
+
+abbrev pub carryLine : ℕ
+carryLine = 7
+
+abbrev pub priorLine : ℕ
+priorLine = 8
+
+abbrev pub verifyLine : ℕ
+verifyLine = 9
+
+abbrev pub migrateLine : ℕ
+migrateLine = 10
+
+abbrev pub classLine : ℕ
+classLine = 11
+
+abbrev pub openLine : ℕ
+openLine = 12
+
+abbrev pub nominateLine : ℕ
+nominateLine = 13
+
+abbrev pub awardLine : ℕ
+awardLine = 14
+
+abbrev pub closeLine : ℕ
+closeLine = 15
+
+abbrev pub limitLine : ℕ
+limitLine = 16
+
+abbrev pub heldLine : ℕ
+heldLine = 17
+
+abbrev pub netLine : ℕ
+netLine = 18
+
+-- a word, and the kind of the lines that it begins
+pub data Form : Type 0 where
+  form : String → ℕ → Form
+
+-- the words of lines, by the count of fields after the word: none, one, two, up to seven
+unfoldable pub forms : List (List Form)
+forms =
+    (form "close" closeLine ∷ [])
+    ∷ (form "holder" holderLine ∷ form "open" openLine ∷ [])
+    ∷ (form "sink" sinkLine ∷ form "path" pathLine ∷ form "limit" limitLine ∷ form "net" netLine ∷ [])
+    ∷ (form "block" blockLine
+    ∷ form "carry" carryLine
+    ∷ form "migrate" migrateLine
+    ∷ form "nominate" nominateLine
+    ∷ form "award" awardLine
+    ∷ form "held" heldLine
+    ∷ [])
+    ∷ (form "book" bookLine ∷ form "prior" priorLine ∷ [])
+    ∷ (form "class" classLine ∷ [])
+    ∷ (form "load" loadLine ∷ [])
+    ∷ (form "verify" verifyLine ∷ [])
+    ∷ []
+
+-- the same bytes
+unfoldable pub sameBytes : List ℕ → List ℕ → Bool
+sameBytes [] [] = true
+sameBytes [] (y ∷ ys) = false
+sameBytes (x ∷ xs) [] = false
+sameBytes (x ∷ xs) (y ∷ ys) = eqb x y && sameBytes xs ys
+
+-- the kind of a word among some
+unfoldable pub kindAmong : List ℕ → List Form → ℕ
+kindAmong word [] = unreadable
+kindAmong word (form known kind ∷ later) = cond (sameBytes word (bytesOf known)) kind (kindAmong word later)
+
+-- a line of another word or count of fields is unreadable
+unfoldable pub kindOf : List ℕ → ℕ → ℕ
+kindOf word count = kindAmong word (getD forms count [])
+
+unfoldable pub allNumbers : List (List ℕ) → Bool
+allNumbers [] = true
+allNumbers (field ∷ fields) = isNumber field && allNumbers fields
+
+-- a line's kind and its numbers, 0 past the last; no line has more than seven
+unfoldable pub row : ℕ → List ℕ → Row
+row kind numbers = record { kind = kind; fields = listTo 7 (λ k. getD numbers k 0) }
+
+unfoldable pub unreadableRow : Row
+unreadableRow = row unreadable []
+
+-- a row of a kind, none where that is unreadable
+unfoldable pub rowIf : ℕ → List ℕ → Row
+rowIf kind numbers = cond (eqb kind unreadable) unreadableRow (row kind numbers)
+
+-- the word and the fields after it
+unfoldable pub rowOfFields : List (List ℕ) → Row
+rowOfFields [] = unreadableRow
+rowOfFields (word ∷ fields) = cond (allNumbers fields) (rowIf (kindOf word (length fields)) (map valueOf fields)) unreadableRow
+
+-- bytes after the last LF are a line that cannot be read
+unfoldable pub rowOf : Line → Row
+rowOf (ended text) = rowOfFields (fieldsOf text)
+rowOf (unended text) = unreadableRow
+
+unfoldable pub rowsOf : List ℕ → List Row
+rowsOf script = map rowOf (linesOf script)
+
+-- a number of a row, counted from 0
+unfoldable pub field : ℕ → Row → ℕ
+field k r = getD (r .fields) k 0
+
+-- as many lines as were counted, all of one kind
+unfoldable pub allOfKind : ℕ → List Row → Bool
+allOfKind kind [] = true
+allOfKind kind (r ∷ rows) = eqb (r .kind) kind && allOfKind kind rows
+
+unfoldable pub counted : ℕ → ℕ → List Row → Bool
+counted kind n lines = eqb (length lines) n && allOfKind kind lines
+
+-- the rows after a book head: as many holder, sink and path lines as it counts, in that order
+module _ (head : Row) (rows : List Row) where
+  unfoldable pub holderRows : List Row
+  holderRows = take (field 0 head) rows
+
+  unfoldable pub sinkRows : List Row
+  sinkRows = take (field 2 head) (drop (field 0 head) rows)
+
+  unfoldable pub pathRows : List Row
+  pathRows = take (field 3 head) (drop (field 0 head + field 2 head) rows)

@@ -1,0 +1,33 @@
+// Numbers as decimal digits.
+use crate::output::write_bytes;
+ghost use Prim.Native.Nat.{_+_, _≤_, _<_};
+ghost use mathlib.Core.Path.{_≡_};
+ghost use lib.ListN.{length};
+ghost use Rattle.lines.specs.Text.{decimal, digit};
+ghost use Rattle.lines.specs.Writing.{leastOfThirteenDigits, writtenAt};
+
+// The byte of a digit.
+pub fn digit_byte(d: u64) -> u8
+    requires { ⌜ d < 10 ⌝ }
+    ensures { λ r. ⌜ r ≡ digit d ⌝ }
+{
+    48 + d as u8
+}
+
+// Writes a number of at most twelve digits into the output at a place, and says where the next text goes.
+pub fn write_decimal(out: &mut [u8], at: usize, v: u64) -> usize
+    requires { ⌜ (at + 12 ≤ length (now out)) × (v < leastOfThirteenDigits) ⌝ }
+    ensures { λ r. ⌜ (r ≡ at + length (decimal v)) × (now (out .exit) ≡ writtenAt (now (out .entry)) at (decimal v)) ⌝ }
+{
+    // The digits are found from the last to the first.
+    let mut digits = [0u8; 12];
+    let mut first = 11;
+    let mut rest = v;
+    while 10 <= rest {
+        digits[first] = digit_byte(rest % 10);
+        first -= 1;
+        rest /= 10;
+    }
+    digits[first] = digit_byte(rest);
+    write_bytes(out, at, &digits[first..])
+}

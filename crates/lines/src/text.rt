@@ -1,0 +1,91 @@
+// The bytes of a script: where a line or a field ends, how many lines there are, and the number that a field writes (01, Script and host).
+ghost use mathlib.Core.Path.{_≡_};
+ghost use Prim.Native.Nat.{_≤_};
+ghost use lib.ListN.{length};
+ghost use Rattle.lines.specs.Text.{lineFeed, linesOf};
+ghost use Rattle.lines.specs.Reading.{lengthUpTo, numeral, digitsRead};
+
+const LINE_FEED: u8 = 10;
+
+// What a field writes: a number, or none.
+pub enum Numeral {
+    No,
+    Value(u64),
+}
+
+// How many bytes stand before the first that is `stop`: all of them if none is.
+pub fn bytes_before(rest: &[u8], stop: u8) -> usize
+    ensures { λ r. ⌜ r ≡ lengthUpTo stop (now (rest .entry)) ⌝ }
+{
+    let mut i = 0;
+    while i < rest.len() {
+        if rest[i] == stop {
+            return i;
+        }
+        i += 1;
+    }
+    i
+}
+
+// How many bytes stand before the first LF.
+pub fn line_length(rest: &[u8]) -> usize
+    ensures { λ r. ⌜ r ≡ lengthUpTo lineFeed (now (rest .entry)) ⌝ }
+{
+    bytes_before(rest, LINE_FEED)
+}
+
+// How many lines a script has. From its last byte to its first: a line ends at the last byte, and at each LF before it.
+pub fn count_lines(script: &[u8]) -> u64
+    ensures { λ r. ⌜ r ≡ length (linesOf (now (script .entry))) ⌝ }
+{
+    let mut lines: u64 = 0;
+    let mut i = script.len();
+    while 0 < i {
+        i -= 1;
+        if (script[i] == LINE_FEED) | (lines == 0) {
+            lines += 1;
+        }
+    }
+    lines
+}
+
+// The value of at most 9 bytes, where all of them are digits.
+fn read_digits(field: &[u8]) -> Numeral
+    requires { ⌜ length (now field) ≤ 9 ⌝ }
+    ensures { λ r. ⌜ r ≡ digitsRead 0 (now (field .entry)) ⌝ }
+{
+    let mut value: u64 = 0;
+    let mut i = 0;
+    while i < field.len() {
+        let byte = field[i];
+        if byte < b'0' {
+            return Numeral::No;
+        }
+        if b'9' < byte {
+            return Numeral::No;
+        }
+        value = value * 10 + (byte - b'0') as u64;
+        i += 1;
+    }
+    Numeral::Value(value)
+}
+
+// The number that a field writes: 1 to 9 digits, and no leading zero but 0 itself.
+// The length comes first, so that no value of more than 9 digits is worked out.
+pub fn read_number(field: &[u8]) -> Numeral
+    ensures { λ r. ⌜ r ≡ numeral (now (field .entry)) ⌝ }
+{
+    let length = field.len();
+    if length < 1 {
+        return Numeral::No;
+    }
+    if 9 < length {
+        return Numeral::No;
+    }
+    if 1 < length {
+        if field[0] == b'0' {
+            return Numeral::No;
+        }
+    }
+    read_digits(field)
+}
