@@ -8,8 +8,8 @@ use records::sums::sum_at_base;
 use tariff::limit::Sums;
 use tariff::limit::less;
 use tariff::limit::tier_limit;
+use tariff::limit::tier_rule;
 use tariff::terms::carried_month;
-use tariff::terms::term_of;
 ghost use mathlib.Core.Path.{_≡_};
 ghost use Prim.Native.Nat.{_<_};
 ghost use Rattle.ledger.specs.Call.{limitOf};
@@ -61,7 +61,8 @@ fn limit_sums(b: Book, tier: u64, h: u64, base: u64) -> Sums
     ensures { λ r. ⌜ r ≡ limitSums (openedWith b) (ledgerOf b) tier h base ⌝ }
 {
     let loads = b.loads;
-    let term = term_of(tier);
+    let rule = tier_rule(tier);
+    let term = rule.term;
     let month = carried_month(term);
     let last = less(tier, 1);
     Sums {

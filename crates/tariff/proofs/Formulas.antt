@@ -49,6 +49,11 @@ pub rule-is : (tier : ℕ) {f : Formula} {t : ℕ} → formulaOf tier ≡ f → 
 unfolding ruleOf
 rule-is tier p q = λ i. record { formula = sym p i; term = q i }
 
+-- the first three tiers are the season's
+pub season-term : (tier : ℕ) → tier < 4 → 0 ≡ termOf tier
+unfolding termOf termTable allBelow
+season-term tier l = sym (eqb-true (termOf tier) 0 (all-below 4 (λ t. eqb (termOf t) 0) refl tier l))
+
 -- past the last tier the table has nothing
 pub term-past : (tier : ℕ) → 9 < tier → termOf tier ≡ 0
 unfolding termOf termTable

@@ -36,42 +36,31 @@ pub struct TierRule {
     pub term: u64,
 }
 
-// The formula and the term, by the tier's number.
+// The formula and the term, by the tier's number. Tiers 1 to 3 are the season's.
 pub fn tier_rule(tier: u64) -> TierRule
     ensures { λ r. ⌜ r ≡ ruleOf tier ⌝ }
 {
-    let term = term_of(tier);
     match tier {
         1 => TierRule {
             formula: Formula::First,
-            term,
+            term: 0,
         },
-        2..=3 => {
-            if tier == 2 {
-                TierRule {
-                    formula: Formula::Second,
-                    term,
-                }
+        2..=3 => TierRule {
+            formula: if tier == 2 {
+                Formula::Second
             } else {
-                TierRule {
-                    formula: Formula::Third,
-                    term,
-                }
-            }
-        }
-        _ => {
-            if tier % 2 == 0 {
-                TierRule {
-                    formula: Formula::Even,
-                    term,
-                }
+                Formula::Third
+            },
+            term: 0,
+        },
+        _ => TierRule {
+            formula: if tier % 2 == 0 {
+                Formula::Even
             } else {
-                TierRule {
-                    formula: Formula::Odd,
-                    term,
-                }
-            }
-        }
+                Formula::Odd
+            },
+            term: term_of(tier),
+        },
     }
 }
 
