@@ -21,9 +21,9 @@ use denote.Triple.Statement.{Contract}
 use denote.Triple.Spec.{tripleOf}
 use denote.Triple.Walked.{says}
 use denote.Triple.Clauses.{ensured, lasts}
-use Rattle.tariff.specs.declared.migration.ClassLine.{ClassLine}
-use Rattle.tariff.proofs.migration.ClassLine as L
-use Rattle.tariff.proofs.migration.ClassLine.Laws as L′
+use Rattle.migration.specs.declared.netting.ClassLine.{ClassLine}
+use Rattle.migration.proofs.netting.ClassLine as L
+use Rattle.migration.proofs.netting.ClassLine.Laws as L′
 use Rattle.book.specs.declared.book.Book.{Book}
 use Rattle.book.specs.declared.book.Answered.{Answered}
 use Rattle.book.specs.declared.class_lines.Columns.{Columns}

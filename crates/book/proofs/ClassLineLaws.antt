@@ -9,13 +9,14 @@ use lib.ListN.{length, getD, set, take, replicate, length-set, length-replicate}
 use lib.Seq.{ext-getD, getD-take, length-take-le}
 use lib.Dec.{leb, ltb}
 use borrow.Author.Tests.{leb-true, le-leb, ltb-true, ltb-false, lt-ltb, le-ltb}
-use Rattle.tariff.specs.declared.migration.ClassLine.{ClassLine}
+use Rattle.migration.specs.declared.netting.ClassLine.{ClassLine}
 use Rattle.tariff.specs.Sum.{anyOf, anyBelow, listTo}
-use Rattle.tariff.specs.Ranges.{wrongTerm, wrongClassLine}
-use Rattle.tariff.specs.Netting.{classLineAt, classLinesOf, SameLengths}
+use Rattle.tariff.specs.Ranges.{wrongTerm}
+use Rattle.migration.specs.ClassRanges.{wrongClassLine}
+use Rattle.migration.specs.Netting.{classLineAt, classLinesOf, SameLengths}
 use Rattle.tariff.proofs.Tests.{decided, or-left-true, any-at}
 use Rattle.tariff.proofs.Lists.{length-list-to, at-list-to, any-list-to, Filled, filled-none, filled-more}
-use Rattle.tariff.proofs.FitLines.{counted}
+use Rattle.migration.proofs.FitLines.{counted}
 use Rattle.ledger.specs.Opening.{Opening}
 use Rattle.ledger.specs.Ranges.{noHolder, noSink, strangerIn, wrongMigration}
 use Rattle.ledger.specs.Call.{migrate}

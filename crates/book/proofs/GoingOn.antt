@@ -4,7 +4,7 @@ use mathlib.Core.Path.{_≡_, sym, subst}
 use mathlib.Core.Bool.{Bool, true, false, cond}
 use mathlib.Core.List.{List}
 use Rattle.tariff.specs.Metered.{blocksOf, sameLengths}
-use Rattle.tariff.specs.Netting.{classLinesOf, sameCounts}
+use Rattle.migration.specs.Netting.{classLinesOf, sameCounts}
 use Rattle.ledger.specs.Opening.{Opening}
 use Rattle.ledger.specs.Call.{Call, load, migrate}
 use Rattle.book.specs.declared.book.Book.{Book}

@@ -9,16 +9,17 @@ use native.Mathlib.Omega.{arith}
 use lib.ListN.{length}
 use lib.Dec.{leb, ltb}
 use borrow.Author.Tests.{leb-true, leb-false, le-leb, lt-leb, ltb-false, not-true}
-use Rattle.tariff.specs.declared.migration.ClassLine.{ClassLine}
+use Rattle.migration.specs.declared.netting.ClassLine.{ClassLine}
 use Rattle.tariff.specs.Sum.{sumTo, anyBelow, anyOf}
-use Rattle.tariff.specs.Ranges.{wrongTerm, wrongClassLine}
-use Rattle.tariff.specs.Migration.{netted, lostBy, wattsOneWay}
-use Rattle.tariff.specs.Netting.{sameCounts, pairAt, holderAt, classLineAt, classLinesOf, unfitLine, linesFit, nettingOf, SameLengths}
+use Rattle.tariff.specs.Ranges.{wrongTerm}
+use Rattle.migration.specs.ClassRanges.{wrongClassLine}
+use Rattle.migration.specs.Migration.{netted, lostBy, wattsOneWay}
+use Rattle.migration.specs.Netting.{sameCounts, pairAt, holderAt, classLineAt, classLinesOf, unfitLine, linesFit, nettingOf, SameLengths}
 use Rattle.tariff.proofs.Sums.{sum-ext, sum-bound}
 use Rattle.tariff.proofs.Tests.{or-unmet, and-both, and-join, decided}
 use Rattle.tariff.proofs.Lists.{length-list-to, any-list-to}
-use Rattle.tariff.proofs.Pairs.{pair-of-cells}
-use Rattle.tariff.proofs.FitLines.{counted}
+use Rattle.migration.proofs.Pairs.{pair-of-cells}
+use Rattle.migration.proofs.FitLines.{counted}
 use Rattle.ledger.specs.Opening.{Opening}
 use Rattle.ledger.specs.Ranges.{noHolder, strangerIn, wrongMigration}
 use Rattle.ledger.specs.Moves.{loadBefore}

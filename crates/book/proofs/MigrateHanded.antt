@@ -9,9 +9,9 @@ use borrow.Author.Tests.{not-true, not-false}
 use Rattle.tariff.specs.Sum.{sumTo, anyBelow}
 use Rattle.tariff.specs.Terms.{firstTierOf}
 use Rattle.tariff.specs.Ranges.{wrongTerm}
-use Rattle.tariff.specs.Netting.{sameCounts, pairAt, holderAt, classLinesOf, SameLengths}
+use Rattle.migration.specs.Netting.{sameCounts, pairAt, holderAt, classLinesOf, SameLengths}
 use Rattle.tariff.proofs.Tests.{or-unmet}
-use Rattle.tariff.proofs.FitLines.{same-lengths}
+use Rattle.migration.proofs.FitLines.{same-lengths}
 use Rattle.ledger.specs.Ranges.{noSink}
 use Rattle.ledger.specs.Calendar.{tierIsOpen, beforeTier, migrationInTime}
 use Rattle.ledger.specs.Call.{migrate}

@@ -6,10 +6,10 @@ use mathlib.Core.List.{List}
 use native.Mathlib.Nat.{le-trans, le-of-eq}
 use native.Mathlib.Omega.{arith}
 use lib.Dec.{eqb}
-use Rattle.tariff.specs.declared.migration.ClassLine.{ClassLine}
+use Rattle.migration.specs.declared.netting.ClassLine.{ClassLine}
 use Rattle.tariff.specs.Terms.{hasMonth}
-use Rattle.tariff.specs.Migration.{netted, lostBy, share, shares, shifted}
-use Rattle.tariff.specs.Netting.{sameCounts, pairAt, holderAt, classLinesOf, linesFit, SameLengths}
+use Rattle.migration.specs.Migration.{netted, lostBy, share, shares, shifted}
+use Rattle.migration.specs.Netting.{sameCounts, pairAt, holderAt, classLinesOf, linesFit, SameLengths}
 use Rattle.tariff.proofs.Sums.{sum-ext}
 use Rattle.ledger.specs.Opening.{Opening, endsAt}
 use Rattle.ledger.specs.Call.{migrate}

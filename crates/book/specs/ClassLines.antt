@@ -5,7 +5,7 @@ use mathlib.Core.Bool.{cond, _||_}
 use mathlib.Core.List.{List}
 use lib.ListN.{length, getD, set, replicate, take}
 use lib.Dec.{ltb}
-use Rattle.tariff.specs.declared.migration.ClassLine.{ClassLine}
+use Rattle.migration.specs.declared.netting.ClassLine.{ClassLine}
 use Rattle.ledger.specs.Ranges.{noHolder, noSink}
 use Rattle.book.specs.declared.book.Book.{Book}
 use Rattle.book.specs.declared.book.Answered.{Answered}

@@ -4,8 +4,8 @@ use mathlib.Core.Bool.{Bool, cond, _||_}
 use mathlib.Core.List.{List}
 use lib.ListN.{getD}
 use lib.Dec.{eqb}
-use Rattle.tariff.specs.Ranges.{wrongClassFields}
-use Rattle.tariff.specs.Netting.{classLinesOf, sameCounts, nettingOf}
+use Rattle.migration.specs.ClassRanges.{wrongClassFields}
+use Rattle.migration.specs.Netting.{classLinesOf, sameCounts, nettingOf}
 use Rattle.ledger.specs.Opening.{Opening, holderKind}
 use Rattle.ledger.specs.Ranges.{noHolder}
 use Rattle.ledger.specs.Call.{migrate}

@@ -2,8 +2,8 @@
 use crate::book::Answered;
 use crate::book::Book;
 use crate::book::refused;
+use migration::netting::ClassLine;
 use records::refusals::refuse;
-use tariff::migration::ClassLine;
 ghost use mathlib.Core.Path.{_≡_};
 ghost use Rattle.ledger.specs.Call.{migrate};
 ghost use Rattle.book.specs.Handed.{handed};

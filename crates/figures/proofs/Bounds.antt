@@ -8,11 +8,11 @@ use native.Mathlib.Bridge.{le-by-compare, IsLe}
 use native.Mathlib.Omega.{arith}
 use lib.ListN.{length}
 use Rattle.tariff.specs.Sum.{sumTo}
-use Rattle.tariff.specs.Migration.{shares}
-use Rattle.tariff.specs.Netting.{pairAt, holderAt, ProductsFit, PartsFit, shareCells}
+use Rattle.migration.specs.Migration.{shares}
+use Rattle.migration.specs.Netting.{pairAt, holderAt, ProductsFit, PartsFit, shareCells}
 use Rattle.tariff.proofs.Sums.{sum-ext, sum-bound}
-use Rattle.tariff.proofs.Pairs.{cell-below, pair-of-cells}
-use Rattle.tariff.proofs.Shifts.{shares-fit}
+use Rattle.migration.proofs.Pairs.{cell-below, pair-of-cells}
+use Rattle.migration.proofs.Shifts.{shares-fit}
 use Rattle.figures.specs.Bounds.{Moderate, WithinLoad, GivenFits}
 
 -- from an impossible answer of a test, anything

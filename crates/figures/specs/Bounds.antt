@@ -3,8 +3,8 @@ use Prim.Native.Nat.{ℕ, _<_, _≤_, _^_}
 use mathlib.Core.List.{List}
 use lib.ListN.{length, getD}
 use Rattle.tariff.specs.Sum.{sumTo}
-use Rattle.tariff.specs.Migration.{lostBy}
-use Rattle.tariff.specs.Netting.{pairAt, holderAt}
+use Rattle.migration.specs.Migration.{lostBy}
+use Rattle.migration.specs.Netting.{pairAt, holderAt}
 
 -- each number of a list is below 2^31
 abbrev pub Moderate : List ℕ → Type 0

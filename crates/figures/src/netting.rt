@@ -5,8 +5,8 @@ use crate::netting_rows;
 use crate::rows::at;
 use crate::rows::part;
 use crate::write;
-use tariff::migration::Netting;
-use tariff::migration::net_lines;
+use migration::netting::Netting;
+use migration::netting::net_lines;
 
 // How many numbers a row has.
 pub const WIDTH: usize = 2;

@@ -7,10 +7,10 @@ use crate::netting::netted;
 use crate::rows::at;
 use crate::shift_rows;
 use crate::write;
-use tariff::migration::Netting;
-use tariff::migration::given_by;
-use tariff::migration::shares_of;
-use tariff::migration::shifted_column;
+use migration::netting::Netting;
+use migration::shares::given_by;
+use migration::shares::shares_of;
+use migration::shares::shifted_column;
 
 // How many numbers a row has, beside its column and its loads of eight each.
 pub const WIDTH: usize = 2;

@@ -5,12 +5,12 @@ use mathlib.Core.Bool.{Bool, true, false, cond, _&&_, and-true}
 use mathlib.Core.List.{List}
 use native.Mathlib.Nat.{le-trans, le-of-eq}
 use lib.Dec.{eqb}
-use Rattle.tariff.specs.declared.migration.ClassLine.{ClassLine}
+use Rattle.migration.specs.declared.netting.ClassLine.{ClassLine}
 use Rattle.tariff.specs.Sum.{countIf, sumTo}
-use Rattle.tariff.specs.Migration.{netted, lostBy, shares}
+use Rattle.migration.specs.Migration.{netted, lostBy, shares}
 use Rattle.tariff.proofs.Sums.{count-true, count-false, sum-ext, sum-add, sum-zero, sum-one}
 use Rattle.tariff.proofs.Tests.{and-right-false}
-use Rattle.tariff.proofs.Shifts.{shares-fit, shift-sum}
+use Rattle.migration.proofs.Shifts.{shares-fit, shift-sum}
 use Rattle.ledger.specs.Opening.{Opening}
 use Rattle.ledger.specs.Ledger.{Ledger}
 use Rattle.ledger.specs.Moves.{loadBefore, columnAfter, loadAfter}

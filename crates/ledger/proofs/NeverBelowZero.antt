@@ -7,12 +7,12 @@ use native.Mathlib.Nat.{le-trans, le-of-eq}
 use native.Mathlib.Omega.{arith}
 use lib.Dec.{eqb}
 use borrow.Author.Tests.{eqb-true}
-use Rattle.tariff.specs.declared.migration.ClassLine.{ClassLine}
+use Rattle.migration.specs.declared.netting.ClassLine.{ClassLine}
 use Rattle.tariff.specs.Sum.{countIf}
 use Rattle.tariff.specs.Terms.{hasMonth}
-use Rattle.tariff.specs.Migration.{netted, lostBy, shares}
+use Rattle.migration.specs.Migration.{netted, lostBy, shares}
 use Rattle.tariff.proofs.Tests.{and-both}
-use Rattle.tariff.proofs.Shifts.{shift-entry}
+use Rattle.migration.proofs.Shifts.{shift-entry}
 use Rattle.ledger.specs.Opening.{Opening, endsAt}
 use Rattle.ledger.specs.Ledger.{Ledger}
 use Rattle.ledger.specs.Call.{Call, migrate}

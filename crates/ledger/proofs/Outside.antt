@@ -7,10 +7,10 @@ use mathlib.Core.Logic.{_⊎_, inl, inr}
 use native.Mathlib.Omega.{arith}
 use lib.Dec.{leb, eqb}
 use borrow.Author.Tests.{leb-false, ne-eqb}
-use Rattle.tariff.specs.declared.migration.ClassLine.{ClassLine}
+use Rattle.migration.specs.declared.netting.ClassLine.{ClassLine}
 use Rattle.tariff.specs.Sum.{sumOver, anyOf}
 use Rattle.tariff.specs.Terms.{termOf, hasMonth}
-use Rattle.tariff.specs.Migration.{wattsOneWay, netted}
+use Rattle.migration.specs.Migration.{wattsOneWay, netted}
 use Rattle.tariff.proofs.Sums.{count-false, sum-zero}
 use Rattle.tariff.proofs.Tests.{or-unmet, and-left-false, and-right-false}
 use Rattle.ledger.specs.Opening.{Opening}

@@ -7,7 +7,7 @@ use native.Mathlib.Nat.{le-trans, le-of-eq, sub-le}
 use lib.Dec.{eqb}
 use borrow.Author.Tests.{eqb-true}
 use Rattle.tariff.specs.Sum.{countIf}
-use Rattle.tariff.specs.declared.migration.ClassLine.{ClassLine}
+use Rattle.migration.specs.declared.netting.ClassLine.{ClassLine}
 use Rattle.tariff.specs.Load.{Block, loadPosted}
 use Rattle.tariff.specs.Terms.{hasMonth}
 use Rattle.tariff.proofs.Sums.{sum-le}

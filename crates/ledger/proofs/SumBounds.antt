@@ -9,9 +9,9 @@ use native.Mathlib.Omega.{arith}
 use lib.ListN.{length}
 use lib.Dec.{ltb, eqb}
 use borrow.Author.Tests.{ltb-false}
-use Rattle.tariff.specs.declared.migration.ClassLine.{ClassLine}
+use Rattle.migration.specs.declared.netting.ClassLine.{ClassLine}
 use Rattle.tariff.specs.Sum.{countIf, sumOver, anyOf}
-use Rattle.tariff.specs.Migration.{wattsOneWay}
+use Rattle.migration.specs.Migration.{wattsOneWay}
 use Rattle.tariff.proofs.Sums.{count-le, sum-add}
 use Rattle.tariff.proofs.Tests.{or-unmet}
 use Rattle.tariff.proofs.EvidenceBounds.{entry-le}
@@ -19,7 +19,8 @@ use Rattle.ledger.specs.Opening.{Opening, endsAt, comesFrom, legal}
 use Rattle.ledger.specs.Call.{Call}
 use Rattle.ledger.specs.Limits.{sumAtBase, longTermAt, priorYearAt, awardsAt, nominatedAt}
 use Rattle.ledger.specs.Verification.{sumFromSource, verifiedKw}
-use Rattle.tariff.specs.Ranges.{mostKw, within, wrongClassLine, wrongClassFields}
+use Rattle.tariff.specs.Ranges.{mostKw, within}
+use Rattle.migration.specs.ClassRanges.{wrongClassLine, wrongClassFields}
 use Rattle.ledger.specs.Season.{after, held, net}
 use Rattle.ledger.proofs.Conserved.{carriedSum, awardedSum}
 use Rattle.ledger.proofs.TierBounds.{nominatedSum}

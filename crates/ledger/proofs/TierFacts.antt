@@ -7,15 +7,16 @@ use mathlib.Core.Logic.{_⊎_, inl, inr}
 use lib.ListN.{length}
 use lib.Dec.{leb, eqb}
 use borrow.Author.Tests.{ltb-false, leb-true, leb-false, eqb-true, not-true, not-false}
-use Rattle.tariff.specs.declared.migration.ClassLine.{ClassLine}
+use Rattle.migration.specs.declared.netting.ClassLine.{ClassLine}
 use Rattle.tariff.specs.Sum.{anyOf}
 use Rattle.tariff.specs.Terms.{firstTierOf}
-use Rattle.tariff.specs.Migration.{netted, lostBy}
+use Rattle.migration.specs.Migration.{netted, lostBy}
 use Rattle.tariff.proofs.Tests.{or-unmet, and-both, none-below}
 use Rattle.ledger.specs.Opening.{Opening, pathSink, pathBase}
 use Rattle.ledger.specs.Ledger.{Ledger}
 use Rattle.ledger.specs.Call.{migrate, openTier, nominate, award, closeTier}
-use Rattle.tariff.specs.Ranges.{wrongTerm, mostKw, wrongClassLine}
+use Rattle.tariff.specs.Ranges.{wrongTerm, mostKw}
+use Rattle.migration.specs.ClassRanges.{wrongClassLine}
 use Rattle.ledger.specs.Ranges.{noHolder, noSink, noPath, strangerIn, wrongMigration, wrongTier}
 use Rattle.ledger.specs.Calendar.{beforeTier, migrationInTime, tierInTurn}
 use Rattle.ledger.specs.Limits.{nominatedAt, tierLimit}

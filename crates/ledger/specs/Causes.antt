@@ -3,11 +3,11 @@ use Prim.Native.Nat.{ℕ, _+_}
 use mathlib.Core.Bool.{Bool, cond, not, _&&_, _||_}
 use mathlib.Core.List.{List, [], _∷_}
 use lib.Dec.{ltb, eqb}
-use Rattle.tariff.specs.declared.migration.ClassLine.{ClassLine}
+use Rattle.migration.specs.declared.netting.ClassLine.{ClassLine}
 use Rattle.tariff.specs.Sum.{anyOf, anyBelow}
 use Rattle.tariff.specs.Load.{Block, blocksBroken, tooManyMissing}
 use Rattle.tariff.specs.Terms.{termOf}
-use Rattle.tariff.specs.Migration.{netted, lostBy}
+use Rattle.migration.specs.Migration.{netted, lostBy}
 use Rattle.ledger.specs.Opening.{Opening, loadServing, outsideEntity, subLap, schedulingPoint, holderKind, sinkKind, pathSource, pathSink, pathBase}
 use Rattle.ledger.specs.Call.{Call, load, carry, prior, verify, migrate, openTier, nominate, award, closeTier, Query, limitOf, heldOn, netOn}
 use Rattle.ledger.specs.Ledger.{Ledger}

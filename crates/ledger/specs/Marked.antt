@@ -2,10 +2,10 @@
 use Prim.Native.Nat.{ℕ, zero, suc}
 use mathlib.Core.List.{List, [], _∷_, _++_}
 use lib.ListN.{length, replicate}
-use Rattle.tariff.specs.declared.migration.ClassLine.{ClassLine}
+use Rattle.migration.specs.declared.netting.ClassLine.{ClassLine}
 use Rattle.tariff.specs.Load.{Block, metric, loadPosted}
 use Rattle.tariff.specs.Eligible.{seasonalEligible, priorityEligible}
-use Rattle.tariff.specs.Migration.{netted}
+use Rattle.migration.specs.Migration.{netted}
 use Rattle.ledger.specs.Opening.{Opening, loadServing, outsideEntity, defaultLap, schedulingPoint}
 use Rattle.ledger.specs.Call.{load, carry, prior, verify, migrate, openTier, nominate, award, closeTier, limitOf, heldOn, netOn}
 use Rattle.ledger.specs.Season.{Ask, call, query, Answer, done, value, refused, season}

@@ -4,10 +4,11 @@ use mathlib.Core.Bool.{Bool, not, _||_}
 use mathlib.Core.List.{List}
 use lib.ListN.{length}
 use lib.Dec.{leb, ltb}
-use Rattle.tariff.specs.declared.migration.ClassLine.{ClassLine}
+use Rattle.migration.specs.declared.netting.ClassLine.{ClassLine}
 use Rattle.tariff.specs.Sum.{anyOf}
 use Rattle.tariff.specs.Load.{Block}
-use Rattle.tariff.specs.Ranges.{mostKw, within, wrongKw, wrongTerm, wrongClassLine}
+use Rattle.tariff.specs.Ranges.{mostKw, within, wrongKw, wrongTerm}
+use Rattle.migration.specs.ClassRanges.{wrongClassLine}
 use Rattle.ledger.specs.Opening.{Opening}
 
 -- cause 2: a number that is not below its count

@@ -9,7 +9,7 @@ use lib.ListN.{length, getD, set, length-set, List·getD-eq-default}
 use lib.Dec.{leb, ltb, eqb}
 use borrow.Author.Tests.{ltb-true, ltb-false, lt-ltb, le-ltb, eqb-true, eqb-false}
 use Rattle.tariff.specs.Sum.{listTo}
-use Rattle.tariff.specs.Netting.{holderAt, columnCells}
+use Rattle.migration.specs.Netting.{holderAt, columnCells}
 use Rattle.tariff.proofs.Tests.{and-both, decided}
 use Rattle.tariff.proofs.Lists.{length-list-to, at-list-to}
 use Rattle.ledger.specs.Effects.{same3}

@@ -7,7 +7,7 @@ use native.Mathlib.Omega.{arith}
 use lib.ListN.{length}
 use lib.Dec.{eqb}
 use Rattle.ledger.specs.Opening.{Opening, endsAt}
-use Rattle.tariff.specs.Netting.{holderAt, shiftedCells}
+use Rattle.migration.specs.Netting.{holderAt, shiftedCells}
 use Rattle.records.specs.declared.loads.Loads.{Loads}
 use Rattle.records.specs.declared.moves.Moved.{Moved}
 use Rattle.records.specs.declared.rights.Rights.{Rights}

@@ -8,8 +8,8 @@ use native.Mathlib.Nat.{mul-zero, zero-mul, zero-div}
 use native.Mathlib.Omega.{arith}
 use lib.Dec.{ltb, eqb}
 use borrow.Author.Tests.{ltb-true, ltb-false, eqb-true}
-use Rattle.tariff.specs.declared.migration.ClassLine.{ClassLine}
-use Rattle.tariff.specs.Migration.{netted, share, shares, shifted}
+use Rattle.migration.specs.declared.netting.ClassLine.{ClassLine}
+use Rattle.migration.specs.Migration.{netted, share, shares, shifted}
 use Rattle.tariff.proofs.Sums.{sum-zero}
 use Rattle.tariff.proofs.Tests.{and-both, decided, both-ways}
 use Rattle.ledger.specs.Opening.{Opening}

@@ -10,13 +10,13 @@ use lib.Dec.{ltb, eqb}
 use borrow.Author.Tests.{ltb-true, ltb-false}
 use Rattle.tariff.specs.Sum.{sumTo}
 use Rattle.tariff.specs.Ranges.{mostKw}
-use Rattle.tariff.specs.Migration.{share, shares, shifted, lostBy}
-use Rattle.tariff.specs.Netting.{pairAt, holderAt, columnCells, ProductsFit, PartsFit, shareCells, shiftedCells}
+use Rattle.migration.specs.Migration.{share, shares, shifted, lostBy}
+use Rattle.migration.specs.Netting.{pairAt, holderAt, columnCells, ProductsFit, PartsFit, shareCells, shiftedCells}
 use Rattle.tariff.proofs.Tests.{decided}
 use Rattle.tariff.proofs.Sums.{sum-ext, sum-zero, term-le-sum}
-use Rattle.tariff.proofs.Shifts.{shares-fit}
+use Rattle.migration.proofs.Shifts.{shares-fit}
 use Rattle.tariff.proofs.Lists.{at-list-to}
-use Rattle.tariff.proofs.Pairs.{pair-of-cells}
+use Rattle.migration.proofs.Pairs.{pair-of-cells}
 use Rattle.ledger.proofs.Bounds.{one-fits, share-product-fits}
 use Rattle.records.specs.declared.moves.Moved.{Moved}
 use Rattle.records.specs.Cells.{readAt, cellsOf}

@@ -8,8 +8,8 @@ use lib.ListN.{length}
 use lib.Dec.{leb, ltb, eqb}
 use Rattle.tariff.specs.Sum.{sumTo}
 use Rattle.tariff.specs.Ranges.{mostKw}
-use Rattle.tariff.specs.Migration.{shares, shifted}
-use Rattle.tariff.specs.Netting.{pairAt, holderAt, columnCells}
+use Rattle.migration.specs.Migration.{shares, shifted}
+use Rattle.migration.specs.Netting.{pairAt, holderAt, columnCells}
 use Rattle.records.specs.declared.moves.Moved.{Moved}
 use Rattle.records.specs.Cells.{readAt}
 

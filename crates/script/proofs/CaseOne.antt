@@ -6,7 +6,7 @@ use Rattle.tariff.specs.Eligible.{seasonalEligible, priorityEligible}
 use Rattle.tariff.specs.Terms.{termTable, termOf, firstTierOf, isMonth, hasMonth, carriedMonth}
 use Rattle.tariff.specs.Limit.{limitTier1, limitTier2, limitTier3, limitEvenTier, limitOddTier, limitBy, formulaOf, limit}
 use Rattle.tariff.specs.Evidence.{noEntry, evidenceOf, entryOf, highestRight, evidenceKw, countsFor, entryKw}
-use Rattle.tariff.specs.Migration.{wattsOneWay, netted, lostBy, share, shares, shifted}
+use Rattle.migration.specs.Migration.{wattsOneWay, netted, lostBy, share, shares, shifted}
 use Rattle.ledger.specs.Opening.{holderKind, sinkKind, base, pathSource, pathSink, pathBase, endsAt, comesFrom, countsFit, listsFit, holderLegal, parentLegal, sinkLegal, pathLegal, pathsAlike, pathNew, legal, openingRefusal}
 use Rattle.ledger.specs.Ledger.{emptyLedger, withLoads, withRights, withPriors, withPapers, withTiers}
 use Rattle.ledger.specs.Calendar.{tierIsOpen, beforeTier, loadInTime, migrationInTime, tierInTurn}
@@ -14,7 +14,8 @@ use Rattle.ledger.specs.Limits.{sumAtBase, longTermAt, priorYearAt, awardsAt, n
 use Rattle.ledger.specs.Verification.{sumFromSource, verifiedKw, drawsOnSame, drawnBefore, drawn}
 use Rattle.ledger.specs.Moves.{movedWhere, loadAfter, loadBefore, loadsAfter, columnAfter, rightsAfter, priorsAfter, migrated}
 use Rattle.ledger.specs.Numbers.{firstMet}
-use Rattle.tariff.specs.Ranges.{within, wrongKw, wrongTerm, wrongMonth, wrongEvidence, wrongClassLine, wrongClassFields}
+use Rattle.tariff.specs.Ranges.{within, wrongKw, wrongTerm, wrongMonth, wrongEvidence}
+use Rattle.migration.specs.ClassRanges.{wrongClassLine, wrongClassFields}
 use Rattle.ledger.specs.Ranges.{noHolder, noSource, noSink, noPath, strangerIn, wrongLoad, wrongPrior, wrongMigration, wrongTier}
 use Rattle.ledger.specs.Causes.{notBetweenSuppliers, losesTooMuch, sinkNotFor, isSubLap, beyondVerified, beyondRenewable, beyondLimit, beyondNominated, loadCauses, carryCauses, priorCauses, verifyCauses, migrateCauses, openCauses, nominateCauses, awardCauses, closeCauses, callCauses, refusal, limitCauses, heldCauses, netCauses, queryCauses, queryRefusal}
 use Rattle.ledger.specs.Effects.{same2, same3, plusAt2, plusAt3, plusInTerm, afterLoad, afterCarry, afterPrior, afterVerify, afterOpen, afterNominate, awardsAfter, holdingsAfter, afterClose, effect}

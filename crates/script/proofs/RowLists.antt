@@ -10,7 +10,7 @@ use lib.Seq.{ext-getD}
 use borrow.Author.Tests.{eq-eqb}
 use Rattle.tariff.proofs.Tests.{and-join}
 use Rattle.tariff.specs.Metered.{blocksOf, sameLengths}
-use Rattle.tariff.specs.Netting.{classLineAt, classLinesOf, sameCounts}
+use Rattle.migration.specs.Netting.{classLineAt, classLinesOf, sameCounts}
 use Rattle.tariff.proofs.Lists.{length-list-to, at-list-to}
 use Rattle.lines.specs.declared.rows.Row.{Row}
 use Rattle.lines.specs.Rows.{field}

@@ -10,7 +10,7 @@ use lib.Dec.{eqb}
 use borrow.Author.Tests.{eqb-true, ne-eqb}
 use Rattle.tariff.proofs.Tests.{and-both}
 use Rattle.tariff.specs.Metered.{blocksOf}
-use Rattle.tariff.specs.Netting.{classLinesOf}
+use Rattle.migration.specs.Netting.{classLinesOf}
 use Rattle.ledger.specs.Call.{load, migrate}
 use Rattle.ledger.specs.Season.{Ask, call}
 use Rattle.book.specs.declared.book.Book.{Book}

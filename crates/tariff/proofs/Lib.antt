@@ -1,6 +1,5 @@
 pub mod RuledOut
 pub mod Sums
-pub mod Shifts
 pub mod Tests
 pub mod Limits
 pub mod Metric
@@ -9,10 +8,6 @@ pub mod Products
 pub mod EvidenceRange
 pub mod Formulas
 pub mod Lists
-pub mod FitLines
-pub mod Pairs
-pub mod NettedLines
-pub mod ShareCells
 pub mod Blocks
 pub mod Ordered
 pub mod Lowest

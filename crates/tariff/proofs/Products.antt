@@ -1,5 +1,5 @@
--- Products that fit 64 bits. Assumes nothing.
-use Prim.Native.Nat.{ℕ, suc, _*_, _^_, _≤_, _<_}
+-- A product that fits 64 bits. Assumes nothing.
+use Prim.Native.Nat.{ℕ, suc, _*_, _^_, _<_}
 use native.Mathlib.Nat.{le-of-lt, mul-le-mul, lt-of-le-of-lt}
 use native.Mathlib.Bridge.{le-by-compare, IsLe}
 
@@ -7,11 +7,3 @@ use native.Mathlib.Bridge.{le-by-compare, IsLe}
 pub product-32-16 : {a b : ℕ} → a < 2 ^ 32 → b < 2 ^ 16 → a * b < 2 ^ 64
 unfolding IsLe
 product-32-16 l m = lt-of-le-of-lt (mul-le-mul (le-of-lt l) (le-of-lt m)) (le-by-compare (suc (2 ^ 32 * 2 ^ 16)) (2 ^ 64) tt)
-
--- customers times watts of a line in range
-pub line-product : {a b : ℕ} → a ≤ 9999999 → b ≤ 9999999 → a * b ≤ 9999999 * 9999999
-line-product l m = mul-le-mul l m
-
-pub line-product-fits : {a b : ℕ} → a ≤ 9999999 → b ≤ 9999999 → a * b < 2 ^ 64
-unfolding IsLe
-line-product-fits l m = lt-of-le-of-lt (mul-le-mul l m) (le-by-compare (suc (9999999 * 9999999)) (2 ^ 64) tt)

@@ -2,7 +2,6 @@
 use Prim.Native.Nat.{ℕ}
 use mathlib.Core.Bool.{Bool, not, _&&_, _||_}
 use lib.Dec.{leb, ltb}
-use Rattle.tariff.specs.declared.migration.ClassLine.{ClassLine}
 use Rattle.tariff.specs.Terms.{isMonth}
 use Rattle.tariff.specs.Evidence.{highestRight}
 
@@ -31,10 +30,3 @@ wrongEvidence kind capacity right first last =
     || wrongMonth first
     || wrongMonth last
     || ltb last first
-
--- a class line: class 1 to 8, customers and average watts up to 9,999,999
-unfoldable pub wrongClassFields : ℕ → ℕ → ℕ → Bool
-wrongClassFields class customers watts = not (within 1 8 class) || ltb 9999999 customers || ltb 9999999 watts
-
-unfoldable pub wrongClassLine : ClassLine → Bool
-wrongClassLine l = wrongClassFields (l .class) (l .customers) (l .watts)

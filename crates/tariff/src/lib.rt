@@ -3,5 +3,4 @@
 pub mod evidence;
 pub mod limit;
 pub mod load;
-pub mod migration;
 pub mod terms;

@@ -5,7 +5,7 @@ use mathlib.Core.Path.{_≡_, refl}
 use native.Mathlib.Omega.{arith}
 use lib.Dec.{ltb}
 use Rattle.tariff.specs.Sum.{sumTo, anyBelow}
-use Rattle.tariff.specs.Netting.{pairAt, holderAt}
+use Rattle.migration.specs.Netting.{pairAt, holderAt}
 use Rattle.tariff.proofs.Tests.{none-more}
 use Rattle.book.proofs.LineLaws.{found, not-found, loss-above, loss-within}
 use borrow.Author.Needs.{needs}

@@ -2,8 +2,8 @@
 use Prim.Native.Nat.{ℕ, _≤_, _<_, _-_}
 use native.Mathlib.Omega.{arith}
 use borrow.Author.Count.{below-none, below-more}
-use Rattle.tariff.specs.Migration.{lostBy}
-use Rattle.tariff.specs.Netting.{pairAt, holderAt}
+use Rattle.migration.specs.Migration.{lostBy}
+use Rattle.migration.specs.Netting.{pairAt, holderAt}
 use Rattle.figures.proofs.Bounds.{never}
 use borrow.Author.Needs.{needs}
 use Rattle.figures.proofs.shifts.within_load.Statement.{statement}

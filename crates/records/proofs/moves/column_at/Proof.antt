@@ -4,7 +4,7 @@ use mathlib.Core.Path.{_≡_, refl}
 use native.Mathlib.Nat.{not-suc-le-zero}
 use native.Mathlib.Omega.{arith}
 use lib.ListN.{length, length-set}
-use Rattle.tariff.specs.Netting.{columnCells}
+use Rattle.migration.specs.Netting.{columnCells}
 use Rattle.tariff.proofs.Lists.{Filled, filled-more, filled-all}
 use Rattle.records.specs.Cells.{readAt}
 use Rattle.records.specs.Columns.{columnAt}

@@ -48,9 +48,9 @@ use denote.Triple.Table.{entered, cited}
 use denote.Triple.Walked.{says, needs, Stays, stay-dropped, walkOf, goes-dropped, Walks, ends-at, walked, walk-meets}
 use denote.Triple.Clauses.{ensured}
 use denote.Exit.{yes}
-use Rattle.tariff.specs.declared.migration.ClassLine.{ClassLine}
-use Rattle.tariff.proofs.migration.ClassLine as L
-use Rattle.tariff.proofs.migration.ClassLine.Laws as L′
+use Rattle.migration.specs.declared.netting.ClassLine.{ClassLine}
+use Rattle.migration.proofs.netting.ClassLine as L
+use Rattle.migration.proofs.netting.ClassLine.Laws as L′
 use Rattle.ledger.specs.Call.{migrate}
 use Rattle.book.specs.declared.book.Book.{Book}
 use Rattle.book.specs.declared.book.Answered.{Answered}

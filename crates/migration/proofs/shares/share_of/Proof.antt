@@ -1,0 +1,23 @@
+-- `migration::shares::share_of` meets its contract; of no load nothing goes. Assumes nothing.
+use Rattle.migration.proofs.ShareCells.{share-none}
+use mathlib.Core.Path.{refl}
+use Rattle.migration.specs.Migration.{share}
+use borrow.Author.Needs.{needs}
+use Rattle.migration.proofs.shares.share_of.Statement.{statement}
+use Rattle.migration.proofs.shares.share_of.Tie as tie
+
+returns : tie.Need-returns
+returns c = share-none _ _ _ (c .if1 .taken)
+
+mul-result : tie.Need-mul-result
+mul-result c = search needs
+
+div-result : tie.Need-div-result
+div-result c = search needs
+
+returns-2 : tie.Need-returns-2
+unfolding share
+returns-2 c = refl
+
+pub share-of-spec : {M : Type 1} → statement M
+share-of-spec = tie.close (tie.spec returns mul-result div-result returns-2)

@@ -1,0 +1,149 @@
+// Class lines, and their netting by pair of holders (01, Migration).
+use tariff::limit::less;
+ghost use mathlib.Core.Path.{_≡_};
+ghost use mathlib.Core.Bool.{not};
+ghost use Prim.Native.Nat.{ℕ, _+_, _-_, _*_, _^_, _/_, _<_, _≤_};
+ghost use lib.ListN.{length, set};
+ghost use Rattle.tariff.specs.Sum.{anyOf};
+ghost use Rattle.migration.specs.ClassRanges.{wrongClassFields};
+ghost use Rattle.migration.specs.Netting.{SameLengths, sameCounts, Summable, pairAt, pairCells, nettingOf, classLinesOf, unfitLine, linesFit, wattsTo};
+
+// One line of a migration: customers of a class who left one supplier for another, and their average watts.
+pub struct ClassLine {
+    pub from: u64,
+    pub to: u64,
+    pub class: u64,
+    pub customers: u64,
+    pub watts: u64,
+}
+
+// Whether class lines are fit to be netted, and the kW from holder i to holder j at i * 8 + j: all 0 where they are not.
+pub struct Netting {
+    pub fit: bool,
+    pub m: [u64; 64],
+}
+
+// A line with a field outside its range: class 1 to 8, customers and average watts up to 9,999,999.
+pub fn wrong_class_fields(class: u64, customers: u64, watts: u64) -> bool
+    ensures { λ r. ⌜ r ≡ wrongClassFields class customers watts ⌝ }
+{
+    !((1 <= class) & (class <= 8)) | (9_999_999 < customers) | (9_999_999 < watts)
+}
+
+// A line that can be netted: holders below 8, and every field in its range.
+fn line_fits(from: u64, to: u64, class: u64, customers: u64, watts: u64) -> bool
+    ensures { λ r. ⌜ r ≡ not (unfitLine (record { from = from; to = to; class = class; customers = customers; watts = watts })) ⌝ }
+{
+    let holders = (from < 8) & (to < 8);
+    holders & !wrong_class_fields(class, customers, watts)
+}
+
+// Whether every one of n lines can be netted.
+fn all_fit(froms: &[u64], tos: &[u64], classes: &[u64], customers: &[u64], watts: &[u64]) -> bool
+    requires { ⌜ SameLengths (now froms) (now tos) (now classes) (now customers) (now watts) ⌝ }
+    ensures { λ r. ⌜ r ≡ not (anyOf (classLinesOf (now (froms .entry)) (now (tos .entry)) (now (classes .entry)) (now (customers .entry)) (now (watts .entry))) unfitLine) ⌝ }
+{
+    let mut k = 0;
+    while k < froms.len() {
+        if !line_fits(froms[k], tos[k], classes[k], customers[k], watts[k]) {
+            return false;
+        }
+        k += 1;
+    }
+    true
+}
+
+// Whether each slice has as many numbers as the first.
+pub fn same_counts(
+    froms: &[u64],
+    tos: &[u64],
+    classes: &[u64],
+    customers: &[u64],
+    watts: &[u64],
+) -> bool
+    ensures { λ r. ⌜ r ≡ sameCounts (now (froms .entry)) (now (tos .entry)) (now (classes .entry)) (now (customers .entry)) (now (watts .entry)) ⌝ }
+{
+    let n = froms.len();
+    (tos.len() == n) & (classes.len() == n) & (customers.len() == n) & (watts.len() == n)
+}
+
+// Whether the lines can be netted: at most 64, as many numbers of each field, each line fit.
+fn lines_fit(froms: &[u64], tos: &[u64], classes: &[u64], customers: &[u64], watts: &[u64]) -> bool
+    ensures { λ r. ⌜ r ≡ linesFit (now (froms .entry)) (now (tos .entry)) (now (classes .entry)) (now (customers .entry)) (now (watts .entry)) ⌝ }
+{
+    let counted = same_counts(froms, tos, classes, customers, watts);
+    if (froms.len() <= 64) & counted {
+        return all_fit(froms, tos, classes, customers, watts);
+    }
+    false
+}
+
+// The cells with some watts more for the pair from, to.
+fn with_watts(cells: [u64; 64], from: u64, to: u64, watts: u64) -> [u64; 64]
+    requires { ⌜ (from < 8) × (to < 8) × (pairAt cells from to + watts < 2 ^ 64) ⌝ }
+    ensures { λ r. ⌜ r ≡ set cells (from * 8 + to) (pairAt cells from to + watts) ⌝ }
+{
+    let mut next = cells;
+    let pair = (from * 8 + to) as usize;
+    next[pair] = next[pair] + watts;
+    next
+}
+
+// The watts of a line: customers × average watts.
+fn line_watts(customers: u64, watts: u64) -> u64
+    requires { ⌜ (customers ≤ 9999999) × (watts ≤ 9999999) ⌝ }
+    ensures { λ r. ⌜ r ≡ customers * watts ⌝ }
+{
+    customers * watts
+}
+
+// The watts of the lines, summed one way for each pair of holders.
+fn watts_of_pairs(froms: &[u64], tos: &[u64], customers: &[u64], watts: &[u64]) -> [u64; 64]
+    requires { ⌜ Summable (now froms) (now tos) (now customers) (now watts) ⌝ }
+    ensures { λ r. ⌜ ((i j : ℕ) → i < 8 → j < 8 → pairAt r i j ≡ wattsTo (now (froms .entry)) (now (tos .entry)) (now (customers .entry)) (now (watts .entry)) (length (now (froms .entry))) i j) ⌝ }
+{
+    let mut cells = [0u64; 64];
+    let mut k = 0;
+    while k < froms.len() {
+        let line = line_watts(customers[k], watts[k]);
+        let next = with_watts(cells, froms[k], tos[k], line);
+        cells = next;
+        k += 1;
+    }
+    cells
+}
+
+// The m of each pair: what the way there has more than the way back, in kW rounded down.
+fn netted_pairs(watts: [u64; 64]) -> [u64; 64]
+    ensures { λ r. ⌜ r ≡ pairCells (λ i j. (pairAt watts i j - pairAt watts j i) / 1000) ⌝ }
+{
+    let mut m = [0u64; 64];
+    let mut k = 0;
+    while k < 64 {
+        let back = k % 8 * 8 + k / 8;
+        m[k] = less(watts[k], watts[back]) / 1000;
+        k += 1;
+    }
+    m
+}
+
+// The m of each pair of eight holders, from class lines whose fields stand in five slices. Lines that are unfit reach no sum.
+pub fn net_lines(
+    froms: &[u64],
+    tos: &[u64],
+    classes: &[u64],
+    customers: &[u64],
+    watts: &[u64],
+) -> Netting
+    ensures { λ r. ⌜ r ≡ nettingOf (now (froms .entry)) (now (tos .entry)) (now (classes .entry)) (now (customers .entry)) (now (watts .entry)) ⌝ }
+{
+    if lines_fit(froms, tos, classes, customers, watts) {
+        let pairs = watts_of_pairs(froms, tos, customers, watts);
+        let m = netted_pairs(pairs);
+        return Netting { fit: true, m };
+    }
+    Netting {
+        fit: false,
+        m: [0u64; 64],
+    }
+}

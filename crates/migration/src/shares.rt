@@ -1,0 +1,75 @@
+// The shares of records that a migration moves, and the columns after they have moved (01, Migration).
+ghost use mathlib.Core.Path.{_≡_};
+ghost use Prim.Native.Nat.{_*_, _^_, _<_, _≤_};
+ghost use Rattle.tariff.specs.Sum.{sumTo};
+ghost use Rattle.migration.specs.Migration.{share};
+ghost use Rattle.migration.specs.Netting.{pairAt, ProductsFit, PartsFit, shareCells, shiftedCells};
+
+// The share of a record that goes with m of a load. Of no load nothing goes.
+fn share_of(v: u64, m: u64, load: u64) -> u64
+    requires { ⌜ v * m < 2 ^ 64 ⌝ }
+    ensures { λ r. ⌜ r ≡ share v m load ⌝ }
+{
+    if load == 0 {
+        return 0;
+    }
+    v * m / load
+}
+
+// The shares of a column of records, one to a holder, for each pair: every share is of the value before the migration.
+pub fn shares_of(column: [u64; 8], m: [u64; 64], load: [u64; 8]) -> [u64; 64]
+    requires { ⌜ ProductsFit column m ⌝ }
+    ensures { λ r. ⌜ r ≡ shareCells column m load ⌝ }
+{
+    let mut parts = [0u64; 64];
+    let mut k = 0;
+    while k < 64 {
+        let loser = k / 8;
+        parts[k] = share_of(column[loser], m[k], load[loser]);
+        k += 1;
+    }
+    parts
+}
+
+// What one holder gives to the first n.
+pub fn given_by(parts: [u64; 64], holder: usize, n: usize) -> u64
+    requires { ⌜ (holder < 8) × (n ≤ 8) × (sumTo n (λ j. pairAt parts holder j) < 2 ^ 64) ⌝ }
+    ensures { λ r. ⌜ r ≡ sumTo n (λ j. pairAt parts holder j) ⌝ }
+{
+    let mut sum = 0;
+    let mut j = 0;
+    while j < n {
+        sum += parts[holder * 8 + j];
+        j += 1;
+    }
+    sum
+}
+
+// What one holder gets from the first n.
+fn gained_by(parts: [u64; 64], holder: usize, n: usize) -> u64
+    requires { ⌜ (holder < 8) × (n ≤ 8) × (sumTo n (λ j. pairAt parts j holder) < 2 ^ 64) ⌝ }
+    ensures { λ r. ⌜ r ≡ sumTo n (λ j. pairAt parts j holder) ⌝ }
+{
+    let mut sum = 0;
+    let mut j = 0;
+    while j < n {
+        sum += parts[j * 8 + holder];
+        j += 1;
+    }
+    sum
+}
+
+// The column after the parts have gone over between the first n holders: old values in, new values out.
+pub fn shifted_column(column: [u64; 8], parts: [u64; 64], n: usize) -> [u64; 8]
+    requires { ⌜ PartsFit n column parts ⌝ }
+    ensures { λ r. ⌜ r ≡ shiftedCells n column parts ⌝ }
+{
+    let mut next = column;
+    let mut i = 0;
+    while i < n {
+        let kept = column[i] - given_by(parts, i, n);
+        next[i] = kept + gained_by(parts, i, n);
+        i += 1;
+    }
+    next
+}
