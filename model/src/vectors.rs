@@ -13,6 +13,8 @@
 //!   it all 65,536 are lent.
 //! - Any other line that begins with `#`, as `#: text`, is a note.
 //!
+//! N has 1 to 9 digits, as a number of a script has.
+//!
 //! A script is built up in 65,600 bytes; what finds no room is left out. What
 //! stands before the first vector belongs to none.
 

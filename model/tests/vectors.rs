@@ -74,6 +74,18 @@ fn every_refusal_is_drawn() {
     assert!(refused_whole.eq([1_000_000, 15_000_000]));
 }
 
+/// The number of a line that speaks to the reader has 1 to 9 digits and no
+/// leading zero; lines without one are as good.
+fn number_is_plain(line: &str) -> bool {
+    let told = ["#times ", "#cut ", "#lend "].map(|way| line.strip_prefix(way));
+    let Some(told) = told.into_iter().flatten().next() else {
+        return true;
+    };
+    let number = told.split(' ').next().unwrap_or("");
+    let value: Option<u32> = number.parse().ok();
+    value.is_some_and(|value| value < 1_000_000_000 && value.to_string() == number)
+}
+
 /// Vectors: the text fits, ends in LF, and speaks to the reader in its five
 /// ways alone, so that every reader of the format takes it alike.
 #[test]
@@ -85,6 +97,7 @@ fn the_text_keeps_to_the_format() {
         let known = ways.iter().any(|way| line.starts_with(way));
         let line_text = String::from_utf8_lossy(line);
         assert!(known || !line.starts_with(b"#"), "{line_text}");
+        assert!(number_is_plain(&line_text), "{line_text}");
     }
     for vector in vectors(&text) {
         assert!(vector.script.len() < 65_600, "{}", vector.name);

@@ -1,5 +1,5 @@
 -- Class lines taken apart into columns: what stands in the columns, what the largest holder number tells, and what a migration of the columns hands back. Assumes nothing.
-use Prim.Native.Nat.{ℕ, zero, suc, _+_, _≤_, _<_}
+use Prim.Native.Nat.{ℕ, zero, suc, max, _+_, _≤_, _<_}
 use mathlib.Core.Path.{_≡_, refl, sym, ap, ap₂, _∙_, subst}
 use mathlib.Core.Bool.{Bool, true, false, cond, _||_, or-true, or-false, or-assoc, or-comm}
 use mathlib.Core.List.{List}
@@ -8,7 +8,7 @@ use native.Mathlib.Omega.{arith}
 use lib.ListN.{length, getD, set, take, replicate, length-set, length-replicate}
 use lib.Seq.{ext-getD, getD-take, length-take-le}
 use lib.Dec.{leb, ltb}
-use borrow.Author.Tests.{leb-true, le-leb, ltb-true, ltb-false, lt-ltb, le-ltb}
+use borrow.Author.Tests.{leb-true, leb-false, le-leb, lt-leb, ltb-true, ltb-false, lt-ltb, le-ltb}
 use Rattle.migration.specs.declared.netting.ClassLine.{ClassLine}
 use Rattle.tariff.specs.Sum.{anyOf, anyBelow, listTo}
 use Rattle.tariff.specs.Ranges.{wrongTerm}
@@ -29,7 +29,7 @@ use Rattle.book.specs.Reading.{ledgerOf}
 use Rattle.book.specs.Handed.{handed, openedWith, refusedWith}
 use Rattle.book.specs.Reached.{Reached}
 use Rattle.book.specs.Lines.{handedLines}
-use Rattle.book.specs.ClassLines.{larger, placed, noLine, noColumns, withLine, columnsTo, FullColumns, handedColumns}
+use Rattle.book.specs.ClassLines.{placed, noLine, noColumns, withLine, columnsTo, FullColumns, handedColumns}
 use Rattle.book.proofs.HandedLaws.{handed-refused}
 use Rattle.book.proofs.ReachedLaws.{reached-shaped}
 use Rattle.book.proofs.MigrateLaws.{handed-even}
@@ -108,18 +108,14 @@ listed lines =
     let long = length-list-to (length lines) (λ j. getD lines j noLine) in
     ext-getD noLine (listTo (length lines) (λ j. getD lines j noLine)) lines long (λ j l. at-list-to (length lines) (λ j. getD lines j noLine) noLine j (omega arith))
 
--- a number below the larger of two is below one of them
-or-implied : (a b : Bool) → (a ≡ true → b ≡ true) → b ≡ (a || b)
-or-implied true b k = k refl
-or-implied false b k = refl
-
-reaches-larger : (h x y : ℕ) → leb h (larger x y) ≡ (leb h x || leb h y)
-unfolding larger
-reaches-larger h x y = go (decided (ltb x y))
+-- a number is at most the larger of two where it is at most one of them
+reaches-larger : (h x y : ℕ) → leb h (max x y) ≡ (leb h x || leb h y)
+reaches-larger h x y = go (decided (leb h x)) (decided (leb h y))
   where
-    go : (ltb x y ≡ true) ⊎ (ltb x y ≡ false) → leb h (cond (ltb x y) y x) ≡ (leb h x || leb h y)
-    go (inl e) = ap (λ t. leb h (cond t y x)) e ∙ or-implied (leb h x) (leb h y) (λ t. let a = ltb-true x y e in let b = leb-true h x t in le-leb h y (omega arith))
-    go (inr e) = ap (λ t. leb h (cond t y x)) e ∙ or-implied (leb h y) (leb h x) (λ t. let a = ltb-false x y e in let b = leb-true h y t in le-leb h x (omega arith)) ∙ or-comm (leb h y) (leb h x)
+    go : (leb h x ≡ true) ⊎ (leb h x ≡ false) → (leb h y ≡ true) ⊎ (leb h y ≡ false) → leb h (max x y) ≡ (leb h x || leb h y)
+    go (inl a) b = rw a (le-leb h (max x y) (let l = leb-true h x a in omega arith))
+    go (inr a) (inl b) = rw (a, b) (le-leb h (max x y) (let l = leb-true h y b in omega arith))
+    go (inr a) (inr b) = rw (a, b) (lt-leb h (max x y) (let l = leb-false h x a in let k = leb-false h y b in omega arith))
 
 -- whether the largest holder number is a stranger tells whether any is
 module _ (lines : List ClassLine) (h : ℕ) where
@@ -131,7 +127,7 @@ module _ (lines : List ClassLine) (h : ℕ) where
   top-reaches zero = sym (or-false (leb h 0))
   top-reaches (suc k) =
       let l = getD lines k noLine in
-      reaches-larger h (columnsTo lines k .top) (larger (l .from) (l .to))
+      reaches-larger h (columnsTo lines k .top) (max (l .from) (l .to))
       ∙ ap₂ (λ a b. a || b) (top-reaches k) (reaches-larger h (l .from) (l .to))
       ∙ or-assoc (leb h 0) (anyBelow k named) (named k)
 

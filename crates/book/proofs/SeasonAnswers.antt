@@ -4,34 +4,41 @@ use mathlib.Core.Bool.{Bool, true, false, cond}
 use mathlib.Core.List.{List, [], _∷_, _++_, map, append-assoc, append-nil}
 use Rattle.ledger.specs.Opening.{Opening, legal}
 use Rattle.ledger.specs.Ledger.{emptyLedger}
-use Rattle.ledger.specs.Call.{Call}
+use Rattle.ledger.specs.Call.{Call, Query}
 use Rattle.ledger.specs.Season as ledger
 use Rattle.ledger.specs.Season.{Ask, call, query, afterFrom, after, answers, stepAsk, season}
 use Rattle.ledger.proofs.Steps.{after-more}
 use Rattle.records.specs.Setup.{setupOf}
 use Rattle.book.specs.Reading.{bookOf}
-use Rattle.book.specs.Handed.{answerIn, answerOf}
+use Rattle.book.specs.Handed.{answerIn, answerOf, handed, told}
 use Rattle.records.specs.Setup.{emptyOpening}
 use Rattle.book.specs.Opened.{openedAs}
 use Rattle.book.specs.SeasonTheorem.{callsOf, bookAfter, answersOf, seasonAnswers}
 use Rattle.book.proofs.ReachedSteps.{bookAt, at-answer, at-told, at-next}
 
 -- an answer read back is the ledger's
-pub answer-back : (a : ledger.Answer) → answerIn (answerOf a) ≡ a
+answer-back : (a : ledger.Answer) → answerIn (answerOf a) ≡ a
 unfolding answerIn answerOf
 answer-back ledger.done = refl
 answer-back (ledger.value v) = refl
 answer-back (ledger.refused number) = refl
 
 module _ (o : Opening) (e : legal o ≡ true) where
+  -- what one call, and one query, is answered
+  pub call-answered : (cs : List Call) (c : Call) → answerIn (handed (bookAt o e cs) c .answer) ≡ ledger.answer o (after o cs) (call c)
+  call-answered cs c = ap answerIn (at-answer o e cs c) ∙ answer-back (ledger.answer o (after o cs) (call c))
+
+  pub query-answered : (cs : List Call) (q : Query) → answerIn (told (bookAt o e cs) q) ≡ ledger.answer o (after o cs) (query q)
+  query-answered cs q = ap answerIn (at-told o e cs q) ∙ answer-back (ledger.answer o (after o cs) (query q))
+
   pub answers-from : (cs : List Call) (asks : List Ask) → map answerIn (answersOf (bookAt o e cs) asks) ≡ answers o (after o cs) asks
   unfolding answersOf answers stepAsk
   answers-from cs [] = refl
   answers-from cs (call c ∷ asks) =
-      ap₂ _∷_ (ap answerIn (at-answer o e cs c) ∙ answer-back (ledger.answer o (after o cs) (call c)))
+      ap₂ _∷_ (call-answered cs c)
       (ap (λ b. map answerIn (answersOf b asks)) (at-next o e cs c) ∙ answers-from (cs ++ (c ∷ [])) asks ∙ ap (λ L. answers o L asks) (after-more o cs c))
   answers-from cs (query q ∷ asks) =
-      ap₂ _∷_ (ap answerIn (at-told o e cs q) ∙ answer-back (ledger.answer o (after o cs) (query q))) (answers-from cs asks)
+      ap₂ _∷_ (query-answered cs q) (answers-from cs asks)
 
   books-from : (cs : List Call) (asks : List Ask) → bookAfter (bookAt o e cs) asks ≡ bookAt o e (cs ++ callsOf asks)
   unfolding bookAfter callsOf

@@ -1,5 +1,5 @@
 -- Class lines taken apart: a column of 64 numbers to a field, and what a migration of the columns hands back.
-use Prim.Native.Nat.{ℕ, zero, suc}
+use Prim.Native.Nat.{ℕ, zero, suc, max}
 use mathlib.Core.Path.{_≡_}
 use mathlib.Core.Bool.{cond, _||_}
 use mathlib.Core.List.{List}
@@ -12,9 +12,6 @@ use Rattle.book.specs.declared.book.Answered.{Answered}
 use Rattle.book.specs.declared.class_lines.Columns.{Columns}
 use Rattle.book.specs.Handed.{openedWith, refusedWith}
 use Rattle.book.specs.Lines.{handedLines}
-
-unfoldable pub larger : ℕ → ℕ → ℕ
-larger x y = cond (ltb x y) y x
 
 -- a number put into a column, which has no room past its end
 unfoldable pub placed : List ℕ → ℕ → ℕ → List ℕ
@@ -40,7 +37,7 @@ withLine c k l =
       classes = placed (c .classes) k (l .class);
       customers = placed (c .customers) k (l .customers);
       watts = placed (c .watts) k (l .watts);
-      top = larger (c .top) (larger (l .from) (l .to));
+      top = max (c .top) (max (l .from) (l .to));
     }
 
 -- what stands past the end of a list of lines

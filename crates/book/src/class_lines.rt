@@ -4,11 +4,12 @@ use crate::book::Book;
 use crate::book::refused;
 use migration::netting::ClassLine;
 use records::refusals::refuse;
+use tariff::load::larger;
 ghost use mathlib.Core.Path.{_≡_};
 ghost use Rattle.ledger.specs.Call.{migrate};
 ghost use Rattle.book.specs.Handed.{handed};
 ghost use Rattle.book.specs.Reached.{Reached};
-ghost use Rattle.book.specs.ClassLines.{larger, placed, noColumns, withLine, FullColumns, handedColumns};
+ghost use Rattle.book.specs.ClassLines.{placed, noColumns, withLine, FullColumns, handedColumns};
 
 // The fields of the first 64 lines, a column to a field, and the largest holder number in any line.
 struct Columns {
@@ -45,13 +46,6 @@ fn place(column: [u64; 64], k: usize, v: u64) -> [u64; 64]
     next
 }
 
-// The larger of two numbers.
-fn larger_of(x: u64, y: u64) -> u64
-    ensures { λ r. ⌜ r ≡ larger x y ⌝ }
-{
-    if x < y { y } else { x }
-}
-
 // The columns with line k in them.
 fn with_line(c: Columns, k: usize, line: ClassLine) -> Columns
     ensures { λ r. ⌜ r ≡ withLine c k line ⌝ }
@@ -69,7 +63,7 @@ fn with_line(c: Columns, k: usize, line: ClassLine) -> Columns
         classes: place(classes, k, line.class),
         customers: place(customers, k, line.customers),
         watts: place(watts, k, line.watts),
-        top: larger_of(c.top, larger_of(from, to)),
+        top: larger(c.top, larger(from, to)),
     }
 }
 

@@ -10,11 +10,11 @@ use records::refusals::refuse;
 use records::refusals::wrong_term;
 use tariff::load::Metered;
 use tariff::load::load_posted;
+use tariff::load::same_lengths;
 ghost use mathlib.Core.Path.{_≡_};
 ghost use Prim.Native.Nat.{_+_, _^_, _<_, _≤_};
 ghost use lib.ListN.{length, take};
 ghost use Rattle.tariff.specs.Sum.{anyBelow};
-ghost use Rattle.tariff.specs.Metered.{sameLengths};
 ghost use Rattle.ledger.specs.Ranges.{wrongLoad};
 ghost use Rattle.ledger.specs.Numbers.{firstMet};
 ghost use Rattle.ledger.specs.Causes.{loadCauses};
@@ -28,13 +28,6 @@ ghost use Rattle.book.specs.Posting.{aboveMostAt, kwBlocks, postingOf, b
 pub enum Posting {
     Refused(u64),
     Kw(u64),
-}
-
-// Whether no block lacks one of its three numbers.
-fn same_lengths(firsts: &[u64], hours: &[u64], kws: &[u64]) -> bool
-    ensures { λ r. ⌜ r ≡ sameLengths (now (firsts .entry)) (now (hours .entry)) (now (kws .entry)) ⌝ }
-{
-    (firsts.len() == hours.len()) & (hours.len() == kws.len())
 }
 
 // Whether some block has more than the most kW.

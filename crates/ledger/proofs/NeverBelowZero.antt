@@ -18,7 +18,7 @@ use Rattle.ledger.specs.Ledger.{Ledger}
 use Rattle.ledger.specs.Call.{Call, migrate}
 use Rattle.ledger.specs.Effects.{effect}
 use Rattle.ledger.specs.Moves.{movedWhere, loadsAfter, rightsAfter, priorsAfter, loadBefore, loadAfter, columnAfter, migrated}
-use Rattle.ledger.specs.Taken.{given, gained, loadGiven, loadGained, Taken, TakesNoMore}
+use Rattle.ledger.specs.Taken.{given, gained, loadGained, Taken, TakesNoMore}
 use Rattle.ledger.specs.Season.{accepted, step, after}
 use Rattle.ledger.proofs.Columns.{column-fits}
 use Rattle.ledger.proofs.Steps.{step-accepted}
@@ -36,13 +36,13 @@ module _ (o : Opening) (L : Ledger) (term sink : ℕ) (lines : List ClassLine) (
   taken false v i l = record { covers = omega arith; balance = refl }
 
   -- the load, which moves by m
-  load-taken : (t : Bool) (v : ℕ → ℕ) (i : ℕ) → i < o .holders → (t ≡ true → v i ≡ loadBefore L term sink i) → cond t (loadAfter o lines v i) (v i) + countIf t (loadGiven o L term sink lines i) ≡ v i + countIf t (loadGained o L term sink lines i)
-  unfolding countIf loadGiven loadGained loadAfter lostBy
+  load-taken : (t : Bool) (v : ℕ → ℕ) (i : ℕ) → i < o .holders → (t ≡ true → v i ≡ loadBefore L term sink i) → cond t (loadAfter o lines v i) (v i) + countIf t (lostBy (o .holders) (netted lines) i) ≡ v i + countIf t (loadGained o L term sink lines i)
+  unfolding countIf loadGained loadAfter lostBy
   load-taken true v i l same = shift-entry (o .holders) (netted lines) v i (le-trans (fits i l) (le-of-eq (sym (same refl))))
   load-taken false v i l same = refl
 
   moved-takes : (i : ℕ) → i < o .holders → TakesNoMore o L term sink lines (migrated o L term sink lines) i
-  unfolding migrated loadsAfter rightsAfter priorsAfter movedWhere loadGiven loadBefore
+  unfolding migrated loadsAfter rightsAfter priorsAfter movedWhere loadBefore
   moved-takes i l =
       record {
         loadCovers = fits i l;

@@ -21,10 +21,7 @@ module _ (o : Opening) (L : Ledger) (term sink : ℕ) (lines : List ClassLine) w
   unfoldable pub gained : (ℕ → ℕ) → ℕ → ℕ
   gained v i = sumTo (o .holders) (λ j. shares (netted lines) (loadBefore L term sink) v j i)
 
-  -- the load that holder i gives to all others, and that it gains
-  unfoldable pub loadGiven : ℕ → ℕ
-  loadGiven i = lostBy (o .holders) (netted lines) i
-
+  -- the load that holder i gains; what it gives is `lostBy`
   unfoldable pub loadGained : ℕ → ℕ
   loadGained i = sumTo (o .holders) (λ j. netted lines j i)
 
@@ -36,8 +33,8 @@ module _ (o : Opening) (L : Ledger) (term sink : ℕ) (lines : List ClassLine) w
 
   -- every record of holder i, from the ledger L before the call to the ledger N after it
   pub record TakesNoMore (N : Ledger) (i : ℕ) : Type 0 where
-    pub loadCovers : loadGiven i ≤ L .loads .kw i sink term
-    pub loads : (s t : ℕ) → N .loads .kw i s t + countIf (eqb s sink && eqb t term) (loadGiven i) ≡ L .loads .kw i s t + countIf (eqb s sink && eqb t term) (loadGained i)
+    pub loadCovers : lostBy (o .holders) (netted lines) i ≤ L .loads .kw i sink term
+    pub loads : (s t : ℕ) → N .loads .kw i s t + countIf (eqb s sink && eqb t term) (lostBy (o .holders) (netted lines) i) ≡ L .loads .kw i s t + countIf (eqb s sink && eqb t term) (loadGained i)
     pub carried : (p m : ℕ) → Taken (endsAt o sink p && hasMonth term m) (λ h. L .rights .carried h p m) (N .rights .carried i p m) i
     pub awarded : (p m : ℕ) → Taken (endsAt o sink p && hasMonth term m && not (eqb term 0)) (λ h. L .rights .awarded h p m) (N .rights .awarded i p m) i
     pub allocated : (p : ℕ) → Taken (endsAt o sink p && eqb term 0) (λ h. L .priors .allocated h p) (N .priors .allocated i p) i

@@ -6,12 +6,13 @@ use mathlib.Core.List.{List, map}
 use native.Mathlib.Nat.{le-trans, le-of-eq}
 use native.Mathlib.Omega.{arith}
 use lib.ListN.{length, take, drop, getD, length-drop, length-map}
+use lib.Seq.{take-all}
 use Rattle.lines.specs.declared.rows.Row.{Row}
 use Rattle.lines.specs.declared.counted.Counted.{Counted}
 use Rattle.lines.specs.Rows.{rowsOf, holderLine, sinkLine, pathLine, field, counted, holderRows, sinkRows, pathRows}
 use Rattle.lines.specs.Counted.{bytesOfLines, rowsCounted, countedOf, withField}
 use Rattle.lines.specs.BookLines.{keeps, bookLinesWhole, bookLinesOf}
-use Rattle.lines.proofs.KeptFields.{take-all, fields-kept}
+use Rattle.lines.proofs.KeptFields.{fields-kept}
 use Rattle.lines.proofs.LineBytes.{bytes-add, bytes-within, rows-after}
 
 -- an array that a field of each row was stored in has them in front

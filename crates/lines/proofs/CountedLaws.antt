@@ -7,7 +7,7 @@ use mathlib.Core.List.{List, [], _∷_, _++_, map}
 use native.Mathlib.Numerals.{add-one}
 use native.Mathlib.Omega.{arith}
 use lib.ListN.{length, take, drop, set, getD, length-append, length-map, length-drop, drop-of-length-le}
-use lib.Seq.{drop-drop, length-take-le}
+use lib.Seq.{drop-drop, length-take-le, take-all}
 use lib.Dec.{eqb}
 use borrow.Author.Tests.{eq-eqb, ne-eqb}
 use Rattle.tariff.proofs.Tests.{and-left-false}
@@ -19,7 +19,7 @@ use Rattle.lines.specs.Rows.{rowsOf, field, allOfKind, counted}
 use Rattle.lines.specs.Reading.{firstBytes, nextRow}
 use Rattle.lines.specs.Counted.{bytesOfLines, rowsCounted, countedOf, withField}
 use Rattle.lines.proofs.RowSteps.{first-row, used-within}
-use Rattle.lines.proofs.KeptFields.{take-more, drop-more, in-list, take-all, kinds-more, field-more}
+use Rattle.lines.proofs.KeptFields.{take-more, drop-more, in-list, kinds-more, field-more}
 
 -- one line more takes the bytes of the line that comes next
 pub bytes-more : (k : ℕ) (s : List ℕ) → bytesOfLines (suc k) s ≡ bytesOfLines k s + nextRow (drop (bytesOfLines k s) s) .used

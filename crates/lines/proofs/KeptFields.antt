@@ -31,13 +31,6 @@ module _ {A : Type 0} where
       let left = length-drop k xs in
       omega arith
 
-  -- a list with nothing past k is taken whole by k, and by any more
-  pub take-all : (n : ℕ) (xs : List A) → length xs ≤ n → take n xs ≡ xs
-  take-all zero [] l = refl
-  take-all (suc n) [] l = refl
-  take-all zero (x ∷ xs) l = absurd (let z : ⊥ = omega arith in z)
-  take-all (suc n) (x ∷ xs) l = ap (λ t. x ∷ t) (take-all n xs (omega arith))
-
   -- a store right after a part
   set-after : (xs ys : List A) (y v : A) → set (xs ++ (y ∷ ys)) (length xs) v ≡ xs ++ (v ∷ ys)
   set-after [] ys y v = refl

@@ -10,8 +10,8 @@ use Rattle.ledger.proofs.Steps.{after-more}
 use Rattle.book.specs.declared.book.Book.{Book}
 use Rattle.book.specs.Handed.{answerIn, refusedWith}
 use Rattle.book.specs.Reached.{Reached}
-use Rattle.book.proofs.ReachedSteps.{bookAt, at-answer, at-told, at-next, handed-reached}
-use Rattle.book.proofs.SeasonAnswers.{answer-back}
+use Rattle.book.proofs.ReachedSteps.{bookAt, at-next, handed-reached}
+use Rattle.book.proofs.SeasonAnswers.{call-answered, query-answered}
 use Rattle.script.specs.Groups.{Asked, nothing, asked}
 use Rattle.script.specs.Answers.{answersTo}
 use Rattle.script.specs.Played.{answeredTo, answersOf}
@@ -29,6 +29,6 @@ module _ (o : Opening) (e : legal o ≡ true) where
   played cs [] = refl
   played cs (nothing ∷ groups) = ap (λ l. ledger.refused 1 ∷ l) (played cs groups)
   played cs (asked (call c) ∷ groups) =
-      ap₂ _∷_ (ap answerIn (at-answer o e cs c) ∙ answer-back (ledger.answer o (after o cs) (call c)))
+      ap₂ _∷_ (call-answered o e cs c)
       (ap (λ b. map answerIn (answersOf b groups)) (at-next o e cs c) ∙ played (cs ++ (c ∷ [])) groups ∙ ap (λ L. answersTo o L groups) (after-more o cs c))
-  played cs (asked (query q) ∷ groups) = ap₂ _∷_ (ap answerIn (at-told o e cs q) ∙ answer-back (ledger.answer o (after o cs) (query q))) (played cs groups)
+  played cs (asked (query q) ∷ groups) = ap₂ _∷_ (query-answered o e cs q) (played cs groups)

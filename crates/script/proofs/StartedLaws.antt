@@ -6,7 +6,7 @@ use mathlib.Core.List.{List, [], _∷_, map}
 use native.Mathlib.Nat.{le-trans, le-of-eq}
 use native.Mathlib.Omega.{arith}
 use lib.ListN.{length, take, drop, length-drop, length-map}
-use lib.Seq.{drop-drop}
+use lib.Seq.{drop-drop, take-all}
 use lib.Dec.{eqb}
 use borrow.Author.Tests.{eqb-true}
 use Rattle.tariff.proofs.Tests.{and-both}
@@ -25,7 +25,6 @@ use Rattle.lines.specs.Rows.{rowsOf, bookLine, holderLine, sinkLine, pathLine, 
 use Rattle.lines.specs.Reading.{nextRow}
 use Rattle.lines.specs.Counted.{bytesOfLines}
 use Rattle.lines.specs.BookLines.{keeps, bookLinesWhole, bookLinesOf}
-use Rattle.lines.proofs.KeptFields.{take-all}
 use Rattle.lines.proofs.RowSteps.{used-within}
 use Rattle.lines.proofs.LineBytes.{bytes-within, rows-after}
 use Rattle.script.specs.declared.opened.Started.{Started}

@@ -26,8 +26,7 @@ use Rattle.book.specs.Handed.{answerIn, handed, told}
 use Rattle.book.specs.Reached.{Reached}
 use Rattle.book.proofs.HeldLaws.{held-names, net-names}
 use Rattle.book.proofs.LimitLaws.{limit-holder}
-use Rattle.book.proofs.ReachedSteps.{at-answer, at-told}
-use Rattle.book.proofs.SeasonAnswers.{answer-back}
+use Rattle.book.proofs.SeasonAnswers.{call-answered, query-answered}
 use Rattle.lines.specs.Writing.{leastOfThirteenDigits}
 use Rattle.script.specs.Writing.{Writable}
 
@@ -120,10 +119,10 @@ module _ (o : Opening) (ok : legal o ≡ true) (cs : List Call) where
 module _ (b : Book) (r : Reached b) where
   pub handed-writable : (c : Call) → Writable (answerIn (handed b c .answer))
   handed-writable c =
-      subst Writable (sym (ap (λ x. answerIn (handed x c .answer)) (r .isBook) ∙ ap answerIn (at-answer (r .opening) (r .isLegal) (r .calls) c) ∙ answer-back _))
+      subst Writable (sym (ap (λ x. answerIn (handed x c .answer)) (r .isBook) ∙ call-answered (r .opening) (r .isLegal) (r .calls) c))
       (answer-writable (r .opening) (r .isLegal) (r .calls) (call c))
 
   pub told-writable : (q : Query) → Writable (answerIn (told b q))
   told-writable q =
-      subst Writable (sym (ap (λ x. answerIn (told x q)) (r .isBook) ∙ ap answerIn (at-told (r .opening) (r .isLegal) (r .calls) q) ∙ answer-back _))
+      subst Writable (sym (ap (λ x. answerIn (told x q)) (r .isBook) ∙ query-answered (r .opening) (r .isLegal) (r .calls) q))
       (answer-writable (r .opening) (r .isLegal) (r .calls) (query q))

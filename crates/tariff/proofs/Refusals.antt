@@ -6,14 +6,14 @@ use mathlib.Core.List.{List, [], _∷_}
 use native.Mathlib.Omega.{arith}
 use lib.Dec.{eqb}
 use lib.ListN.{length}
-use borrow.Author.Tests.{eq-eqb, ne-eqb, lt-ltb, le-ltb}
+use borrow.Author.Tests.{eq-eqb, eqb-true, lt-ltb, le-ltb}
 use Rattle.tariff.specs.declared.load.Metered.{Metered}
 use Rattle.tariff.specs.declared.load.Metered.the-variants.{Unequal, Broken, Missing, Kw}
 use Rattle.tariff.specs.declared.load.InOrder.the-variants.{Hours, Broken as OutOfOrder}
 use Rattle.tariff.specs.Load.{Block, inOrder, isEmpty, blocksBroken, presentHours, missingHours, tooManyMissing, metric, loadPosted}
 use Rattle.tariff.specs.Metered.{blocksOf, sameLengths, unlessRefused, meteredOf, postedOf, meteredBy, blockRefusal}
 use Rattle.tariff.specs.Levels.{spansOf, loadsOf, orderedHours, Covering}
-use Rattle.tariff.proofs.Tests.{and-join, and-left-false, and-right-false}
+use Rattle.tariff.proofs.Tests.{and-join, and-both}
 use Rattle.tariff.proofs.Blocks.{metric-by-loads, present-by-loads, present-by-spans, order-by-spans}
 use Rattle.tariff.proofs.Ordered.{order-within, loads-have-hours}
 
@@ -66,13 +66,13 @@ broken-order n bs e = go (inOrder n 0 bs) refl e
     go false p q = p
 
 module _ (fs hs ks : List ℕ) (n : ℕ) where
-  pub unequal-firsts : (length fs ≡ length hs → ⊥) → Unequal ≡ meteredOf fs hs ks n
-  unfolding meteredOf sameLengths meteredBy
-  unequal-firsts ne = rw (and-left-false (eqb (length hs) (length ks)) (ne-eqb (length fs) (length hs) ne))
+  pub unequal : sameLengths fs hs ks ≡ false → Unequal ≡ meteredOf fs hs ks n
+  unfolding meteredOf meteredBy
+  unequal e = rw e
 
-  pub unequal-kws : (length hs ≡ length ks → ⊥) → Unequal ≡ meteredOf fs hs ks n
-  unfolding meteredOf sameLengths meteredBy
-  unequal-kws ne = rw (and-right-false (eqb (length fs) (length hs)) (ne-eqb (length hs) (length ks) ne))
+  pub lengths-same : sameLengths fs hs ks ≡ true → (length fs ≡ length hs) × (length hs ≡ length ks)
+  unfolding sameLengths
+  lengths-same e = let both = and-both (eqb (length fs) (length hs)) (eqb (length hs) (length ks)) e in (eqb-true (length fs) (length hs) (both .0), eqb-true (length hs) (length ks) (both .1))
 
   module _ (p : length fs ≡ length hs) (q : length hs ≡ length ks) where
     same-lengths : sameLengths fs hs ks ≡ true

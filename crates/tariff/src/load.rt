@@ -4,7 +4,7 @@ ghost use mathlib.Core.Path.{_≡_};
 ghost use Prim.Native.Nat.{max};
 ghost use lib.ListN.{length};
 ghost use Rattle.tariff.specs.Load.{metric};
-ghost use Rattle.tariff.specs.Metered.{meteredOf, postedOf};
+ghost use Rattle.tariff.specs.Metered.{sameLengths, meteredOf, postedOf};
 ghost use Rattle.tariff.specs.Levels.{spansOf, loadsOf, orderedHours, highestKw, levelBelow, Countable, Covering};
 use crate::limit::less;
 
@@ -31,8 +31,8 @@ struct Level {
     above: u64,
 }
 
-// The larger of two kW.
-fn larger(a: u64, b: u64) -> u64
+// The larger of two numbers.
+pub fn larger(a: u64, b: u64) -> u64
     ensures { λ r. ⌜ r ≡ max a b ⌝ }
 {
     if a < b { b } else { a }
@@ -119,14 +119,18 @@ fn seldom_exceeded(hours: &[u64], kws: &[u64], present: u64) -> u64
     kw
 }
 
+// Whether no block lacks one of its three numbers.
+pub fn same_lengths(firsts: &[u64], hours: &[u64], kws: &[u64]) -> bool
+    ensures { λ r. ⌜ r ≡ sameLengths (now (firsts .entry)) (now (hours .entry)) (now (kws .entry)) ⌝ }
+{
+    (firsts.len() == hours.len()) & (hours.len() == kws.len())
+}
+
 // The load metric of a block list over n hours. Any numbers may stand in the slices.
 pub fn load_metric(firsts: &[u64], hours: &[u64], kws: &[u64], n: u64) -> Metered
     ensures { λ r. ⌜ r ≡ meteredOf (now (firsts .entry)) (now (hours .entry)) (now (kws .entry)) n ⌝ }
 {
-    if firsts.len() != hours.len() {
-        return Metered::Unequal;
-    }
-    if hours.len() != kws.len() {
+    if !same_lengths(firsts, hours, kws) {
         return Metered::Unequal;
     }
     if hours.len() == 0 {

@@ -2,7 +2,10 @@
 use crate::reading::Line;
 use crate::reading::line_at;
 use crate::reading::line_end;
-use crate::reading::number_at;
+use crate::reading::number_from;
+use crate::reading::number_of;
+use lines::output::write_bytes;
+use lines::text::bytes_before;
 ghost use Prim.Native.Nat.{_≤_, _<_};
 ghost use lib.ListN.{length};
 
@@ -23,17 +26,11 @@ fn append(script: &mut [u8; 65_600], used: usize, bytes: &[u8]) -> usize
     requires { ⌜ used ≤ 65600 ⌝ }
     ensures { λ r. ⌜ r ≤ 65600 ⌝ }
 {
-    let mut end = used;
-    let mut i = 0;
-    while i < bytes.len() {
-        if ROOM <= end {
-            return end;
-        }
-        script[end] = bytes[i];
-        end += 1;
-        i += 1;
+    let room = ROOM - used;
+    if bytes.len() < room {
+        return write_bytes(script, used, bytes);
     }
-    end
+    write_bytes(script, used, &bytes[..room])
 }
 
 // Appends so many copies of a line.
@@ -55,13 +52,16 @@ fn append_copies(script: &mut [u8; 65_600], used: usize, line: &[u8]) -> usize
     requires { ⌜ used ≤ 65600 ⌝ }
     ensures { λ r. ⌜ r ≤ 65600 ⌝ }
 {
-    let times = number_at(line, TIMES_AT);
-    let blank = times.end;
+    if line.len() <= TIMES_AT {
+        return used;
+    }
+    let blank = TIMES_AT + bytes_before(&line[TIMES_AT..], b' ');
     if line.len() <= blank {
         return used;
     }
+    let times = number_of(&line[TIMES_AT..blank]);
     let start = blank + 1;
-    append_times(script, used, &line[start..], times.value)
+    append_times(script, used, &line[start..], times)
 }
 
 // What `#cut N` says.
@@ -69,8 +69,7 @@ fn cut(used: usize, line: &[u8]) -> usize
     requires { ⌜ used ≤ 65600 ⌝ }
     ensures { λ r. ⌜ r ≤ 65600 ⌝ }
 {
-    let taken = number_at(line, CUT_AT);
-    let bytes = taken.value;
+    let bytes = number_from(line, CUT_AT);
     if bytes < used { used - bytes } else { 0 }
 }
 
@@ -112,8 +111,7 @@ fn lent_after(lent: usize, line: &[u8]) -> usize
     let Line::Lend = line_at(line, 0) else {
         return lent;
     };
-    let asked = number_at(line, LEND_AT);
-    let bytes = asked.value;
+    let bytes = number_from(line, LEND_AT);
     if bytes < MOST_LENT { bytes } else { MOST_LENT }
 }
 

@@ -12,8 +12,8 @@
 //   #lend N        an l: lends `run` an output buffer of N bytes. Without this line, or with a larger N, it has 65,536
 //   #..            anything else: a note, passed over
 //
-// Any other line is, with its LF, a line of the script as it stands. N is decimal, counts as 999,999 where it is more, and ends at the first byte
-// that is no digit. A script is built up in 65,600 bytes, and what finds no room there is left out: `run` refuses more than 65,536 bytes whatever
+// Any other line is, with its LF, a line of the script as it stands. N has 1 to 9 digits, as a number of a script;
+// anything else counts as 0. A script is built up in 65,600 bytes, and what finds no room there is left out: `run` refuses more than 65,536 bytes whatever
 // they are.
 //
 // What a program writes is in no promise, so these functions state no more than the bounds that their callers need: the stored output holds

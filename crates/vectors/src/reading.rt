@@ -1,8 +1,9 @@
 // Lines and numbers of the vectors' format.
+use lines::text::Numeral;
+use lines::text::line_length;
+use lines::text::read_number;
 ghost use Prim.Native.Nat.{_≤_, _<_};
 ghost use lib.ListN.{length};
-
-const LINE_FEED: u8 = 10;
 
 // What a line says to the program.
 pub enum Line {
@@ -14,25 +15,13 @@ pub enum Line {
     Note,
 }
 
-// A number, and the place after its last digit.
-pub struct Number {
-    pub value: usize,
-    pub end: usize,
-}
-
 // The place after the line that starts at a place.
 pub fn line_end(text: &[u8], start: usize) -> usize
     requires { ⌜ start < length (now text) ⌝ }
     ensures { λ r. ⌜ (start < r) × (r ≤ length (now (text .entry))) ⌝ }
 {
-    let mut at = start;
-    while at < text.len() {
-        if text[at] == LINE_FEED {
-            return at + 1;
-        }
-        at += 1;
-    }
-    at
+    let end = start + line_length(&text[start..]);
+    if end < text.len() { end + 1 } else { end }
 }
 
 // What the line that starts at a place says.
@@ -81,31 +70,19 @@ pub fn next_vector(text: &[u8], start: usize) -> usize
     at
 }
 
-// The number with a digit more, at most 999,999.
-fn with_digit(value: usize, digit: u8) -> usize
-    requires { ⌜ (value ≤ 999999) × (48 ≤ digit) ⌝ }
-    ensures { λ r. ⌜ r ≤ 999999 ⌝ }
-{
-    let next = value * 10 + (digit - b'0') as usize;
-    if next < 999_999 { next } else { 999_999 }
+// The number that a field writes, as in a script; 0 where it writes none.
+pub fn number_of(field: &[u8]) -> usize {
+    match read_number(field) {
+        Numeral::No => 0,
+        Numeral::Value(value) => value as usize,
+    }
 }
 
-// The number whose digits start at a place of a line: 0 where none stands there.
-pub fn number_at(line: &[u8], start: usize) -> Number
-    ensures { λ r. ⌜ r .value ≤ 999999 ⌝ }
-{
-    let mut value: usize = 0;
-    let mut at = start;
-    while at < line.len() {
-        let digit = line[at];
-        if digit < b'0' {
-            return Number { value, end: at };
-        }
-        if b'9' < digit {
-            return Number { value, end: at };
-        }
-        value = with_digit(value, digit);
-        at += 1;
+// The number that stands from a place to the end of its line; 0 where none does.
+pub fn number_from(line: &[u8], start: usize) -> usize {
+    if line.len() <= start {
+        return 0;
     }
-    Number { value, end: at }
+    let end = start + line_length(&line[start..]);
+    number_of(&line[start..end])
 }

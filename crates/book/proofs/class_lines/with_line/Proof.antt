@@ -1,6 +1,7 @@
 -- `book::class_lines::with_line` meets its contract: each field is put into its column, and the largest number kept. Assumes nothing.
 use mathlib.Core.Path.{ap, _∙_}
-use Rattle.book.specs.ClassLines.{larger, withLine}
+use Prim.Native.Nat.{max}
+use Rattle.book.specs.ClassLines.{withLine}
 use borrow.Author.Needs.{needs}
 use Rattle.book.proofs.class_lines.with_line.Statement.{statement}
 use Rattle.book.proofs.class_lines.with_line.Tie as tie
@@ -20,11 +21,11 @@ place-requires-4 c κs = search needs
 place-requires-5 : tie.Need-place-requires-5
 place-requires-5 c κs = search needs
 
-larger-of-requires : tie.Need-larger-of-requires
-larger-of-requires c κs = search needs
+larger-requires : tie.Need-larger-requires
+larger-requires c κs = search needs
 
-larger-of-requires-2 : tie.Need-larger-of-requires-2
-larger-of-requires-2 c κs = search needs
+larger-requires-2 : tie.Need-larger-requires-2
+larger-requires-2 c κs = search needs
 
 returns : tie.Need-returns
 unfolding withLine
@@ -37,7 +38,7 @@ returns c =
       classes = c .before .before .before .before .place3 .ensures i;
       customers = c .before .before .before .place4 .ensures i;
       watts = c .before .before .place5 .ensures i;
-      top = (c .larger-of2 .ensures ∙ ap (larger (a .c .top)) (c .before .larger-of .ensures)) i;
+      top = (c .larger2 .ensures ∙ ap (max (a .c .top)) (c .before .larger .ensures)) i;
     }
 
 pub with-line-spec : {M : Type 1} → statement M
@@ -49,6 +50,6 @@ with-line-spec =
     place-requires-3
     place-requires-4
     place-requires-5
-    larger-of-requires
-    larger-of-requires-2
+    larger-requires
+    larger-requires-2
     returns)

@@ -1,55 +1,48 @@
--- `vectors::building::append` meets its contract: the script stays within its array, and the measure is the bytes left. Assumes nothing.
-use Prim.Native.Nat.{_-_, _≤_}
-use lib.ListN.{length}
+-- `vectors::building::append` meets its contract: what is written has room. Assumes nothing.
+use Prim.Native.Nat.{_-_}
+use mathlib.Core.Path.{sym}
+use native.Mathlib.Omega.{arith}
+use lib.Seq.{length-take-le}
 use borrow.Author.Needs.{needs}
 use Rattle.vectors.proofs.building.append.Statement.{statement}
 use Rattle.vectors.proofs.building.append.Tie as tie
 
-abbrev Inv-loop : tie.InvT-loop
-Inv-loop script₀ used bytes end₀ i₀ script end i = end ≤ 65600
+sub-room : tie.Need-sub-room
+sub-room c = search needs
 
-abbrev μ-loop : tie.MeasureT-loop
-μ-loop script₀ used bytes end₀ i₀ script end i = length bytes - i
+write-bytes-requires : tie.Need-write-bytes-requires
+write-bytes-requires c κs = search needs
 
-loop-holds : tie.Need-loop-holds Inv-loop μ-loop
-loop-holds c = search needs
-
-returns : tie.Need-returns Inv-loop μ-loop
+returns : tie.Need-returns
 returns c = search needs
 
-shared-slice-read-script : tie.Need-shared-slice-read-script Inv-loop μ-loop
-shared-slice-read-script c = search needs
+slice-aggregate-write-bytes : tie.Need-slice-aggregate-write-bytes
+slice-aggregate-write-bytes c = let a = c .before .before .before .before .args in let more = c .before .before .if1 .left in sym (length-take-le (65600 - a .used) (a .bytes .now) (omega arith))
 
-element-write-script : tie.Need-element-write-script Inv-loop μ-loop
-element-write-script c = search needs
+write-bytes-requires-2 : tie.Need-write-bytes-requires-2
+write-bytes-requires-2 c κs =
+    let a = c .before .before .before .before .args in
+    let known = c .before .before .before .before .pre in
+    let more = c .before .before .if1 .left in
+    let long = length-take-le (65600 - a .used) (a .bytes .now) (omega arith) in
+    search needs
 
-add-end : tie.Need-add-end Inv-loop μ-loop
-add-end c = search needs
-
-add-i : tie.Need-add-i Inv-loop μ-loop
-add-i c = search needs
-
-loop-less : tie.Need-loop-less Inv-loop μ-loop
-loop-less c = search needs
-
-loop-again : tie.Need-loop-again Inv-loop μ-loop
-loop-again c = search needs
-
-returns-2 : tie.Need-returns-2 Inv-loop μ-loop
-returns-2 c = search needs
+returns-2 : tie.Need-returns-2
+returns-2 c =
+    let a = c .before .before .before .before .before .args in
+    let known = c .before .before .before .before .before .pre in
+    let more = c .before .before .before .if1 .left in
+    let long = length-take-le (65600 - a .used) (a .bytes .now) (omega arith) in
+    let end = c .write-bytes2 .ensures .0 in
+    omega arith
 
 pub append-spec : {M : Type 1} → statement M
 append-spec =
     tie.close
     (tie.spec
-    Inv-loop
-    μ-loop
-    loop-holds
+    sub-room
+    write-bytes-requires
     returns
-    shared-slice-read-script
-    element-write-script
-    add-end
-    add-i
-    loop-less
-    loop-again
+    slice-aggregate-write-bytes
+    write-bytes-requires-2
     returns-2)

@@ -1,51 +1,43 @@
--- `vectors::reading::line_end` meets its contract: the place stays within the text, and the measure is what is left of it. Assumes nothing.
-use Prim.Native.Nat.{_-_, _≤_}
-use lib.ListN.{length}
+-- `vectors::reading::line_end` meets its contract: what stands before the LF is within the text. Assumes nothing.
+use native.Mathlib.Omega.{arith}
+use Rattle.vectors.proofs.Within.{ends-within}
 use borrow.Author.Needs.{needs}
 use Rattle.vectors.proofs.reading.line_end.Statement.{statement}
 use Rattle.vectors.proofs.reading.line_end.Tie as tie
 
-abbrev Inv-loop : tie.InvT-loop
-Inv-loop text start at₀ at = (start ≤ at) × (at ≤ length text)
+sub-line-length : tie.Need-sub-line-length
+sub-line-length c = search needs
 
-abbrev μ-loop : tie.MeasureT-loop
-μ-loop text start at₀ at = length text - at
+part-line-length-start : tie.Need-part-line-length-start
+part-line-length-start c = search needs
 
-loop-holds : tie.Need-loop-holds Inv-loop μ-loop
-loop-holds c = search needs
+part-line-length-end : tie.Need-part-line-length-end
+part-line-length-end c = search needs
 
-shared-slice-read-if1 : tie.Need-shared-slice-read-if1 Inv-loop μ-loop
-shared-slice-read-if1 c = search needs
+line-length-requires : tie.Need-line-length-requires
+line-length-requires c κs = search needs
 
-add-result : tie.Need-add-result Inv-loop μ-loop
+add-end : tie.Need-add-end
+add-end c = let a = c .before .before .before .args in let known = c .before .before .before .pre in let within = ends-within _ (a .start) _ (a .text .now) (omega arith) (c .line-length .ensures) in search needs
+
+add-result : tie.Need-add-result
 add-result c = search needs
 
-returns : tie.Need-returns Inv-loop μ-loop
+returns : tie.Need-returns
 returns c = search needs
 
-add-at : tie.Need-add-at Inv-loop μ-loop
-add-at c = search needs
-
-loop-less : tie.Need-loop-less Inv-loop μ-loop
-loop-less c = search needs
-
-loop-again : tie.Need-loop-again Inv-loop μ-loop
-loop-again c = search needs
-
-returns-2 : tie.Need-returns-2 Inv-loop μ-loop
-returns-2 c = search needs
+returns-2 : tie.Need-returns-2
+returns-2 c = let a = c .before .before .before .before .args in let known = c .before .before .before .before .pre in let within = ends-within _ (a .start) _ (a .text .now) (omega arith) (c .before .line-length .ensures) in (omega (arith, c .if1 .left), within)
 
 pub line-end-spec : {M : Type 1} → statement M
 line-end-spec =
     tie.close
     (tie.spec
-    Inv-loop
-    μ-loop
-    loop-holds
-    shared-slice-read-if1
+    sub-line-length
+    part-line-length-start
+    part-line-length-end
+    line-length-requires
+    add-end
     add-result
     returns
-    add-at
-    loop-less
-    loop-again
     returns-2)

@@ -1,0 +1,12 @@
+-- `tariff::load::same_lengths` meets its contract: the tests are those of the definition. Assumes nothing.
+use mathlib.Core.Path.{refl}
+use Rattle.tariff.specs.Metered.{sameLengths}
+use Rattle.tariff.proofs.load.same_lengths.Statement.{statement}
+use Rattle.tariff.proofs.load.same_lengths.Tie as tie
+
+returns : tie.Need-returns
+unfolding sameLengths
+returns c = refl
+
+pub same-lengths-spec : {M : Type 1} → statement M
+same-lengths-spec = tie.close (tie.spec returns)
