@@ -13,7 +13,7 @@ use Rattle.migration.specs.declared.netting.ClassLine.{ClassLine}
 use Rattle.tariff.specs.Sum.{anyOf, anyBelow, listTo}
 use Rattle.tariff.specs.Ranges.{wrongTerm}
 use Rattle.migration.specs.ClassRanges.{wrongClassLine}
-use Rattle.migration.specs.Netting.{classLineAt, classLinesOf, SameLengths}
+use Rattle.migration.specs.Netting.{classLineAt, classLinesOf, sameCounts, SameLengths}
 use Rattle.tariff.proofs.Tests.{decided, or-left-true, any-at}
 use Rattle.tariff.proofs.Lists.{length-list-to, at-list-to, any-list-to, Filled, filled-none, filled-more}
 use Rattle.migration.proofs.FitLines.{counted}
@@ -25,14 +25,12 @@ use Rattle.records.proofs.CauseLaws.{link}
 use Rattle.book.specs.declared.book.Book.{Book}
 use Rattle.book.specs.declared.book.Answered.{Answered}
 use Rattle.book.specs.declared.class_lines.Columns.{Columns}
-use Rattle.book.specs.Reading.{ledgerOf}
-use Rattle.book.specs.Handed.{handed, openedWith, refusedWith}
+use Rattle.book.specs.Reading.{ledgerOf, openedWith, bookIn}
+use Rattle.book.specs.Handed.{handed, refusedWith, handedLines}
 use Rattle.book.specs.Reached.{Reached}
-use Rattle.book.specs.Lines.{handedLines}
 use Rattle.book.specs.ClassLines.{placed, noLine, noColumns, withLine, columnsTo, FullColumns, handedColumns}
-use Rattle.book.proofs.HandedLaws.{handed-refused}
-use Rattle.book.proofs.ReachedLaws.{reached-shaped}
-use Rattle.book.proofs.MigrateLaws.{handed-even}
+use Rattle.records.proofs.HandedLaws.{handed-refused}
+use Rattle.book.proofs.HandedBooks.{handed-book}
 
 -- no line as yet, and one more
 pub columns-none : (lines : List ClassLine) → noColumns ≡ columnsTo lines 0
@@ -185,7 +183,8 @@ module _ (b : Book) (r : Reached b) (term sink : ℕ) (lines : List ClassLine) w
     number-found = link 2 _ _ _ refl (ap (λ t. noSink (openedWith b) sink || t) (strangers (openedWith b) lines (omega arith))) (link 3 true _ _ refl wrong-count refl)
 
     too-many : refusedWith b number ≡ handed b (migrate term sink lines)
-    too-many = handed-refused b (migrate term sink lines) number number-found (reached-shaped b r) (some-number (noSink (openedWith b) sink || noHolder (openedWith b) (c .top)))
+    unfolding refusedWith bookIn openedWith ledgerOf
+    too-many = handed-book _ _ _ _ _ _ _ _ _ (handed-refused (b .opening) (b .figures) (b .marks) (b .entries) (migrate term sink lines) number number-found r (some-number (noSink (openedWith b) sink || noHolder (openedWith b) (c .top))))
       where
         some-number : (t : Bool) → _≡_ {A = ℕ} (cond t 2 3) 0 → ⊥
         some-number true e = omega (arith, e)
@@ -224,6 +223,11 @@ module _ (b : Book) (r : Reached b) (term sink : ℕ) (lines : List ClassLine) w
           watts = column-at lines (λ l. l .watts) (λ c. c .watts) refl (λ c k l. refl) n few j below i;
         }))
 
+  -- slices of one length are lines
+  handed-even : (froms tos classes customers watts : List ℕ) → sameCounts froms tos classes customers watts ≡ true → handed b (migrate term sink (classLinesOf froms tos classes customers watts)) ≡ handedLines b term sink froms tos classes customers watts
+  unfolding handedLines
+  handed-even froms tos classes customers watts e = sym (ap (λ t. cond t (handed b (migrate term sink (classLinesOf froms tos classes customers watts))) (refusedWith b 1)) e)
+
   -- so a migration of the columns is one of the lines
   pub columns-handed : handedColumns b term sink n c ≡ handed b (migrate term sink lines)
   columns-handed = go (decided (ltb 64 n))
@@ -233,5 +237,5 @@ module _ (b : Book) (r : Reached b) (term sink : ℕ) (lines : List ClassLine) w
       go (inr e) =
           let few = ltb-false 64 n e in
           sym (few-handed b term sink n c few)
-          ∙ sym (handed-even b term sink (firsts (c .froms)) (firsts (c .tos)) (firsts (c .classes)) (firsts (c .customers)) (firsts (c .watts)) (counted (firsts (c .froms)) (firsts (c .tos)) (firsts (c .classes)) (firsts (c .customers)) (firsts (c .watts)) (same few)))
+          ∙ sym (handed-even (firsts (c .froms)) (firsts (c .tos)) (firsts (c .classes)) (firsts (c .customers)) (firsts (c .watts)) (counted (firsts (c .froms)) (firsts (c .tos)) (firsts (c .classes)) (firsts (c .customers)) (firsts (c .watts)) (same few)))
           ∙ ap (λ ls. handed b (migrate term sink ls)) (lines-back few)

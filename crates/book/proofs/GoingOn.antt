@@ -9,11 +9,9 @@ use Rattle.ledger.specs.Opening.{Opening}
 use Rattle.ledger.specs.Call.{Call, load, migrate}
 use Rattle.book.specs.declared.book.Book.{Book}
 use Rattle.book.specs.declared.book.Answered.{Answered}
-use Rattle.book.specs.Handed.{refusedWith, handed}
+use Rattle.book.specs.Handed.{refusedWith, handed, handedBlocks, handedLines}
 use Rattle.book.specs.Reached.{Reached}
 use Rattle.book.specs.Opened.{openedAs}
-use Rattle.book.specs.Posting.{handedBlocks}
-use Rattle.book.specs.Lines.{handedLines}
 use Rattle.book.proofs.ReachedSteps.{handed-reached}
 use Rattle.book.proofs.OpenedLaws.{opened-reached}
 

@@ -1,32 +1,36 @@
 -- What a reached book answers is the ledger's answer, and what a call hands back is a reached book. Assumes nothing.
-use mathlib.Core.Path.{_≡_, sym, ap, _∙_}
+use mathlib.Core.Path.{_≡_, refl, sym, ap, _∙_, subst}
 use mathlib.Core.Bool.{true}
 use mathlib.Core.List.{List, [], _∷_, _++_}
 use Rattle.ledger.specs.Opening.{Opening, legal}
 use Rattle.ledger.specs.Call.{Call, Query}
 use Rattle.ledger.specs.Season.{call, query, answer, step, after}
 use Rattle.ledger.proofs.Steps.{after-more}
+use Rattle.records.specs.Opening.{openingArray}
+use Rattle.records.specs.Handed.{answerOf}
+use Rattle.records.proofs.ReachedParts.{ledger-known, opening-known}
 use Rattle.book.specs.declared.book.Book.{Book}
-use Rattle.records.specs.Setup.{setupOf}
-use Rattle.book.specs.Reading.{ledgerOf, bookOf}
-use Rattle.book.specs.Handed.{openedWith, answerOf, handed, told}
+use Rattle.book.specs.Reading.{ledgerOf, openedWith, bookIn, bookOf}
+use Rattle.book.specs.Handed.{handed, told}
 use Rattle.book.specs.Reached.{Reached}
-use Rattle.records.proofs.Confined.{confined}
-use Rattle.book.proofs.RoundTrip.{read-back}
-use Rattle.records.proofs.OpeningLaws.{opening-back}
 
 module _ (o : Opening) (e : legal o ≡ true) (cs : List Call) where
   -- the book of a legal opening and a list of calls
   abbrev pub bookAt : Book
-  bookAt = bookOf (setupOf o) (after o cs)
+  bookAt = bookOf (openingArray o) (after o cs)
+
+  pub at-reached : Reached bookAt
+  unfolding bookOf bookIn
+  at-reached = record { opening = o; calls = cs; isLegal = e; ofOpening = refl; ofFigures = refl; ofMarks = refl; ofEntries = refl }
 
   -- it keeps its opening and has the ledger of its calls
   pub at-opening : openedWith bookAt ≡ o
-  unfolding openedWith bookOf
-  at-opening = opening-back o e
+  unfolding openedWith bookOf bookIn at-reached
+  at-opening = opening-known _ _ _ _ at-reached
 
   pub at-ledger : ledgerOf bookAt ≡ after o cs
-  at-ledger = read-back (setupOf o) (after o cs) (confined o e cs)
+  unfolding ledgerOf bookOf bookIn at-reached
+  at-ledger = ledger-known _ _ _ _ at-reached
 
   pub at-answer : (c : Call) → handed bookAt c .answer ≡ answerOf (answer o (after o cs) (call c))
   unfolding handed
@@ -37,16 +41,16 @@ module _ (o : Opening) (e : legal o ≡ true) (cs : List Call) where
   at-told q = λ i. answerOf (answer (at-opening i) (at-ledger i) (query q))
 
   -- a call hands back the book of one call more
-  pub at-next : (c : Call) → handed bookAt c .book ≡ bookOf (setupOf o) (after o (cs ++ (c ∷ [])))
-  unfolding handed bookOf
-  at-next c = ap (bookOf (setupOf o)) ((λ i. step (at-opening i) (at-ledger i) c) ∙ sym (after-more o cs c))
+  pub at-next : (c : Call) → handed bookAt c .book ≡ bookOf (openingArray o) (after o (cs ++ (c ∷ [])))
+  unfolding handed bookOf bookIn
+  at-next c = ap (bookOf (openingArray o)) ((λ i. step (at-opening i) (at-ledger i) c) ∙ sym (after-more o cs c))
 
--- so whoever has a book from opening or a call can put the next call to what it hands back
-pub handed-reached : (b : Book) → Reached b → (c : Call) → Reached (handed b c .book)
-handed-reached b r c =
-    record {
-      opening = r .opening;
-      calls = r .calls ++ (c ∷ []);
-      isLegal = r .isLegal;
-      isBook = ap (λ x. handed x c .book) (r .isBook) ∙ at-next (r .opening) (r .isLegal) (r .calls) c;
-    }
+module _ (b : Book) (r : Reached b) where
+  -- a reached book is that of its opening and calls
+  pub reached-book : b ≡ bookAt (r .opening) (r .isLegal) (r .calls)
+  unfolding bookOf bookIn
+  reached-book = λ i. record { opening = r .ofOpening i; figures = r .ofFigures i; marks = r .ofMarks i; entries = r .ofEntries i }
+
+  -- so whoever has a book from opening or a call can put the next call to what it hands back
+  pub handed-reached : (c : Call) → Reached (handed b c .book)
+  handed-reached c = subst Reached (sym (ap (λ x. handed x c .book) reached-book ∙ at-next (r .opening) (r .isLegal) (r .calls) c)) (at-reached (r .opening) (r .isLegal) (r .calls ++ (c ∷ [])))

@@ -8,10 +8,11 @@ use Rattle.ledger.specs.Call.{Call, Query}
 use Rattle.ledger.specs.Season as ledger
 use Rattle.ledger.specs.Season.{Ask, call, query, afterFrom, after, answers, stepAsk, season}
 use Rattle.ledger.proofs.Steps.{after-more}
-use Rattle.records.specs.Setup.{setupOf}
+use Rattle.records.specs.Opening.{openingArray, emptyOpening}
+use Rattle.records.specs.Handed.{answerIn, answerOf}
+use Rattle.opening.specs.Opened.{openedAnswer, openedOpening}
 use Rattle.book.specs.Reading.{bookOf}
-use Rattle.book.specs.Handed.{answerIn, answerOf, handed, told}
-use Rattle.records.specs.Setup.{emptyOpening}
+use Rattle.book.specs.Handed.{handed, told}
 use Rattle.book.specs.Opened.{openedAs}
 use Rattle.book.specs.SeasonTheorem.{callsOf, bookAfter, answersOf, seasonAnswers}
 use Rattle.book.proofs.ReachedSteps.{bookAt, at-answer, at-told, at-next}
@@ -51,19 +52,19 @@ module _ (o : Opening) (e : legal o ≡ true) where
 
   -- opening hands back the book of no calls
   pub opened-at : openedAs o .book ≡ bookAt o e []
-  unfolding openedAs after afterFrom
-  opened-at = ap (λ t. bookOf (setupOf (cond t o emptyOpening)) emptyLedger) e
+  unfolding openedAs openedOpening after afterFrom
+  opened-at = ap (λ t. bookOf (openingArray (cond t o emptyOpening)) emptyLedger) e
 
   pub last-book : (asks : List Ask) → bookAfter (openedAs o .book) asks ≡ bookAt o e (callsOf asks)
   last-book asks = ap (λ b. bookAfter b asks) opened-at ∙ books-from [] asks
 
   legal-answered : (asks : List Ask) → map answerIn (seasonAnswers o asks) ≡ season o asks
-  unfolding seasonAnswers season openedAs answerIn after afterFrom
+  unfolding seasonAnswers season openedAs openedAnswer openedOpening answerIn after afterFrom
   legal-answered asks = rw e (ap (λ l. ledger.done ∷ l) (answers-from [] asks))
 
 -- an opening that is not legal is refused, and nothing follows
 refused-answered : (o : Opening) → legal o ≡ false → (asks : List Ask) → map answerIn (seasonAnswers o asks) ≡ season o asks
-unfolding seasonAnswers season openedAs answerIn
+unfolding seasonAnswers season openedAs openedAnswer answerIn
 refused-answered o e asks = rw e
 
 pub season-answered : (o : Opening) (asks : List Ask) → map answerIn (seasonAnswers o asks) ≡ season o asks

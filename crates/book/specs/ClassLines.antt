@@ -10,8 +10,8 @@ use Rattle.ledger.specs.Ranges.{noHolder, noSink}
 use Rattle.book.specs.declared.book.Book.{Book}
 use Rattle.book.specs.declared.book.Answered.{Answered}
 use Rattle.book.specs.declared.class_lines.Columns.{Columns}
-use Rattle.book.specs.Handed.{openedWith, refusedWith}
-use Rattle.book.specs.Lines.{handedLines}
+use Rattle.book.specs.Reading.{openedWith}
+use Rattle.book.specs.Handed.{refusedWith, handedLines}
 
 -- a number put into a column, which has no room past its end
 unfoldable pub placed : List ℕ → ℕ → ℕ → List ℕ

@@ -4,7 +4,4 @@ pub mod Handed
 pub mod Reached
 pub mod Opened
 pub mod SeasonTheorem
-pub mod Moving
-pub mod Lines
-pub mod Posting
 pub mod ClassLines

@@ -14,10 +14,11 @@ use Rattle.ledger.specs.Taken.{TakesNoMore}
 use Rattle.ledger.specs.Season.{Ask, call, query, accepted, step, after, held, net, season}
 use Rattle.ledger.specs.Totals.{carriedIn, awardedIn, postedIn, nominatedIn}
 use Rattle.book.specs.declared.book.Book.{Book}
-use Rattle.book.specs.declared.book.Answer.{Answer}
-use Rattle.book.specs.declared.book.Answer.the-variants.{Value}
+use Rattle.records.specs.declared.answers.Answer.{Answer}
+use Rattle.records.specs.declared.answers.Answer.the-variants.{Value}
+use Rattle.records.specs.Handed.{answerIn}
 use Rattle.book.specs.Reading.{ledgerOf}
-use Rattle.book.specs.Handed.{answerIn, handed, told}
+use Rattle.book.specs.Handed.{handed, told}
 use Rattle.book.specs.Opened.{openedAs}
 
 -- the calls among what was asked; a query changes nothing

@@ -1,27 +1,14 @@
-// The book: its opening and its figures, each part in a struct of its own.
-use records::loads::Loads;
-use records::papers::Papers;
-use records::priors::Priors;
-use records::rights::Rights;
-use records::setup::Setup;
-use records::tiers::Tiers;
+// The book: its opening, its figures, the marks of what was posted, and the evidence filed, in flat arrays.
+use records::answers::Answer;
+use tariff::evidence::Entry;
 ghost use mathlib.Core.Path.{_≡_};
 ghost use Rattle.book.specs.Handed.{refusedWith};
 
 pub struct Book {
-    pub setup: Setup,
-    pub loads: Loads,
-    pub rights: Rights,
-    pub priors: Priors,
-    pub papers: Papers,
-    pub tiers: Tiers,
-}
-
-// What a call answers: done, done with a figure, or refused with 01's number.
-pub enum Answer {
-    Done,
-    Value(u64),
-    Refused(u64),
+    pub opening: [u64; 76],
+    pub figures: [u64; 2946],
+    pub marks: [bool; 1024],
+    pub entries: [Entry; 256],
 }
 
 // An answer beside the next book.

@@ -4,6 +4,8 @@ use crate::book::Book;
 use crate::book::refused;
 use migration::netting::ClassLine;
 use records::refusals::refuse;
+use records::setup::no_holder;
+use records::setup::no_sink;
 use tariff::load::larger;
 ghost use mathlib.Core.Path.{_≡_};
 ghost use Rattle.ledger.specs.Call.{migrate};
@@ -73,8 +75,8 @@ fn migrate_columns(b: Book, term: u64, sink: u64, n: usize, c: Columns) -> Answe
     ensures { λ r. ⌜ r ≡ handedColumns b term sink n c ⌝ }
 {
     if 64 < n {
-        let setup = b.setup;
-        let stranger = setup.no_sink(sink) | setup.no_holder(c.top);
+        let opening = b.opening;
+        let stranger = no_sink(&opening, sink) | no_holder(&opening, c.top);
         return refused(b, refuse(2, stranger, 3));
     }
     let froms = c.froms;

@@ -2,7 +2,7 @@
 use crate::write::answer;
 use book::book::Answered;
 use book::book::Book;
-use book::opening::open_book;
+use book::opened::open_book;
 ghost use Rattle.book.specs.Reached.{Reached};
 
 // The answer written, and the book to go on with.

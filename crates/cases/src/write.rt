@@ -1,6 +1,6 @@
 // Lines. What a program writes is in no promise, so these state none: the stored output holds every line.
-use book::book::Answer;
 use libc::STDOUT_FILENO;
+use records::answers::Answer;
 
 // A word and a number.
 fn numbered(word: &[u8], number: u64) {

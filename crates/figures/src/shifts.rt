@@ -52,7 +52,7 @@ fn within_load(m: [u64; 64], load: [u64; 8]) -> bool
 {
     let mut holder = 0;
     while holder < 8 {
-        if given_by(m, holder, 8) > load[holder] {
+        if given_by(&m, holder, 8) > load[holder] {
             return false;
         }
         holder += 1;
@@ -66,7 +66,7 @@ fn write_given(parts: [u64; 64])
     write::word(b"given");
     let mut holder = 0;
     while holder < 8 {
-        write::field(given_by(parts, holder, 8));
+        write::field(given_by(&parts, holder, 8));
         holder += 1;
     }
     write::end();
@@ -79,7 +79,7 @@ fn write_shift(column: [u64; 8], m: [u64; 64], load: [u64; 8]) {
             if within_load(m, load) {
                 let parts = shares_of(column, m, load);
                 write_given(parts);
-                let after = shifted_column(column, parts, 8);
+                let after = shifted_column(column, &parts, 8);
                 write::word(b"shift");
                 write::fields(&after);
                 write::end();

@@ -3,7 +3,7 @@ use tariff::limit::less;
 ghost use mathlib.Core.Path.{_≡_};
 ghost use mathlib.Core.Bool.{not};
 ghost use Prim.Native.Nat.{ℕ, _+_, _-_, _*_, _^_, _/_, _<_, _≤_};
-ghost use lib.ListN.{length, set};
+ghost use lib.ListN.{length};
 ghost use Rattle.tariff.specs.Sum.{anyOf};
 ghost use Rattle.migration.specs.ClassRanges.{wrongClassFields};
 ghost use Rattle.migration.specs.Netting.{SameLengths, sameCounts, Summable, pairAt, pairCells, nettingOf, classLinesOf, unfitLine, linesFit, wattsTo};
@@ -78,17 +78,6 @@ fn lines_fit(froms: &[u64], tos: &[u64], classes: &[u64], customers: &[u64], wat
     false
 }
 
-// The cells with some watts more for the pair from, to.
-fn with_watts(cells: [u64; 64], from: u64, to: u64, watts: u64) -> [u64; 64]
-    requires { ⌜ (from < 8) × (to < 8) × (pairAt cells from to + watts < 2 ^ 64) ⌝ }
-    ensures { λ r. ⌜ r ≡ set cells (from * 8 + to) (pairAt cells from to + watts) ⌝ }
-{
-    let mut next = cells;
-    let pair = (from * 8 + to) as usize;
-    next[pair] = next[pair] + watts;
-    next
-}
-
 // The watts of a line: customers × average watts.
 fn line_watts(customers: u64, watts: u64) -> u64
     requires { ⌜ (customers ≤ 9999999) × (watts ≤ 9999999) ⌝ }
@@ -106,8 +95,8 @@ fn watts_of_pairs(froms: &[u64], tos: &[u64], customers: &[u64], watts: &[u64]) 
     let mut k = 0;
     while k < froms.len() {
         let line = line_watts(customers[k], watts[k]);
-        let next = with_watts(cells, froms[k], tos[k], line);
-        cells = next;
+        let pair = (froms[k] * 8 + tos[k]) as usize;
+        cells[pair] = cells[pair] + line;
         k += 1;
     }
     cells

@@ -1,6 +1,7 @@
 // The shares of records that a migration moves, and the columns after they have moved (01, Migration).
 ghost use mathlib.Core.Path.{_≡_};
 ghost use Prim.Native.Nat.{_*_, _^_, _<_, _≤_};
+ghost use lib.ListN.{length};
 ghost use Rattle.tariff.specs.Sum.{sumTo};
 ghost use Rattle.migration.specs.Migration.{share};
 ghost use Rattle.migration.specs.Netting.{pairAt, ProductsFit, PartsFit, shareCells, shiftedCells};
@@ -32,9 +33,9 @@ pub fn shares_of(column: [u64; 8], m: [u64; 64], load: [u64; 8]) -> [u64; 64]
 }
 
 // What one holder gives to the first n.
-pub fn given_by(parts: [u64; 64], holder: usize, n: usize) -> u64
-    requires { ⌜ (holder < 8) × (n ≤ 8) × (sumTo n (λ j. pairAt parts holder j) < 2 ^ 64) ⌝ }
-    ensures { λ r. ⌜ r ≡ sumTo n (λ j. pairAt parts holder j) ⌝ }
+pub fn given_by(parts: &[u64], holder: usize, n: usize) -> u64
+    requires { ⌜ (length (now parts) ≡ 64) × (holder < 8) × (n ≤ 8) × (sumTo n (λ j. pairAt (now parts) holder j) < 2 ^ 64) ⌝ }
+    ensures { λ r. ⌜ r ≡ sumTo n (λ j. pairAt (now (parts .entry)) holder j) ⌝ }
 {
     let mut sum = 0;
     let mut j = 0;
@@ -46,9 +47,9 @@ pub fn given_by(parts: [u64; 64], holder: usize, n: usize) -> u64
 }
 
 // What one holder gets from the first n.
-fn gained_by(parts: [u64; 64], holder: usize, n: usize) -> u64
-    requires { ⌜ (holder < 8) × (n ≤ 8) × (sumTo n (λ j. pairAt parts j holder) < 2 ^ 64) ⌝ }
-    ensures { λ r. ⌜ r ≡ sumTo n (λ j. pairAt parts j holder) ⌝ }
+fn gained_by(parts: &[u64], holder: usize, n: usize) -> u64
+    requires { ⌜ (length (now parts) ≡ 64) × (holder < 8) × (n ≤ 8) × (sumTo n (λ j. pairAt (now parts) j holder) < 2 ^ 64) ⌝ }
+    ensures { λ r. ⌜ r ≡ sumTo n (λ j. pairAt (now (parts .entry)) j holder) ⌝ }
 {
     let mut sum = 0;
     let mut j = 0;
@@ -60,9 +61,9 @@ fn gained_by(parts: [u64; 64], holder: usize, n: usize) -> u64
 }
 
 // The column after the parts have gone over between the first n holders: old values in, new values out.
-pub fn shifted_column(column: [u64; 8], parts: [u64; 64], n: usize) -> [u64; 8]
-    requires { ⌜ PartsFit n column parts ⌝ }
-    ensures { λ r. ⌜ r ≡ shiftedCells n column parts ⌝ }
+pub fn shifted_column(column: [u64; 8], parts: &[u64], n: usize) -> [u64; 8]
+    requires { ⌜ (length (now parts) ≡ 64) × PartsFit n column (now parts) ⌝ }
+    ensures { λ r. ⌜ r ≡ shiftedCells n column (now (parts .entry)) ⌝ }
 {
     let mut next = column;
     let mut i = 0;

@@ -7,8 +7,8 @@ use mathlib.Core.List.{List}
 use mathlib.Core.Logic.{_⊎_, inl, inr}
 use native.Mathlib.Nat.{mul-add-div-right, div-eq-of-lt, mul-add-mod-self-right, mod-eq-of-lt, div-lt-iff-lt-mul, mod-lt, div-add-mod', mul-le-mul-right, suc-mul, le-trans, le-of-eq}
 use native.Mathlib.Omega.{arith}
-use lib.ListN.{length, getD, set, take, length-take, List·getD-eq-default}
-use lib.Seq.{ext-getD, getD-set-same, getD-set-other, getD-take}
+use lib.ListN.{length, getD, set, take, drop, length-take, List·getD-eq-default}
+use lib.Seq.{ext-getD, getD-set-same, getD-set-other, getD-take, getD-drop}
 use lib.Dec.{leb, ltb}
 use borrow.Author.Tests.{ltb-true, leb-true, lt-ltb, le-leb, eq-eqb}
 use Rattle.tariff.proofs.Tests.{and-both, and-join, decided, both-ways}
@@ -173,15 +173,22 @@ row-small width low h p m w e = let l = cell-below width low h p m e in omega ar
 pub read-cell : {A : Type 0} (width low : ℕ) (none : A) (cells : List A) (h p m at : ℕ) → hasCell width low h p m ≡ true → at ≡ cellOf width low h p m → getD cells at none ≡ readAt width low none cells h p m
 read-cell width low none cells h p m at e q = ap (λ k. getD cells k none) q ∙ sym (read-here width low none cells h p m e)
 
--- an entry of the first n of a list
+-- the same in the records that begin at a place
+pub read-part : {A : Type 0} (width low : ℕ) (none : A) (xs : List A) (from h p m at : ℕ) → hasCell width low h p m ≡ true → at ≡ cellOf width low h p m → getD xs (from + at) none ≡ readAt width low none (take (128 * width) (drop from xs)) h p m
+read-part width low none xs from h p m at e q =
+    sym (getD-drop from xs at none)
+    ∙ sym (getD-take (128 * width) (drop from xs) at none (let l = cell-below width low h p m e in omega arith))
+    ∙ read-cell width low none (take (128 * width) (drop from xs)) h p m at e q
+
+-- an entry of the first n of a list that has room for so many and stands at a place
 pub entry-past : (xs : List ℕ) (n i : ℕ) → n ≤ i → 0 ≡ getD (take n xs) i 0
 entry-past xs n i l = sym (List·getD-eq-default (take n xs) 0 {n = i} (let e = length-take n xs in omega arith))
 
-pub entry-none : (xs : List ℕ) (n i : ℕ) → length xs ≤ i → 0 ≡ getD (take n xs) i 0
-entry-none xs n i l = sym (List·getD-eq-default (take n xs) 0 {n = i} (let e = length-take n xs in omega arith))
+pub entry-none : (xs : List ℕ) (room n i : ℕ) → room ≤ i → 0 ≡ getD (take n (take room xs)) i 0
+entry-none xs room n i l = sym (List·getD-eq-default (take n (take room xs)) 0 {n = i} (let e = length-take n (take room xs) in let r = length-take room xs in omega arith))
 
-pub entry-there : (xs : List ℕ) (n i : ℕ) → i < n → getD xs i 0 ≡ getD (take n xs) i 0
-entry-there xs n i l = sym (getD-take n xs i 0 l)
+pub entry-part : (xs : List ℕ) (from room n i : ℕ) → i < room → i < n → getD xs (from + i) 0 ≡ getD (take n (take room (drop from xs))) i 0
+entry-part xs from room n i inside counted = sym (getD-take n (take room (drop from xs)) i 0 counted ∙ getD-take room (drop from xs) i 0 inside ∙ getD-drop from xs i 0)
 
 -- what is read out of the cells of a function is at most the function's
 pub read-le : (width low : ℕ) (f : ℕ → ℕ → ℕ → ℕ) (h p m : ℕ) → readAt width low 0 (cellsOf width low f) h p m ≤ f h p m

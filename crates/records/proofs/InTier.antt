@@ -9,8 +9,8 @@ use lib.Dec.{eqb}
 use borrow.Author.Tests.{eq-eqb}
 use Rattle.tariff.specs.Terms.{termOf}
 use Rattle.ledger.specs.Effects.{plusAt3, plusInTerm, awardsAfter, holdingsAfter, same3, afterNominate}
-use Rattle.records.specs.declared.rights.Rights.{Rights}
-use Rattle.records.specs.declared.tiers.Tiers.{Tiers}
+use Rattle.records.specs.Parts.{Rights}
+use Rattle.records.specs.Parts.{Tiers}
 use Rattle.records.specs.Cells.{readAt, cellsOf, hasCell}
 use Rattle.records.specs.Reading.{rightsIn, tiersIn, rightsOf, tiersOf}
 use Rattle.records.proofs.CellLaws.{cells-read, cells-ext}
@@ -18,19 +18,19 @@ use Rattle.records.proofs.Narrow.{narrow-read, third-zero}
 use Rattle.tariff.specs.Sum.{countIf}
 
 -- the tiers after a nomination
-pub nominate-tiers : (x : Tiers) (h p kw : ℕ) (nominated : List ℕ) → length (x .awards) ≡ 1280 → nominated ≡ cellsOf 1 0 (plusAt3 h p 0 kw (readAt 1 0 0 (x .nominated))) → _≡_ {A = Tiers} (record { nominated = nominated; awards = x .awards; «last_closed» = x .«last_closed»; «open_now» = x .«open_now» }) (tiersOf (afterNominate (tiersIn x) h p kw))
+pub nominate-tiers : (x : Tiers) (h p kw : ℕ) (nominated : List ℕ) → length (x .awards) ≡ 1280 → nominated ≡ cellsOf 1 0 (plusAt3 h p 0 kw (readAt 1 0 0 (x .nominated))) → _≡_ {A = Tiers} (record { nominated = nominated; awards = x .awards; lastClosed = x .lastClosed; openNow = x .openNow }) (tiersOf (afterNominate (tiersIn x) h p kw))
 unfolding tiersOf afterNominate tiersIn plusAt3 same3
 nominate-tiers x h p kw nominated len e =
     λ i.
     record {
       nominated = (e ∙ cells-ext 1 0 _ _ (omega arith) each) i;
       awards = sym (cells-read 10 0 0 (x .awards) (omega arith) len) i;
-      «last_closed» = x .«last_closed»;
-      «open_now» = x .«open_now»;
+      lastClosed = x .lastClosed;
+      openNow = x .openNow;
     }
   where
     now : ℕ
-    now = x .«open_now»
+    now = x .openNow
 
     each : (i j z : ℕ) → hasCell 1 0 i j z ≡ true → readAt 1 0 0 (x .nominated) i j z + countIf (eqb i h && eqb j p && eqb z 0) kw ≡ cond (eqb now now) (readAt 1 0 0 (x .nominated) i j 0) (readAt 10 0 0 (x .awards) i j now) + countIf (eqb i h && eqb j p && eqb now now) kw
     each i j z here =
@@ -40,15 +40,15 @@ nominate-tiers x h p kw nominated len e =
         ∙ sym (ap (λ b. cond b (readAt 1 0 0 (x .nominated) i j 0) (readAt 10 0 0 (x .awards) i j now) + countIf (eqb i h && eqb j p && eqb now now) kw) same)
 
 -- the tiers after an award
-pub award-tiers : (x : Tiers) (h p kw : ℕ) (awards : List ℕ) → length (x .nominated) ≡ 128 → awards ≡ cellsOf 10 0 (plusAt3 h p (x .«open_now») kw (readAt 10 0 0 (x .awards))) → _≡_ {A = Tiers} (record { nominated = x .nominated; awards = awards; «last_closed» = x .«last_closed»; «open_now» = x .«open_now» }) (tiersOf (awardsAfter (tiersIn x) h p kw))
+pub award-tiers : (x : Tiers) (h p kw : ℕ) (awards : List ℕ) → length (x .nominated) ≡ 128 → awards ≡ cellsOf 10 0 (plusAt3 h p (x .openNow) kw (readAt 10 0 0 (x .awards))) → _≡_ {A = Tiers} (record { nominated = x .nominated; awards = awards; lastClosed = x .lastClosed; openNow = x .openNow }) (tiersOf (awardsAfter (tiersIn x) h p kw))
 unfolding tiersOf awardsAfter tiersIn
 award-tiers x h p kw awards len e =
     λ i.
     record {
-      nominated = sym (ap (λ t. cellsOf 1 0 (λ h p z. cond t (readAt 1 0 0 (x .nominated) h p 0) (readAt 10 0 0 (x .awards) h p (x .«open_now»)))) (eq-eqb (x .«open_now») (x .«open_now») refl) ∙ narrow-read 0 (x .nominated) len) i;
+      nominated = sym (ap (λ t. cellsOf 1 0 (λ h p z. cond t (readAt 1 0 0 (x .nominated) h p 0) (readAt 10 0 0 (x .awards) h p (x .openNow)))) (eq-eqb (x .openNow) (x .openNow) refl) ∙ narrow-read 0 (x .nominated) len) i;
       awards = e i;
-      «last_closed» = x .«last_closed»;
-      «open_now» = x .«open_now»;
+      lastClosed = x .lastClosed;
+      openNow = x .openNow;
     }
 
 -- the holdings after an award

@@ -11,8 +11,8 @@ use Rattle.tariff.specs.Sum.{listTo, allBelow}
 use Rattle.tariff.proofs.Tests.{and-both}
 use Rattle.tariff.proofs.Lists.{length-list-to, at-list-to}
 use Rattle.ledger.specs.Opening.{Opening, countsFit, listsFit, legal}
-use Rattle.records.specs.Setup.{openingOf, setupOf}
-use Rattle.records.specs.Setup.{emptyOpening}
+use Rattle.records.specs.Opening.{openingOf, setupOf}
+use Rattle.records.specs.Opening.{emptyOpening}
 
 -- the first n of a list that was copied into n places or more are the list
 pub copied-back : (n room : ℕ) (xs : List ℕ) → length xs ≡ n → n ≤ room → take n (listTo room (λ k. getD xs k 0)) ≡ xs

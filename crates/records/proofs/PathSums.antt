@@ -1,13 +1,16 @@
 -- Sums over the paths of a book, as a loop forms them. Assumes nothing.
 use Prim.Native.Nat.{ℕ, _+_, _*_, _≤_, _<_}
-use mathlib.Core.Path.{_≡_, _∙_}
+use mathlib.Core.Path.{_≡_, sym, ap, _∙_}
 use mathlib.Core.Bool.{Bool}
 use mathlib.Core.List.{List}
 use native.Mathlib.Nat.{le-trans}
 use native.Mathlib.Omega.{arith}
 use lib.Dec.{eqb}
-use Rattle.tariff.specs.Sum.{countIf, sumTo}
-use Rattle.tariff.proofs.Sums.{count-le, sum-part-le}
+use lib.ListN.{getD}
+use borrow.Author.Tests.{eq-eqb, ne-eqb}
+use Rattle.tariff.specs.Sum.{countIf, sumTo, listTo}
+use Rattle.tariff.proofs.Sums.{count-true, count-false, count-le, sum-part-le}
+use Rattle.tariff.proofs.Lists.{at-list-to}
 use Rattle.ledger.specs.Opening.{Opening, pathBase, pathSource, endsAt, comesFrom}
 use Rattle.ledger.specs.Limits.{sumAtBase}
 use Rattle.ledger.specs.Verification.{sumFromSource}
@@ -34,9 +37,13 @@ module _ (o : Opening) (place : ℕ) (cells : List ℕ) (width low h m : ℕ) wh
   figureFromSource p = countIf (comesFrom o place p) (readAt width low 0 cells h p m)
 
   -- the next path's figure, as code has it
-  pub next-at-base : (p base figure v : ℕ) → v ≡ countIf (eqb base place) figure → base ≡ pathBase o p → figure ≡ readAt width low 0 cells h p m → v ≡ figureAtBase p
+  pub here-at-base : (p v : ℕ) → pathBase o p ≡ place → v ≡ readAt width low 0 cells h p m → v ≡ figureAtBase p
   unfolding figureAtBase endsAt
-  next-at-base p base figure v e there same = e ∙ (λ i. countIf (eqb (there i) place) (same i))
+  here-at-base p v there same = same ∙ sym (count-true _ (eq-eqb (pathBase o p) place there))
+
+  pub past-at-base : (p : ℕ) → (pathBase o p ≡ place → ⊥) → 0 ≡ figureAtBase p
+  unfolding figureAtBase endsAt
+  past-at-base p other = sym (count-false _ (ne-eqb (pathBase o p) place other))
 
   pub next-from-source : (p source figure v : ℕ) → v ≡ countIf (eqb source place) figure → source ≡ pathSource o p → figure ≡ readAt width low 0 cells h p m → v ≡ figureFromSource p
   unfolding figureFromSource comesFrom
@@ -49,6 +56,10 @@ module _ (o : Opening) (place : ℕ) (cells : List ℕ) (width low h m : ℕ) wh
   pub room-from-source : (n most : ℕ) → n ≤ 16 → ((p : ℕ) → p < n → readAt width low 0 cells h p m ≤ most) → (p sum v : ℕ) → p < n → sum ≡ sumTo p figureFromSource → v ≡ figureFromSource p → sum + v ≤ 16 * most
   unfolding figureFromSource
   room-from-source n most few each = counted-room (comesFrom o place) (λ p. readAt width low 0 cells h p m) n most few each
+
+-- the base of a path's sink, read out of the list of them
+pub base-listed : (o : Opening) (bases : List ℕ) (n p v : ℕ) → bases ≡ listTo 16 (pathBase o) → n ≤ 16 → p < n → v ≡ getD bases p 0 → v ≡ pathBase o p
+base-listed o bases n p v e few l same = same ∙ ap (λ xs. getD xs p 0) e ∙ at-list-to 16 (pathBase o) 0 p (omega arith)
 
 -- the whole sums are bounded by what stands in each cell
 pub base-sum-fits : (o : Opening) (b most : ℕ) (f : ℕ → ℕ) → o .paths ≤ 16 → ((p : ℕ) → p < o .paths → f p ≤ most) → sumAtBase o b f ≤ 16 * most

@@ -1,5 +1,8 @@
--- The parts of a book as the ledger sees them, and the ledger's parts as arrays.
-pub mod Setup
+-- A book's arrays as the ledger sees them, and the ledger as arrays.
 pub mod Cells
-pub mod Columns
+pub mod Parts
+pub mod Opening
 pub mod Reading
+pub mod Layout
+pub mod Handed
+pub mod Sums

@@ -1,13 +1,9 @@
--- The ledger's parts that stand in a book's arrays, and the arrays of those parts.
+-- The ledger that stands in a book's parts, and the parts of a ledger.
 use mathlib.Core.Bool.{false, cond}
 use lib.Dec.{eqb}
 use Rattle.tariff.specs.Evidence.{noEntry}
 use Rattle.ledger.specs.Ledger as ledger
-use Rattle.records.specs.declared.loads.Loads.{Loads}
-use Rattle.records.specs.declared.rights.Rights.{Rights}
-use Rattle.records.specs.declared.priors.Priors.{Priors}
-use Rattle.records.specs.declared.papers.Papers.{Papers}
-use Rattle.records.specs.declared.tiers.Tiers.{Tiers}
+use Rattle.records.specs.Parts.{Setup, Loads, Rights, Priors, Papers, Tiers, Parts}
 use Rattle.records.specs.Cells.{readAt, cellsOf}
 
 -- a term is 0 to 3, a month 1 to 3, a kind of evidence 1 or 2, a tier 0 to 9; what has no third number stands in cells one wide
@@ -32,11 +28,14 @@ papersIn x = record { entry = readAt 2 1 noEntry (x .entries); posted = readAt 2
 unfoldable pub tiersIn : Tiers → ledger.Tiers
 tiersIn x =
     record {
-      nominated = λ h p t. cond (eqb t (x .«open_now»)) (readAt 1 0 0 (x .nominated) h p 0) (readAt 10 0 0 (x .awards) h p t);
+      nominated = λ h p t. cond (eqb t (x .openNow)) (readAt 1 0 0 (x .nominated) h p 0) (readAt 10 0 0 (x .awards) h p t);
       awards = readAt 10 0 0 (x .awards);
-      lastClosed = x .«last_closed»;
-      openNow = x .«open_now»;
+      lastClosed = x .lastClosed;
+      openNow = x .openNow;
     }
+
+unfoldable pub ledgerOf : Parts → ledger.Ledger
+ledgerOf b = record { loads = loadsIn (b .loads); rights = rightsIn (b .rights); priors = priorsIn (b .priors); papers = papersIn (b .papers); tiers = tiersIn (b .tiers) }
 
 -- and back
 unfoldable pub loadsOf : ledger.Loads → Loads
@@ -52,4 +51,7 @@ unfoldable pub papersOf : ledger.Papers → Papers
 papersOf x = record { entries = cellsOf 2 1 (x .entry); posted = cellsOf 2 1 (x .posted) }
 
 unfoldable pub tiersOf : ledger.Tiers → Tiers
-tiersOf x = record { nominated = cellsOf 1 0 (λ h p z. x .nominated h p (x .openNow)); awards = cellsOf 10 0 (x .awards); «last_closed» = x .lastClosed; «open_now» = x .openNow }
+tiersOf x = record { nominated = cellsOf 1 0 (λ h p z. x .nominated h p (x .openNow)); awards = cellsOf 10 0 (x .awards); lastClosed = x .lastClosed; openNow = x .openNow }
+
+unfoldable pub partsOf : Setup → ledger.Ledger → Parts
+partsOf s L = record { setup = s; loads = loadsOf (L .loads); rights = rightsOf (L .rights); priors = priorsOf (L .priors); papers = papersOf (L .papers); tiers = tiersOf (L .tiers) }

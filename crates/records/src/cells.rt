@@ -2,9 +2,30 @@
 ghost use mathlib.Core.Path.{_≡_};
 ghost use mathlib.Core.Bool.{true, false, _||_};
 ghost use Prim.Native.Nat.{_+_, _*_, _^_, _<_, _≤_};
-ghost use lib.ListN.{length, getD, take};
+ghost use lib.ListN.{length, getD, take, drop};
+ghost use Rattle.tariff.specs.Sum.{listTo};
 ghost use Rattle.records.specs.Cells.{cellOf, hasCell, readAt, cellsOf};
 ghost use Rattle.ledger.specs.Effects.{same3, plusAt3};
+
+// The number at a place; 0 past the end.
+pub fn number_at(numbers: &[u64], i: usize) -> u64
+    ensures { λ r. ⌜ r ≡ getD (now (numbers .entry)) i 0 ⌝ }
+{
+    if numbers.len() <= i {
+        return 0;
+    }
+    numbers[i]
+}
+
+// The mark at a place; none past the end.
+pub fn mark_at(marks: &[bool], i: usize) -> bool
+    ensures { λ r. ⌜ r ≡ getD (now (marks .entry)) i false ⌝ }
+{
+    if marks.len() <= i {
+        return false;
+    }
+    marks[i]
+}
 
 // Whether there is a cell of three numbers.
 pub fn has_cell(width: u64, low: u64, h: u64, p: u64, m: u64) -> bool
@@ -23,41 +44,42 @@ pub fn cell(width: u64, low: u64, h: u64, p: u64, m: u64) -> usize
     ((h * 16 + p) * width + (m - low)) as usize
 }
 
-// What stands in a cell, 0 where there is none.
-pub fn read(cells: &[u64], width: u64, low: u64, h: u64, p: u64, m: u64) -> u64
-    requires { ⌜ (length (now cells) ≡ 128 * width) × (low + width ≤ 16) ⌝ }
-    ensures { λ r. ⌜ r ≡ readAt width low 0 (now (cells .entry)) h p m ⌝ }
+// What stands in a cell of the records that begin at a place, 0 where there is none.
+pub fn read(figures: &[u64], from: usize, width: u64, low: u64, h: u64, p: u64, m: u64) -> u64
+    requires { ⌜ (from ≤ 4096) × (low + width ≤ 16) ⌝ }
+    ensures { λ r. ⌜ r ≡ readAt width low 0 (take (128 * width) (drop from (now (figures .entry)))) h p m ⌝ }
 {
     if has_cell(width, low, h, p, m) {
         let at = cell(width, low, h, p, m);
-        return cells[at];
+        return number_at(figures, from + at);
     }
     0
 }
 
-// Whether a cell is marked; no cell is not.
-pub fn marked(cells: &[bool], width: u64, low: u64, h: u64, p: u64, m: u64) -> bool
-    requires { ⌜ (length (now cells) ≡ 128 * width) × (low + width ≤ 16) ⌝ }
-    ensures { λ r. ⌜ r ≡ readAt width low false (now (cells .entry)) h p m ⌝ }
+// Whether a cell of the records that begin at a place is marked; no cell is not.
+pub fn marked(marks: &[bool], from: usize, width: u64, low: u64, h: u64, p: u64, m: u64) -> bool
+    requires { ⌜ (from ≤ 4096) × (low + width ≤ 16) ⌝ }
+    ensures { λ r. ⌜ r ≡ readAt width low false (take (128 * width) (drop from (now (marks .entry)))) h p m ⌝ }
 {
     if has_cell(width, low, h, p, m) {
         let at = cell(width, low, h, p, m);
-        return cells[at];
+        return mark_at(marks, from + at);
     }
     false
 }
 
-// The entry of a list of `count` numbers that stands in a longer array; 0 past its end.
-pub fn entry(numbers: &[u64], count: u64, i: u64) -> u64
-    ensures { λ r. ⌜ r ≡ getD (take count (now (numbers .entry))) i 0 ⌝ }
+// The entry of a list of `count` numbers that stands from a place on, with room for `room` of them; 0 past its end.
+pub fn listed(numbers: &[u64], from: usize, room: u64, count: u64, i: u64) -> u64
+    requires { ⌜ (from ≤ 4096) × (room ≤ 16) ⌝ }
+    ensures { λ r. ⌜ r ≡ getD (take count (take room (drop from (now (numbers .entry))))) i 0 ⌝ }
 {
     if count <= i {
         return 0;
     }
-    if (numbers.len() as u64) <= i {
+    if room <= i {
         return 0;
     }
-    numbers[i as usize]
+    number_at(numbers, from + i as usize)
 }
 
 // kw more in the cell of three numbers.
@@ -76,4 +98,15 @@ pub fn mark(cells: &mut [bool], width: u64, low: u64, h: u64, p: u64, m: u64)
 {
     let at = cell(width, low, h, p, m);
     cells[at] = true;
+}
+
+// Every number put to 0.
+pub fn clear(numbers: &mut [u64])
+    ensures { λ r. ⌜ now (numbers .exit) ≡ listTo (length (now (numbers .entry))) (λ k. 0) ⌝ }
+{
+    let mut k = 0;
+    while k < numbers.len() {
+        numbers[k] = 0;
+        k += 1;
+    }
 }

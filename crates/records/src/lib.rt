@@ -1,16 +1,10 @@
-// The parts of a season book: flat arrays by holder, path and third number, and what a call reads of them and makes of them.
+// A book's arrays, lent as slices: its opening, its figures and its marks; what stands where, and what a call reads of them.
 
+pub mod answers;
 pub mod calendar;
 pub mod cells;
-pub mod empty;
-pub mod legality;
-pub mod lists;
-pub mod loads;
-pub mod moves;
-pub mod papers;
-pub mod priors;
+pub mod layout;
+pub mod months;
 pub mod refusals;
-pub mod rights;
 pub mod setup;
 pub mod sums;
-pub mod tiers;

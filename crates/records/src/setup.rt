@@ -1,100 +1,111 @@
-// What the book was opened with (01, The book).
-use crate::cells::entry;
+// What a book was opened with, kept in an array (01, The book): the four counts, then what stands on the line of each holder, sink and path.
+use crate::cells::listed;
+use crate::cells::number_at;
 ghost use mathlib.Core.Path.{_≡_};
 ghost use Rattle.ledger.specs.Opening.{holderKind, sinkKind, base, pathSource, pathSink, pathBase};
 ghost use Rattle.ledger.specs.Ranges.{noHolder, noSource, noSink, noPath};
 ghost use Rattle.ledger.specs.Causes.{sinkNotFor, isSubLap};
-ghost use Rattle.records.specs.Setup.{openingOf};
+ghost use lib.ListN.{getD};
+ghost use Rattle.records.specs.Opening.{openingIn};
 
-// The counts, and for each holder, sink and path what stands on its line. What is past a count is 0.
-pub struct Setup {
-    pub holders: u64,
-    pub sources: u64,
-    pub sinks: u64,
-    pub paths: u64,
-    pub holder_kinds: [u64; 8],
-    pub sink_kinds: [u64; 16],
-    pub sink_parents: [u64; 16],
-    pub path_sources: [u64; 16],
-    pub path_sinks: [u64; 16],
+pub fn holders(o: &[u64]) -> u64
+    ensures { λ r. ⌜ r ≡ openingIn (now (o .entry)) .holders ⌝ }
+{
+    number_at(o, 0)
 }
 
-impl Setup {
-    pub fn no_holder(self, h: u64) -> bool
-        ensures { λ r. ⌜ r ≡ noHolder (openingOf self) h ⌝ }
-    {
-        self.holders <= h
-    }
+pub fn sources(o: &[u64]) -> u64
+    ensures { λ r. ⌜ r ≡ openingIn (now (o .entry)) .sources ⌝ }
+{
+    number_at(o, 1)
+}
 
-    pub fn no_source(self, s: u64) -> bool
-        ensures { λ r. ⌜ r ≡ noSource (openingOf self) s ⌝ }
-    {
-        self.sources <= s
-    }
+pub fn sinks(o: &[u64]) -> u64
+    ensures { λ r. ⌜ r ≡ openingIn (now (o .entry)) .sinks ⌝ }
+{
+    number_at(o, 2)
+}
 
-    pub fn no_sink(self, s: u64) -> bool
-        ensures { λ r. ⌜ r ≡ noSink (openingOf self) s ⌝ }
-    {
-        self.sinks <= s
-    }
+pub fn paths(o: &[u64]) -> u64
+    ensures { λ r. ⌜ r ≡ openingIn (now (o .entry)) .paths ⌝ }
+{
+    number_at(o, 3)
+}
 
-    pub fn no_path(self, p: u64) -> bool
-        ensures { λ r. ⌜ r ≡ noPath (openingOf self) p ⌝ }
-    {
-        self.paths <= p
-    }
+pub fn no_holder(o: &[u64], h: u64) -> bool
+    ensures { λ r. ⌜ r ≡ noHolder (openingIn (now (o .entry))) h ⌝ }
+{
+    holders(o) <= h
+}
 
-    pub fn holder_kind(self, h: u64) -> u64
-        ensures { λ r. ⌜ r ≡ holderKind (openingOf self) h ⌝ }
-    {
-        entry(&self.holder_kinds, self.holders, h)
-    }
+pub fn no_source(o: &[u64], s: u64) -> bool
+    ensures { λ r. ⌜ r ≡ noSource (openingIn (now (o .entry))) s ⌝ }
+{
+    sources(o) <= s
+}
 
-    pub fn sink_kind(self, s: u64) -> u64
-        ensures { λ r. ⌜ r ≡ sinkKind (openingOf self) s ⌝ }
-    {
-        entry(&self.sink_kinds, self.sinks, s)
-    }
+pub fn no_sink(o: &[u64], s: u64) -> bool
+    ensures { λ r. ⌜ r ≡ noSink (openingIn (now (o .entry))) s ⌝ }
+{
+    sinks(o) <= s
+}
 
-    pub fn sink_base(self, s: u64) -> u64
-        ensures { λ r. ⌜ r ≡ base (openingOf self) s ⌝ }
-    {
-        entry(&self.sink_parents, self.sinks, s)
-    }
+pub fn no_path(o: &[u64], p: u64) -> bool
+    ensures { λ r. ⌜ r ≡ noPath (openingIn (now (o .entry))) p ⌝ }
+{
+    paths(o) <= p
+}
 
-    pub fn path_source(self, p: u64) -> u64
-        ensures { λ r. ⌜ r ≡ pathSource (openingOf self) p ⌝ }
-    {
-        entry(&self.path_sources, self.paths, p)
-    }
+pub fn holder_kind(o: &[u64], h: u64) -> u64
+    ensures { λ r. ⌜ r ≡ holderKind (openingIn (now (o .entry))) h ⌝ }
+{
+    listed(o, 4, 8, holders(o), h)
+}
 
-    pub fn path_sink(self, p: u64) -> u64
-        ensures { λ r. ⌜ r ≡ pathSink (openingOf self) p ⌝ }
-    {
-        entry(&self.path_sinks, self.paths, p)
-    }
+pub fn sink_kind(o: &[u64], s: u64) -> u64
+    ensures { λ r. ⌜ r ≡ sinkKind (openingIn (now (o .entry))) s ⌝ }
+{
+    listed(o, 12, 16, sinks(o), s)
+}
 
-    pub fn path_base(self, p: u64) -> u64
-        ensures { λ r. ⌜ r ≡ pathBase (openingOf self) p ⌝ }
-    {
-        let sink = self.path_sink(p);
-        self.sink_base(sink)
-    }
+pub fn sink_base(o: &[u64], s: u64) -> u64
+    ensures { λ r. ⌜ r ≡ base (openingIn (now (o .entry))) s ⌝ }
+{
+    listed(o, 28, 16, sinks(o), s)
+}
 
-    // A scheduling point is not for a load-serving entity, and nothing else is for an outside entity.
-    pub fn sink_not_for(self, h: u64, s: u64) -> bool
-        ensures { λ r. ⌜ r ≡ sinkNotFor (openingOf self) h s ⌝ }
-    {
-        let scheduling_point = self.sink_kind(s) == 4;
-        if self.holder_kind(h) == 1 {
-            return scheduling_point;
-        }
-        !scheduling_point
-    }
+pub fn path_source(o: &[u64], p: u64) -> u64
+    ensures { λ r. ⌜ r ≡ pathSource (openingIn (now (o .entry))) p ⌝ }
+{
+    listed(o, 44, 16, paths(o), p)
+}
 
-    pub fn is_sub_lap(self, s: u64) -> bool
-        ensures { λ r. ⌜ r ≡ isSubLap (openingOf self) s ⌝ }
-    {
-        self.sink_kind(s) == 2
+pub fn path_sink(o: &[u64], p: u64) -> u64
+    ensures { λ r. ⌜ r ≡ pathSink (openingIn (now (o .entry))) p ⌝ }
+{
+    listed(o, 60, 16, paths(o), p)
+}
+
+pub fn path_base(o: &[u64], p: u64) -> u64
+    ensures { λ r. ⌜ r ≡ pathBase (openingIn (now (o .entry))) p ⌝ }
+{
+    let sink = path_sink(o, p);
+    sink_base(o, sink)
+}
+
+// A scheduling point is not for a load-serving entity, and nothing else is for an outside entity.
+pub fn sink_not_for(o: &[u64], h: u64, s: u64) -> bool
+    ensures { λ r. ⌜ r ≡ sinkNotFor (openingIn (now (o .entry))) h s ⌝ }
+{
+    let scheduling_point = sink_kind(o, s) == 4;
+    if holder_kind(o, h) == 1 {
+        return scheduling_point;
     }
+    !scheduling_point
+}
+
+pub fn is_sub_lap(o: &[u64], s: u64) -> bool
+    ensures { λ r. ⌜ r ≡ isSubLap (openingIn (now (o .entry))) s ⌝ }
+{
+    sink_kind(o, s) == 2
 }

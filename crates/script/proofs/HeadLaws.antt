@@ -5,7 +5,7 @@ use borrow.Author.Tests.{ne-eqb}
 use Rattle.ledger.specs.Call.{Call, load, carry, prior, verify, migrate, openTier, nominate, award, closeTier, Query, limitOf, heldOn, netOn}
 use Rattle.ledger.specs.Season.{call, query}
 use Rattle.book.specs.declared.book.Book.{Book}
-use Rattle.book.specs.declared.book.Answer.{Answer}
+use Rattle.records.specs.declared.answers.Answer.{Answer}
 use Rattle.book.specs.declared.book.Answered.{Answered}
 use Rattle.book.specs.Handed.{refusedWith, handed, told}
 use Rattle.lines.specs.declared.rows.Row.{Row}

@@ -9,7 +9,8 @@ use native.Mathlib.Nat.{add-zero}
 use lib.Seq.{drop-drop}
 use Rattle.ledger.specs.Season.{call, query}
 use Rattle.book.specs.declared.book.Book.{Book}
-use Rattle.book.specs.Handed.{answerIn, refusedWith}
+use Rattle.records.specs.Handed.{answerIn}
+use Rattle.book.specs.Handed.{refusedWith}
 use Rattle.book.specs.Reached.{Reached}
 use Rattle.lines.specs.Rows.{rowsOf}
 use Rattle.lines.specs.Text.{linesOf}

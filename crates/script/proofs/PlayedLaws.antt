@@ -8,7 +8,8 @@ use Rattle.ledger.specs.Season as ledger
 use Rattle.ledger.specs.Season.{call, query, after, stepAsk}
 use Rattle.ledger.proofs.Steps.{after-more}
 use Rattle.book.specs.declared.book.Book.{Book}
-use Rattle.book.specs.Handed.{answerIn, refusedWith}
+use Rattle.records.specs.Handed.{answerIn}
+use Rattle.book.specs.Handed.{refusedWith}
 use Rattle.book.specs.Reached.{Reached}
 use Rattle.book.proofs.ReachedSteps.{bookAt, at-next, handed-reached}
 use Rattle.book.proofs.SeasonAnswers.{call-answered, query-answered}

@@ -13,8 +13,9 @@ use Rattle.ledger.specs.Opening.{Opening, legal, openingRefusal}
 use Rattle.ledger.specs.Ledger.{emptyLedger}
 use Rattle.ledger.specs.Season as ledger
 use Rattle.ledger.specs.Season.{after, afterFrom}
-use Rattle.book.specs.declared.book.Answer.the-variants.{Done, Refused}
-use Rattle.book.specs.Handed.{answerIn}
+use Rattle.records.specs.declared.answers.Answer.the-variants.{Done, Refused}
+use Rattle.records.specs.Handed.{answerIn}
+use Rattle.opening.specs.Opened.{openedAnswer}
 use Rattle.book.specs.Opened.{openedAs}
 use Rattle.book.proofs.SeasonAnswers.{opened-at}
 use Rattle.lines.specs.declared.rows.Row.{Row}
@@ -37,7 +38,7 @@ unfolding after afterFrom
 groups-text o e rows = ap (λ b. textsOf (map answerIn (answersOf b (groupsOf rows)))) (opened-at o e) ∙ ap textsOf (played o e [] (groupsOf rows))
 
 opened-answer : (o : Opening) → legal o ≡ true → answerIn (openedAs o .answer) ≡ ledger.done
-unfolding openedAs answerIn
+unfolding openedAs openedAnswer answerIn
 opened-answer o e = ap (λ t. answerIn (cond t Done (Refused (openingRefusal o)))) e
 
 after-text : (o : Opening) → legal o ≡ true → (rows : List Row) → textsOf (answersAfter o rows) ≡ textOf (answerIn (openedAs o .answer)) ++ textsOf (map answerIn (answersOf (openedAs o .book) (groupsOf rows)))
@@ -49,7 +50,7 @@ after-text o e rows =
 module _ (head : Row) (rows : List Row) (used : ℕ) where
   -- a book group that ends the run is answered by itself
   stops : startedWith head rows used .«goes_on» ≡ false → textsOf (scriptAnswers (head ∷ rows)) ≡ textOf (answerIn (startedWith head rows used .answer))
-  unfolding startedWith scriptAnswers answersAfter textsOf openedAs answerIn
+  unfolding startedWith scriptAnswers answersAfter textsOf openedAs openedAnswer answerIn
   stops e = go (bookReadable head rows) (legal (openingOfRows head rows)) e
     where
       go : (readable isLegal : Bool) → (readable && isLegal) ≡ false → textsOf (cond readable (cond isLegal (ledger.done ∷ answersTo (openingOfRows head rows) emptyLedger (groupsOf (callRows head rows))) (ledger.refused (openingRefusal (openingOfRows head rows)) ∷ [])) (ledger.refused 1 ∷ [])) ≡ textOf (answerIn (cond readable (cond isLegal Done (Refused (openingRefusal (openingOfRows head rows)))) (Refused 1)))

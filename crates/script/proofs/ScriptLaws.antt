@@ -6,7 +6,7 @@ use mathlib.Core.List.{List, _++_}
 use native.Mathlib.Nat.{le-trans, le-of-eq, zero-add}
 use native.Mathlib.Omega.{arith}
 use lib.ListN.{length, drop, length-append}
-use Rattle.book.specs.Handed.{answerIn}
+use Rattle.records.specs.Handed.{answerIn}
 use Rattle.book.specs.Reached.{Reached}
 use Rattle.lines.specs.Rows.{rowsOf, field}
 use Rattle.lines.specs.Reading.{nextRow}

@@ -11,10 +11,11 @@ use lib.Dec.{eqb}
 use borrow.Author.Tests.{eqb-true}
 use Rattle.tariff.proofs.Tests.{and-both}
 use Rattle.ledger.specs.Opening.{Opening, legal, openingRefusal}
-use Rattle.records.specs.Setup.{emptyOpening, openingFrom}
-use Rattle.book.specs.declared.book.Answer.the-variants.{Done, Refused}
+use Rattle.records.specs.Opening.{emptyOpening, openingFrom}
+use Rattle.records.specs.declared.answers.Answer.the-variants.{Done, Refused}
 use Rattle.book.specs.declared.book.Answered.{Answered}
-use Rattle.book.specs.Handed.{answerIn}
+use Rattle.records.specs.Handed.{answerIn}
+use Rattle.opening.specs.Opened.{openedAnswer}
 use Rattle.book.specs.Opened.{openedAs}
 use Rattle.book.specs.Reached.{Reached}
 use Rattle.book.proofs.OpenedLaws.{opened-reached}
@@ -55,7 +56,7 @@ front-kept j n rows numbers e k = ap (λ m. take m numbers) (sym (length-map row
 
 -- a legal opening is done, and no other
 done-legal : (o : Opening) → isDone (openedAs o .answer) ≡ legal o
-unfolding openedAs isDone
+unfolding openedAs openedAnswer isDone
 done-legal o = go (legal o) (openingRefusal o)
   where
     go : (t : Bool) (n : ℕ) → isDone (cond t Done (Refused n)) ≡ t
@@ -194,7 +195,7 @@ module _ (script : List ℕ) where
   start-reached = opened-reached (cond (bookReadable first (rowsOf left)) (openingOfRows first (rowsOf left)) emptyOpening)
 
   pub start-writable : Writable (answerIn (startedOf script .answer))
-  unfolding startedOf startedWith openedAs answerIn Writable
+  unfolding startedOf startedWith openedAs openedAnswer answerIn Writable
   start-writable = go (bookReadable first (rowsOf left)) (legal (openingOfRows first (rowsOf left))) (openingRefusal (openingOfRows first (rowsOf left))) (opening-refusal-small (openingOfRows first (rowsOf left)))
     where
       go : (t u : Bool) (n : ℕ) → n < 100 → Writable (answerIn (cond t (cond u Done (Refused n)) (Refused 1)))

@@ -14,11 +14,11 @@ use Rattle.migration.specs.Netting.{classLinesOf}
 use Rattle.ledger.specs.Call.{load, migrate}
 use Rattle.ledger.specs.Season.{Ask, call}
 use Rattle.book.specs.declared.book.Book.{Book}
-use Rattle.book.specs.declared.book.Answer.the-variants.{Refused}
+use Rattle.records.specs.declared.answers.Answer.the-variants.{Refused}
 use Rattle.book.specs.declared.book.Answered.{Answered}
 use Rattle.book.specs.Handed.{refusedWith, handed}
-use Rattle.book.specs.Posting.{handedBlocks}
-use Rattle.book.specs.Lines.{handedLines}
+use Rattle.book.specs.Handed.{handedBlocks}
+use Rattle.book.specs.Handed.{handedLines}
 use Rattle.lines.specs.declared.rows.Row.{Row}
 use Rattle.lines.specs.declared.counted.Counted.{Counted}
 use Rattle.lines.specs.declared.lines.NextRow.{NextRow}

@@ -22,10 +22,12 @@ use Rattle.ledger.proofs.Conserved.{loadSum}
 use Rattle.ledger.proofs.SumBounds.{net-fits}
 use Rattle.ledger.proofs.Unmet.{unmet, open-number}
 use Rattle.book.specs.declared.book.Book.{Book}
-use Rattle.book.specs.Handed.{answerIn, handed, told}
+use Rattle.records.specs.Handed.{answerIn}
+use Rattle.book.specs.Handed.{handed, told}
 use Rattle.book.specs.Reached.{Reached}
-use Rattle.book.proofs.HeldLaws.{held-names, net-names}
-use Rattle.book.proofs.LimitLaws.{limit-holder}
+use Rattle.tiers.proofs.HeldLaws.{held-names, net-names}
+use Rattle.tiers.proofs.LimitLaws.{limit-holder}
+use Rattle.book.proofs.ReachedSteps.{reached-book}
 use Rattle.book.proofs.SeasonAnswers.{call-answered, query-answered}
 use Rattle.lines.specs.Writing.{leastOfThirteenDigits}
 use Rattle.script.specs.Writing.{Writable}
@@ -119,10 +121,10 @@ module _ (o : Opening) (ok : legal o ≡ true) (cs : List Call) where
 module _ (b : Book) (r : Reached b) where
   pub handed-writable : (c : Call) → Writable (answerIn (handed b c .answer))
   handed-writable c =
-      subst Writable (sym (ap (λ x. answerIn (handed x c .answer)) (r .isBook) ∙ call-answered (r .opening) (r .isLegal) (r .calls) c))
+      subst Writable (sym (ap (λ x. answerIn (handed x c .answer)) (reached-book b r) ∙ call-answered (r .opening) (r .isLegal) (r .calls) c))
       (answer-writable (r .opening) (r .isLegal) (r .calls) (call c))
 
   pub told-writable : (q : Query) → Writable (answerIn (told b q))
   told-writable q =
-      subst Writable (sym (ap (λ x. answerIn (told x q)) (r .isBook) ∙ query-answered (r .opening) (r .isLegal) (r .calls) q))
+      subst Writable (sym (ap (λ x. answerIn (told x q)) (reached-book b r) ∙ query-answered (r .opening) (r .isLegal) (r .calls) q))
       (answer-writable (r .opening) (r .isLegal) (r .calls) (query q))

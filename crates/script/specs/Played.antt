@@ -3,9 +3,10 @@ use Prim.Native.Nat.{ℕ}
 use mathlib.Core.List.{List, [], _∷_, map}
 use Rattle.ledger.specs.Season.{call, query}
 use Rattle.book.specs.declared.book.Book.{Book}
-use Rattle.book.specs.declared.book.Answer.{Answer}
+use Rattle.records.specs.declared.answers.Answer.{Answer}
 use Rattle.book.specs.declared.book.Answered.{Answered}
-use Rattle.book.specs.Handed.{answerIn, refusedWith, handed, told}
+use Rattle.records.specs.Handed.{answerIn}
+use Rattle.book.specs.Handed.{refusedWith, handed, told}
 use Rattle.lines.specs.Rows.{rowsOf}
 use Rattle.script.specs.Groups.{Asked, nothing, asked, groupsOf}
 use Rattle.script.specs.Answers.{textsOf}

@@ -4,9 +4,9 @@ use mathlib.Core.Bool.{Bool, true, false, cond, _&&_}
 use mathlib.Core.List.{List}
 use lib.ListN.{drop}
 use Rattle.ledger.specs.Opening.{legal}
-use Rattle.records.specs.Setup.{emptyOpening}
-use Rattle.book.specs.declared.book.Answer.{Answer}
-use Rattle.book.specs.declared.book.Answer.the-variants.{Done, Value, Refused}
+use Rattle.records.specs.Opening.{emptyOpening}
+use Rattle.records.specs.declared.answers.Answer.{Answer}
+use Rattle.records.specs.declared.answers.Answer.the-variants.{Done, Value, Refused}
 use Rattle.book.specs.Opened.{openedAs}
 use Rattle.lines.specs.declared.rows.Row.{Row}
 use Rattle.lines.specs.Rows.{rowsOf, field}

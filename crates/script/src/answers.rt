@@ -1,13 +1,13 @@
 // The line of an answer: ok, ok,V or no,NN (01, Script and host).
-use book::book::Answer;
 use lines::digits::digit_byte;
 use lines::digits::write_decimal;
 use lines::output::write_bytes;
+use records::answers::Answer;
 ghost use Prim.Native.Nat.{_+_, _≤_, _<_};
 ghost use mathlib.Core.Path.{_≡_};
 ghost use lib.ListN.{length};
 ghost use Rattle.ledger.specs.Season.{value, refused};
-ghost use Rattle.book.specs.Handed.{answerIn};
+ghost use Rattle.records.specs.Handed.{answerIn};
 ghost use Rattle.lines.specs.Writing.{leastOfThirteenDigits, writtenAt};
 ghost use Rattle.script.specs.Answers.{textOf};
 ghost use Rattle.script.specs.Writing.{Writable};

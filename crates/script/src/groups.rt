@@ -1,6 +1,5 @@
 // Groups: a head with the lines that it counts, put to the book (01, Script and host).
 use crate::heads::ask_row;
-use book::book::Answer;
 use book::book::Book;
 use lines::counted::read_counted;
 use lines::lines::next_row;
@@ -9,6 +8,7 @@ use lines::rows::CLASS;
 use lines::rows::LOAD;
 use lines::rows::MIGRATE;
 use lines::rows::Row;
+use records::answers::Answer;
 ghost use mathlib.Core.Path.{_≡_};
 ghost use Prim.Native.Nat.{_≤_};
 ghost use lib.ListN.{length};

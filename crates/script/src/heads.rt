@@ -1,5 +1,4 @@
 // Heads that are a call or a query in one line, put to the book.
-use book::book::Answer;
 use book::book::Answered;
 use book::book::Book;
 use lines::rows::AWARD;
@@ -13,6 +12,7 @@ use lines::rows::OPEN;
 use lines::rows::PRIOR;
 use lines::rows::Row;
 use lines::rows::VERIFY;
+use records::answers::Answer;
 ghost use mathlib.Core.Path.{_≡_};
 ghost use mathlib.Core.List.{[]};
 ghost use Rattle.book.specs.declared.book.Answered.{Answered};

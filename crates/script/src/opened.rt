@@ -1,16 +1,16 @@
 // The book group that a script begins with (01, Script and host).
-use book::book::Answer;
 use book::book::Answered;
 use book::book::Book;
-use book::opening::open_book;
+use book::opened::open_book;
 use lines::book_lines::read_book_lines;
 use lines::lines::next_row;
 use lines::rows::BOOK;
 use lines::rows::Row;
+use records::answers::Answer;
 ghost use Prim.Native.Nat.{_≤_};
 ghost use mathlib.Core.Path.{_≡_};
 ghost use lib.ListN.{length, take};
-ghost use Rattle.records.specs.Setup.{emptyOpening, openingFrom};
+ghost use Rattle.records.specs.Opening.{emptyOpening, openingFrom};
 ghost use Rattle.book.specs.Opened.{openedAs};
 ghost use Rattle.lines.specs.Rows.{rowsOf, field};
 ghost use Rattle.script.specs.Started.{isDone, startedOf};

@@ -2,14 +2,21 @@
 use mathlib.Core.Path.{ap, ap₂, _∙_}
 use mathlib.Core.Bool.{cond, _||_}
 use native.Mathlib.Omega.{arith}
-use Rattle.book.specs.Handed.{openedWith, refusedWith}
+use Rattle.book.specs.Reading.{openedWith}
+use Rattle.book.specs.Handed.{refusedWith}
 use Rattle.book.proofs.ClassLineLaws.{first-long, many-handed, few-handed}
 use borrow.Author.Needs.{needs}
 use Rattle.book.proofs.class_lines.migrate_columns.Statement.{statement}
 use Rattle.book.proofs.class_lines.migrate_columns.Tie as tie
 
+slice-aggregate-no-sink : tie.Need-slice-aggregate-no-sink
+slice-aggregate-no-sink c = search needs
+
 no-sink-requires : tie.Need-no-sink-requires
 no-sink-requires c κs = search needs
+
+slice-aggregate-no-holder : tie.Need-slice-aggregate-no-holder
+slice-aggregate-no-holder c = search needs
 
 no-holder-requires : tie.Need-no-holder-requires
 no-holder-requires c κs = search needs
@@ -22,7 +29,7 @@ refused-requires c κs = search needs
 
 returns : tie.Need-returns
 unfolding openedWith
-returns c = let a = c .before .before .before .before .before .before .args in c .refused .ensures ∙ ap (refusedWith (a .b)) (c .before .refuse .ensures ∙ ap (λ t. cond t 2 3) (ap₂ (λ x y. x || y) (c .before .before .before .no-sink .ensures) (c .before .before .no-holder .ensures))) ∙ many-handed (a .b) (a .term) (a .sink) (a .n) (a .c) (c .before .before .before .before .before .if1 .taken)
+returns c = let a = c .before .before .before .before .before .before .before .before .args in c .refused .ensures ∙ ap (refusedWith (a .b)) (c .before .refuse .ensures ∙ ap (λ t. cond t 2 3) (ap₂ (λ x y. x || y) (c .before .before .before .before .no-sink .ensures) (c .before .before .no-holder .ensures))) ∙ many-handed (a .b) (a .term) (a .sink) (a .n) (a .c) (c .before .before .before .before .before .before .before .if1 .taken)
 
 array-share-prefix-froms : tie.Need-array-share-prefix-froms
 array-share-prefix-froms c = let full = c .before .before .before .before .before .before .pre .1 .ofFroms in let few = c .before .before .before .before .before .if1 .left in omega arith
@@ -64,7 +71,9 @@ pub migrate-columns-spec : {M : Type 1} → statement M
 migrate-columns-spec =
     tie.close
     (tie.spec
+    slice-aggregate-no-sink
     no-sink-requires
+    slice-aggregate-no-holder
     no-holder-requires
     refuse-requires
     refused-requires

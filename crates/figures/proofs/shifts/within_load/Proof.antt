@@ -18,8 +18,11 @@ abbrev μ-loop : tie.MeasureT-loop
 loop-holds : tie.Need-loop-holds Inv-loop μ-loop
 loop-holds c = (search needs, below-none _)
 
+slice-aggregate-given-by : tie.Need-slice-aggregate-given-by Inv-loop μ-loop
+slice-aggregate-given-by c = search needs
+
 given-by-requires : tie.Need-given-by-requires Inv-loop μ-loop
-given-by-requires c κs = (search needs, search needs, c .before .before .pre (c .before .loop .holder) (c .loop-test .taken))
+given-by-requires c κs = (search needs, search needs, search needs, c .before .before .before .pre (c .before .before .loop .holder) (c .before .loop-test .taken))
 
 mul-if1 : tie.Need-mul-if1 Inv-loop μ-loop
 mul-if1 c = search needs
@@ -38,7 +41,7 @@ loop-less c = search needs
 
 loop-again : tie.Need-loop-again Inv-loop μ-loop
 unfolding lostBy holderAt
-loop-again c = (search needs, below-more _ _ (c .before .before .before .loop .inv .1) (omega (arith, c .before .given-by .ensures)))
+loop-again c = (search needs, below-more _ _ (c .before .before .before .before .loop .inv .1) (omega (arith, c .before .given-by .ensures)))
 
 returns-2 : tie.Need-returns-2 Inv-loop μ-loop
 returns-2 c = λ e i l. c .before .loop .inv .1 i (omega (arith, l))
@@ -50,6 +53,7 @@ within-load-spec =
     Inv-loop
     μ-loop
     loop-holds
+    slice-aggregate-given-by
     given-by-requires
     mul-if1
     array-read-if1

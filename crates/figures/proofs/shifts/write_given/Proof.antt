@@ -19,8 +19,11 @@ word-requires c κs = search needs
 loop-holds : tie.Need-loop-holds Inv-loop μ-loop
 loop-holds c = search needs
 
+slice-aggregate-given-by : tie.Need-slice-aggregate-given-by Inv-loop μ-loop
+slice-aggregate-given-by c = search needs
+
 given-by-requires : tie.Need-given-by-requires Inv-loop μ-loop
-given-by-requires c κs = (search needs, search needs, c .before .before .before .before .pre (c .before .loop .holder) (c .loop-test .taken))
+given-by-requires c κs = (search needs, search needs, search needs, c .before .before .before .before .before .pre (c .before .before .loop .holder) (c .before .loop-test .taken))
 
 field-requires : tie.Need-field-requires Inv-loop μ-loop
 field-requires c κs = search needs
@@ -49,6 +52,7 @@ write-given-spec =
     slice-aggregate-word
     word-requires
     loop-holds
+    slice-aggregate-given-by
     given-by-requires
     field-requires
     add-holder

@@ -33,12 +33,15 @@ write-given-requires c κs =
     let a = c .before .before .before .before .before .before .before .before .before .args in
     shares-given (a .t1) (a .t2) (a .load) (c .shares-of .result) (search needs) (first .before .moderate .ensures (first .if1 .taken)) (third .before .within-load .ensures (third .if3 .taken)) (c .shares-of .ensures)
 
+slice-aggregate-shifted-column : tie.Need-slice-aggregate-shifted-column
+slice-aggregate-shifted-column c = search needs
+
 shifted-column-requires : tie.Need-shifted-column-requires
 shifted-column-requires c κs =
-    let first = c .before .before .before .before .before .before .before in
-    let third = c .before .before in
-    let a = c .before .before .before .before .before .before .before .before .before .before .args in
-    parts-fit (a .t1) (a .t2) (a .load) (c .before .shares-of .result) (search needs) (first .before .moderate .ensures (first .if1 .taken)) (third .before .within-load .ensures (third .if3 .taken)) (c .before .shares-of .ensures)
+    let first = c .before .before .before .before .before .before .before .before in
+    let third = c .before .before .before in
+    let a = c .before .before .before .before .before .before .before .before .before .before .before .args in
+    (search needs, parts-fit (a .t1) (a .t2) (a .load) (c .before .before .shares-of .result) (search needs) (first .before .moderate .ensures (first .if1 .taken)) (third .before .within-load .ensures (third .if3 .taken)) (c .before .before .shares-of .ensures))
 
 slice-aggregate-word : tie.Need-slice-aggregate-word
 slice-aggregate-word c = search needs
@@ -78,6 +81,7 @@ write-shift-spec =
     within-load-requires
     shares-of-requires
     write-given-requires
+    slice-aggregate-shifted-column
     shifted-column-requires
     slice-aggregate-word
     word-requires

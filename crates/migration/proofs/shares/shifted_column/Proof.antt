@@ -1,11 +1,10 @@
 -- `migration::shares::shifted_column` meets its contract: the entries passed so far are shifted, the others are as they came. Assumes nothing.
-use Rattle.migration.proofs.ShareCells.{shifted-value}
 use native.Mathlib.Omega.{arith}
 use lib.ListN.{length, length-set}
 use mathlib.Core.Path.{_≡_}
 use Prim.Native.Nat.{_≤_, _-_, zero-le}
 use Rattle.migration.specs.Netting.{holderAt}
-use Rattle.migration.proofs.ShareCells.{ShiftedTo, none-shifted, one-more-shifted, all-shifted, given-fits, gained-fits, shifted-fits}
+use Rattle.migration.proofs.ShareCells.{ShiftedTo, none-shifted, one-more-shifted, all-shifted, given-fits, gained-fits, shifted-fits, shifted-value}
 use borrow.Author.Needs.{needs}
 use Rattle.migration.proofs.shares.shifted_column.Statement.{statement}
 use Rattle.migration.proofs.shares.shifted_column.Tie as tie
@@ -26,17 +25,17 @@ array-read-kept : tie.Need-array-read-kept Inv-loop μ-loop
 array-read-kept c = search needs
 
 given-by-requires : tie.Need-given-by-requires Inv-loop μ-loop
-given-by-requires c κs = let a = c .before .before .args in let pre = c .before .before .pre in let i = c .before .loop .i in let l = c .loop-test .taken in (omega (arith, pre .few), pre .few, given-fits (a .n) (a .t1) (a .parts) pre i l)
+given-by-requires c κs = let a = c .before .before .before .args in let pre = c .before .before .before .pre .1 in let i = c .before .loop .i in let l = c .loop-test .taken in (c .before .before .before .pre .0, omega (arith, pre .few), pre .few, given-fits (a .n) (a .t1) (a .parts .now) pre i l)
 
 sub-kept : tie.Need-sub-kept Inv-loop μ-loop
 unfolding holderAt
-sub-kept c = let a = c .before .before .before .args in let pre = c .before .before .before .pre in let i = c .before .before .loop .i in let l = c .before .loop-test .taken in omega (arith, pre .given i l, c .given-by .ensures)
+sub-kept c = let pre = c .before .before .before .before .pre .1 in let i = c .before .before .loop .i in let l = c .before .loop-test .taken in omega (arith, pre .given i l, c .given-by .ensures)
 
 gained-by-requires : tie.Need-gained-by-requires Inv-loop μ-loop
-gained-by-requires c κs = let a = c .before .before .before .args in let pre = c .before .before .before .pre in let i = c .before .before .loop .i in let l = c .before .loop-test .taken in (omega (arith, pre .few), pre .few, gained-fits (a .n) (a .t1) (a .parts) pre i l)
+gained-by-requires c κs = let a = c .before .before .before .before .args in let pre = c .before .before .before .before .pre .1 in let i = c .before .before .loop .i in let l = c .before .loop-test .taken in (c .before .before .before .before .pre .0, omega (arith, pre .few), pre .few, gained-fits (a .n) (a .t1) (a .parts .now) pre i l)
 
 add-next : tie.Need-add-next Inv-loop μ-loop
-add-next c = let a = c .before .before .before .before .args in let pre = c .before .before .before .before .pre in let i = c .before .before .before .loop .i in let l = c .before .before .loop-test .taken in let value = shifted-value (a .n) (a .t1) (a .parts) i _ _ (c .before .given-by .ensures) (c .gained-by .ensures) in omega (arith, shifted-fits (a .n) (a .t1) (a .parts) pre i l)
+add-next c = let a = c .before .before .before .before .before .args in let pre = c .before .before .before .before .before .pre .1 in let i = c .before .before .before .loop .i in let l = c .before .before .loop-test .taken in let value = shifted-value (a .n) (a .t1) (a .parts .now) i _ _ (c .before .given-by .ensures) (c .gained-by .ensures) in omega (arith, shifted-fits (a .n) (a .t1) (a .parts .now) pre i l)
 
 mul-next : tie.Need-mul-next Inv-loop μ-loop
 mul-next c = search needs
@@ -51,7 +50,7 @@ loop-less : tie.Need-loop-less Inv-loop μ-loop
 loop-less c = search needs
 
 loop-again : tie.Need-loop-again Inv-loop μ-loop
-loop-again c = let a = c .before .before .before .before .args in let pre = c .before .before .before .before .pre in let i = c .before .before .before .loop .i in let l = c .before .before .loop-test .taken in let value = shifted-value (a .n) (a .t1) (a .parts) i _ _ (c .before .given-by .ensures) (c .gained-by .ensures) in let inv = c .before .before .before .loop .inv in (omega arith, simp length-set (inv .1), one-more-shifted (a .n) (a .t1) (a .parts) i (c .before .before .before .loop .next) _ (omega (arith, pre .few)) value (inv .2))
+loop-again c = let a = c .before .before .before .before .before .args in let pre = c .before .before .before .before .before .pre .1 in let i = c .before .before .before .loop .i in let l = c .before .before .loop-test .taken in let value = shifted-value (a .n) (a .t1) (a .parts .now) i _ _ (c .before .given-by .ensures) (c .gained-by .ensures) in let inv = c .before .before .before .loop .inv in (omega arith, simp length-set (inv .1), one-more-shifted (a .n) (a .t1) (a .parts .now) i (c .before .before .before .loop .next) _ (omega (arith, pre .few)) value (inv .2))
 
 returns : tie.Need-returns Inv-loop μ-loop
 returns c = let inv = c .before .loop .inv in all-shifted _ _ _ _ _ (inv .1) (inv .0) (c .loop-test .left) (inv .2)

@@ -1,21 +1,25 @@
 -- `records::sums::sum_from_source` meets its contract: before path p the sum is that of the paths below p. Assumes nothing.
-use Prim.Native.Nat.{_-_, _≤_}
+use Prim.Native.Nat.{_-_, _*_, _≤_}
 use mathlib.Core.Path.{_≡_, refl}
 use native.Mathlib.Omega.{arith}
+use lib.ListN.{take, drop}
 use Rattle.tariff.specs.Sum.{sumTo}
 use Rattle.tariff.proofs.Sums.{sum-more, sum-whole}
 use Rattle.ledger.specs.Verification.{sumFromSource}
-use Rattle.records.specs.Setup.{openingOf}
+use Rattle.records.specs.Opening.{openingIn}
 use Rattle.records.proofs.PathSums.{figureFromSource, next-from-source, room-from-source}
 use borrow.Author.Needs.{needs}
 use Rattle.records.proofs.sums.sum_from_source.Statement.{statement}
 use Rattle.records.proofs.sums.sum_from_source.Tie as tie
 
 abbrev Inv-loop : tie.InvT-loop
-Inv-loop setup cells width low h m s paths sum₀ p₀ sum p = (p ≤ paths) × (sum ≡ sumTo p (figureFromSource (openingOf setup) s cells width low h m))
+Inv-loop o figures from width low h m s past sum₀ p₀ sum p = (p ≤ past) × (sum ≡ sumTo p (figureFromSource (openingIn o) s (take (128 * width) (drop from figures)) width low h m))
 
 abbrev μ-loop : tie.MeasureT-loop
-μ-loop setup cells width low h m s paths sum₀ p₀ sum p = paths - p
+μ-loop o figures from width low h m s past sum₀ p₀ sum p = past - p
+
+paths-requires : tie.Need-paths-requires Inv-loop μ-loop
+paths-requires c κs = search needs
 
 loop-holds : tie.Need-loop-holds Inv-loop μ-loop
 unfolding sumTo
@@ -32,9 +36,12 @@ count-if-requires c κs = search needs
 
 add-sum : tie.Need-add-sum Inv-loop μ-loop
 add-sum c =
-    let known = c .before .before .before .before .before .before .pre in
+    let pre = c .before .before .before .before .before .before .before .before .pre in
+    let now = c .before .before .before .before .loop in
+    let few = c .before .before .before .before .before .paths .ensures in
+    let below = c .before .before .before .loop-test .taken in
     let next = next-from-source _ _ _ _ _ _ _ _ _ _ _ (c .count-if .ensures) (c .before .before .path-source .ensures) (c .before .read .ensures) in
-    let room = room-from-source _ _ _ _ _ _ _ _ _ (known .2) (known .3) _ _ _ (c .before .before .before .loop-test .taken) (c .before .before .before .before .loop .inv .1) next in
+    let room = room-from-source _ _ _ _ _ _ _ _ _ (pre .2 .few) (pre .2 .each) _ _ _ (omega arith) (now .inv .1) next in
     omega arith
 
 add-p : tie.Need-add-p Inv-loop μ-loop
@@ -47,8 +54,8 @@ loop-again : tie.Need-loop-again Inv-loop μ-loop
 loop-again c = (search needs, sum-more _ _ _ _ (c .before .before .before .before .loop .inv .1) (next-from-source _ _ _ _ _ _ _ _ _ _ _ (c .count-if .ensures) (c .before .before .path-source .ensures) (c .before .read .ensures)))
 
 returns : tie.Need-returns Inv-loop μ-loop
-unfolding sumFromSource openingOf figureFromSource
-returns c = sum-whole _ _ _ _ (c .before .loop .inv .0) (c .loop-test .left) (c .before .loop .inv .1)
+unfolding sumFromSource figureFromSource
+returns c = let last = c .before .loop .inv in let few = c .before .before .paths .ensures in sum-whole _ _ _ _ (omega arith) (omega arith) (last .1)
 
 pub sum-from-source-spec : {M : Type 1} → statement M
 sum-from-source-spec =
@@ -56,6 +63,7 @@ sum-from-source-spec =
     (tie.spec
     Inv-loop
     μ-loop
+    paths-requires
     loop-holds
     path-source-requires
     read-requires

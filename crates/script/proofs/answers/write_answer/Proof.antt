@@ -5,9 +5,9 @@ use mathlib.Core.List.{List, [], _∷_}
 use lib.ListN.{length}
 use borrow.Author.Needs.{needs}
 use Rattle.ledger.specs.Season as season
-use Rattle.book.specs.declared.book.Answer.{Answer}
-use Rattle.book.specs.declared.book.Answer.the-variants.{Done, Value, Refused}
-use Rattle.book.specs.Handed.{answerIn}
+use Rattle.records.specs.declared.answers.Answer.{Answer}
+use Rattle.records.specs.declared.answers.Answer.the-variants.{Done, Value, Refused}
+use Rattle.records.specs.Handed.{answerIn}
 use Rattle.lines.specs.Text.{bytesOf}
 use Rattle.lines.specs.Writing.{leastOfThirteenDigits, writtenAt}
 use Rattle.script.specs.Answers.{textOf}

@@ -7,9 +7,9 @@ use native.Mathlib.Omega.{arith}
 use borrow.Author.Needs.{needs}
 use denote.Enum.Declared.{tagOf}
 use types.Run.{OneOf}
-use Rattle.book.specs.declared.book.Answer.{Answer}
-use Rattle.book.specs.declared.book.Answer.the-variants.{Done, Value, Refused}
-use Rattle.book.proofs.book.Answer.{the-type}
+use Rattle.records.specs.declared.answers.Answer.{Answer}
+use Rattle.records.specs.declared.answers.Answer.the-variants.{Done, Value, Refused}
+use Rattle.records.proofs.answers.Answer.{the-type}
 use Rattle.script.specs.Started.{isDone}
 use Rattle.script.proofs.opened.is_done.Statement.{statement}
 use Rattle.script.proofs.opened.is_done.Tie as tie

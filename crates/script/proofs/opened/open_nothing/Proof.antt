@@ -1,5 +1,5 @@
 -- `script::opened::open_nothing` meets its contract: the empty opening counts nothing and lists nothing. Assumes nothing.
-use Rattle.records.specs.Setup.{emptyOpening, openingFrom}
+use Rattle.records.specs.Opening.{emptyOpening, openingFrom}
 use borrow.Author.Needs.{needs}
 use Rattle.script.proofs.opened.open_nothing.Statement.{statement}
 use Rattle.script.proofs.opened.open_nothing.Tie as tie

@@ -1,23 +1,27 @@
--- `book::Book::close_tier` meets its contract: a refusal leaves the book, and an accepted call changes the tiers alone. Assumes nothing.
+-- `book::Book::close_tier` meets its contract: the next book has the figures that were lent. Assumes nothing.
 use mathlib.Core.Path.{_∙_}
-use Rattle.book.proofs.TurnLaws.{closed-book}
-use Rattle.book.proofs.ReachedLaws.{reached-shaped}
-use Rattle.book.proofs.HandedLaws.{accepted-test, handed-refused, handed-accepted}
+use Rattle.records.proofs.ReachedParts.{figures-sized}
+use Rattle.book.specs.Reading.{bookIn}
+use Rattle.book.specs.Handed.{besideFigures}
+use Rattle.book.proofs.HandedBooks.{handed-book}
 use borrow.Author.Needs.{needs}
 use Rattle.book.proofs.book.Book.close_tier.Statement.{statement}
 use Rattle.book.proofs.book.Book.close_tier.Tie as tie
 
-close-refusal-requires : tie.Need-close-refusal-requires
-close-refusal-requires c κs = search needs
+slice-aggregate-close-tier : tie.Need-slice-aggregate-close-tier
+slice-aggregate-close-tier c = search needs
 
-refused-requires : tie.Need-refused-requires
-refused-requires c κs = search needs
+close-tier-requires : tie.Need-close-tier-requires
+close-tier-requires c κs = figures-sized _ _ _ _ (c .before .before .pre)
+
+with-figures-requires : tie.Need-with-figures-requires
+with-figures-requires c κs = search needs
 
 returns : tie.Need-returns
-returns c = c .refused .ensures ∙ handed-refused _ _ _ (c .before .before .close-refusal .ensures) (reached-shaped _ (c .before .before .before .pre)) (c .before .if1 .taken)
-
-returns-2 : tie.Need-returns-2
-returns-2 c = let r = c .before .before .before .before .before .before .before .before .before .pre in let s = c .before .before .before .before .before .before .before .before .before .args .self in handed-accepted s _ _ (c .before .before .before .before .before .before .before .before .close-refusal .ensures) _ (c .before .before .before .before .before .before .before .if1 .left) (closed-book s r (reached-shaped s r) (accepted-test s _ _ (c .before .before .before .before .before .before .before .before .close-refusal .ensures) (c .before .before .before .before .before .before .before .if1 .left)))
+unfolding bookIn besideFigures
+returns c = c .with-figures .ensures ∙ handed-book _ _ _ _ _ _ _ _ _ (c .before .before .close-tier .ensures _ _ _ (c .before .before .before .before .before .pre))
 
 pub close-tier-spec : {M : Type 1} → statement M
-close-tier-spec = tie.close (tie.spec close-refusal-requires refused-requires returns returns-2)
+close-tier-spec =
+    tie.close
+    (tie.spec slice-aggregate-close-tier close-tier-requires with-figures-requires returns)

@@ -1,27 +1,23 @@
--- `book::Book::held` meets its contract. Assumes nothing.
-use mathlib.Core.Path.{sym, _∙_}
-use Rattle.ledger.specs.Season.{figure}
-use Rattle.records.specs.Setup.{openingOf}
-use Rattle.book.specs.Handed.{openedWith}
-use Rattle.book.proofs.HeldLaws.{held-names}
-use Rattle.book.proofs.LimitLaws.{told-refused, told-figure}
+-- `book::Book::held` meets its contract: the answer is that of the arrays that were lent. Assumes nothing.
+use Rattle.records.specs.Handed.{toldBy}
+use Rattle.book.specs.Reading.{ledgerOf, openedWith}
+use Rattle.book.specs.Handed.{told}
 use borrow.Author.Needs.{needs}
 use Rattle.book.proofs.book.Book.held.Statement.{statement}
 use Rattle.book.proofs.book.Book.held.Tie as tie
 
-held-refusal-requires : tie.Need-held-refusal-requires
-held-refusal-requires c κs = search needs
+slice-aggregate-held : tie.Need-slice-aggregate-held
+slice-aggregate-held c = search needs
+
+slice-aggregate-held-2 : tie.Need-slice-aggregate-held-2
+slice-aggregate-held-2 c = search needs
+
+held-requires : tie.Need-held-requires
+held-requires c κs = record { marks = _; entries = _; reached = c .before .before .before .before .pre }
 
 returns : tie.Need-returns
-returns c = told-refused _ _ _ (c .before .held-refusal .ensures) (c .if1 .taken)
-
-holding-requires : tie.Need-holding-requires
-unfolding openedWith openingOf
-holding-requires c κs = let known = held-names _ _ _ _ _ (sym (c .before .held-refusal .ensures) ∙ c .if1 .left) in (c .before .before .pre, known .0, known .1)
-
-returns-2 : tie.Need-returns-2
-unfolding figure
-returns-2 c = told-figure (c .before .before .before .args .self) _ _ (c .before .before .held-refusal .ensures) _ (c .before .if1 .left) (c .holding .ensures)
+unfolding told toldBy openedWith ledgerOf
+returns c = c .held .ensures _ _
 
 pub held-spec : {M : Type 1} → statement M
-held-spec = tie.close (tie.spec held-refusal-requires returns holding-requires returns-2)
+held-spec = tie.close (tie.spec slice-aggregate-held slice-aggregate-held-2 held-requires returns)

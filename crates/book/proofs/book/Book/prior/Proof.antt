@@ -1,32 +1,32 @@
--- `book::Book::prior` meets its contract: a refusal leaves the book, and an accepted prior changes the priors alone. Assumes nothing.
-use mathlib.Core.Path.{_∙_}
-use native.Mathlib.Nat.{le-trans}
-use Rattle.book.specs.Handed.{openedWith}
-use Rattle.records.specs.Setup.{openingOf}
-use Rattle.ledger.proofs.PostingFacts.{prior-facts}
-use Rattle.book.proofs.PriorLaws.{prior-book}
-use Rattle.book.proofs.ReachedLaws.{reached-counts, reached-shaped}
-use Rattle.book.proofs.ReachedFigures.{allocated-fits, renewable-fits, room-for-more}
-use Rattle.book.proofs.HandedLaws.{accepted-test, handed-refused, handed-accepted}
+-- `book::Book::prior` meets its contract: the next book is made of the arrays that were lent. Assumes nothing.
+use Rattle.book.specs.Reading.{bookIn}
+use Rattle.book.proofs.HandedBooks.{handed-book}
 use borrow.Author.Needs.{needs}
 use Rattle.book.proofs.book.Book.prior.Statement.{statement}
 use Rattle.book.proofs.book.Book.prior.Tie as tie
 
-prior-refusal-requires : tie.Need-prior-refusal-requires
-prior-refusal-requires c κs = search needs
+slice-aggregate-prior : tie.Need-slice-aggregate-prior
+slice-aggregate-prior c = search needs
 
-refused-requires : tie.Need-refused-requires
-refused-requires c κs = search needs
+slice-aggregate-prior-2 : tie.Need-slice-aggregate-prior-2
+slice-aggregate-prior-2 c = search needs
+
+slice-aggregate-prior-3 : tie.Need-slice-aggregate-prior-3
+slice-aggregate-prior-3 c = search needs
+
+prior-requires : tie.Need-prior-requires
+prior-requires c κs = record { entries = _; reached = c .before .before .before .before .before .before .pre }
 
 returns : tie.Need-returns
-returns c = c .refused .ensures ∙ handed-refused _ _ _ (c .before .before .prior-refusal .ensures) (reached-shaped _ (c .before .before .before .pre)) (c .before .if1 .taken)
-
-with-prior-requires : tie.Need-with-prior-requires
-unfolding openedWith openingOf
-with-prior-requires c κs = let b = c .before .before .before .before .before .before .args .self in let r = c .before .before .before .before .before .before .pre in let f = prior-facts _ _ _ _ _ _ (accepted-test b _ _ (c .before .before .before .before .before .prior-refusal .ensures) (c .before .before .before .before .if1 .left)) in (le-trans (f .holder) (reached-counts b r .0), le-trans (f .path) (reached-counts b r .3), f .part, room-for-more _ _ (allocated-fits b r _ _ (f .holder)) (f .high), room-for-more _ _ (renewable-fits b r _ _ (f .holder)) (f .high))
-
-returns-2 : tie.Need-returns-2
-returns-2 c = handed-accepted _ _ _ (c .before .before .before .before .before .before .before .before .prior-refusal .ensures) _ (c .before .before .before .before .before .before .before .if1 .left) (prior-book (c .before .before .before .before .before .before .before .before .before .args .self) _ _ _ _ _ (reached-shaped _ (c .before .before .before .before .before .before .before .before .before .pre)) (c .before .before .with-prior .ensures))
+unfolding bookIn
+returns c = handed-book _ _ _ _ _ _ _ _ _ (c .before .before .before .prior .ensures _ (c .before .before .before .before .before .before .before .before .before .before .pre))
 
 pub prior-spec : {M : Type 1} → statement M
-prior-spec = tie.close (tie.spec prior-refusal-requires refused-requires returns with-prior-requires returns-2)
+prior-spec =
+    tie.close
+    (tie.spec
+    slice-aggregate-prior
+    slice-aggregate-prior-2
+    slice-aggregate-prior-3
+    prior-requires
+    returns)

@@ -1,0 +1,62 @@
+// Opening a book (01, The book; cause 16).
+use crate::book::Answered;
+use crate::book::Book;
+use opening::opening::open;
+use tariff::evidence::Entry;
+use tariff::evidence::Evidence;
+ghost use mathlib.Core.Path.{_≡_};
+ghost use Rattle.ledger.specs.Ledger.{emptyLedger};
+ghost use Rattle.records.specs.Opening.{openingFrom};
+ghost use Rattle.records.specs.Layout.{entriesOf};
+ghost use Rattle.book.specs.Opened.{openedAs};
+
+// No evidence filed.
+pub fn no_entries() -> [Entry; 256]
+    ensures { λ r. ⌜ r ≡ entriesOf emptyLedger ⌝ }
+{
+    let none = Entry {
+        evidence: Evidence::Empty,
+        first: 0,
+        last: 0,
+    };
+    [none; 256]
+}
+
+// Opens a book, for any counts and slices.
+pub fn open_book(
+    holders: u64,
+    sources: u64,
+    sinks: u64,
+    paths: u64,
+    holder_kinds: &[u64],
+    sink_kinds: &[u64],
+    sink_parents: &[u64],
+    path_sources: &[u64],
+    path_sinks: &[u64],
+) -> Answered
+    ensures { λ r. ⌜ r ≡ openedAs (openingFrom holders sources sinks paths (now («holder_kinds» .entry)) (now («sink_kinds» .entry)) (now («sink_parents» .entry)) (now («path_sources» .entry)) (now («path_sinks» .entry))) ⌝ }
+{
+    let mut kept = [0u64; 76];
+    let answer = open(
+        &mut kept,
+        holders,
+        sources,
+        sinks,
+        paths,
+        holder_kinds,
+        sink_kinds,
+        sink_parents,
+        path_sources,
+        path_sinks,
+    );
+    let entries = no_entries();
+    Answered {
+        answer,
+        book: Book {
+            opening: kept,
+            figures: [0u64; 2946],
+            marks: [false; 1024],
+            entries,
+        },
+    }
+}

@@ -1,0 +1,183 @@
+// The calls that post (01, Posting), and migration (01, Migration): the book's arrays are lent to the call, and the next book is made of them.
+use crate::book::Answered;
+use crate::book::Book;
+use moves::migrate::migrate;
+use posting::carry::carry;
+use posting::load::load;
+use posting::prior::prior;
+use posting::verify::verify;
+ghost use mathlib.Core.Path.{_≡_};
+ghost use Rattle.ledger.specs.Call.{carry, prior, verify};
+ghost use Rattle.book.specs.Handed.{handed, handedBlocks, handedLines};
+ghost use Rattle.book.specs.Reached.{Reached};
+
+impl Book {
+    // Posts the load of a holder at a sink in a term, whose blocks stand in three slices.
+    pub fn load(
+        self,
+        h: u64,
+        s: u64,
+        term: u64,
+        contract: u64,
+        n: u64,
+        firsts: &[u64],
+        hours: &[u64],
+        kws: &[u64],
+    ) -> Answered
+        requires { ⌜ Reached self ⌝ }
+        ensures { λ r. ⌜ r ≡ handedBlocks self h s term contract n (now (firsts .entry)) (now (hours .entry)) (now (kws .entry)) ⌝ }
+    {
+        let opening = self.opening;
+        let mut figures = self.figures;
+        let mut marks = self.marks;
+        let answer = load(
+            &opening,
+            &mut figures,
+            &mut marks,
+            h,
+            s,
+            term,
+            contract,
+            n,
+            firsts,
+            hours,
+            kws,
+        );
+        let entries = self.entries;
+        Answered {
+            answer,
+            book: Book {
+                opening,
+                figures,
+                marks,
+                entries,
+            },
+        }
+    }
+
+    // Carries kw in for a holder on a path.
+    pub fn carry(self, h: u64, p: u64, kw: u64) -> Answered
+        requires { ⌜ Reached self ⌝ }
+        ensures { λ r. ⌜ r ≡ handed self (carry h p kw) ⌝ }
+    {
+        let opening = self.opening;
+        let mut figures = self.figures;
+        let mut marks = self.marks;
+        let answer = carry(&opening, &mut figures, &mut marks, h, p, kw);
+        let entries = self.entries;
+        Answered {
+            answer,
+            book: Book {
+                opening,
+                figures,
+                marks,
+                entries,
+            },
+        }
+    }
+
+    // Posts the prior of a holder on a path.
+    pub fn prior(self, h: u64, p: u64, a: u64, l: u64) -> Answered
+        requires { ⌜ Reached self ⌝ }
+        ensures { λ r. ⌜ r ≡ handed self (prior h p a l) ⌝ }
+    {
+        let opening = self.opening;
+        let mut figures = self.figures;
+        let mut marks = self.marks;
+        let answer = prior(&opening, &mut figures, &mut marks, h, p, a, l);
+        let entries = self.entries;
+        Answered {
+            answer,
+            book: Book {
+                opening,
+                figures,
+                marks,
+                entries,
+            },
+        }
+    }
+
+    // Files evidence of a holder for a source.
+    pub fn verify(
+        self,
+        h: u64,
+        s: u64,
+        kind: u64,
+        capacity: u64,
+        right: u64,
+        first: u64,
+        last: u64,
+    ) -> Answered
+        requires { ⌜ Reached self ⌝ }
+        ensures { λ r. ⌜ r ≡ handed self (verify h s kind capacity right first last) ⌝ }
+    {
+        let opening = self.opening;
+        let figures = self.figures;
+        let mut marks = self.marks;
+        let old = self.entries;
+        let verified = verify(
+            &opening,
+            &figures,
+            &mut marks,
+            old,
+            h,
+            s,
+            kind,
+            capacity,
+            right,
+            first,
+            last,
+        );
+        let answer = verified.answer;
+        let entries = verified.entries;
+        Answered {
+            answer,
+            book: Book {
+                opening,
+                figures,
+                marks,
+                entries,
+            },
+        }
+    }
+
+    // Moves loads, rights and last year's allocations with the customers of class lines, whose fields stand in five slices.
+    pub fn migrate(
+        self,
+        term: u64,
+        sink: u64,
+        froms: &[u64],
+        tos: &[u64],
+        classes: &[u64],
+        customers: &[u64],
+        watts: &[u64],
+    ) -> Answered
+        requires { ⌜ Reached self ⌝ }
+        ensures { λ r. ⌜ r ≡ handedLines self term sink (now (froms .entry)) (now (tos .entry)) (now (classes .entry)) (now (customers .entry)) (now (watts .entry)) ⌝ }
+    {
+        let opening = self.opening;
+        let mut figures = self.figures;
+        let answer = migrate(
+            &opening,
+            &mut figures,
+            term,
+            sink,
+            froms,
+            tos,
+            classes,
+            customers,
+            watts,
+        );
+        let marks = self.marks;
+        let entries = self.entries;
+        Answered {
+            answer,
+            book: Book {
+                opening,
+                figures,
+                marks,
+                entries,
+            },
+        }
+    }
+}

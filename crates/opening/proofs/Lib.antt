@@ -1,0 +1,3 @@
+pub mod KeptArray
+pub mod KeptOpening
+pub mod LegalityLaws

@@ -1,0 +1,2 @@
+-- What opening a book answers and leaves.
+pub mod Opened

@@ -1,0 +1,14 @@
+-- What opening a book answers and leaves (01, The book, and cause 16).
+use mathlib.Core.Bool.{cond}
+use Rattle.ledger.specs.Opening.{Opening, legal, openingRefusal}
+use Rattle.records.specs.declared.answers.Answer.{Answer}
+use Rattle.records.specs.declared.answers.Answer.the-variants.{Done, Refused}
+use Rattle.records.specs.Opening.{emptyOpening}
+
+-- a legal opening is done, any other refused
+unfoldable pub openedAnswer : Opening → Answer
+openedAnswer o = cond (legal o) Done (Refused (openingRefusal o))
+
+-- a refused one leaves an opening with nothing in it, so that every book handed back is one that opening and calls lead to
+unfoldable pub openedOpening : Opening → Opening
+openedOpening o = cond (legal o) o emptyOpening

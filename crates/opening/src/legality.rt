@@ -1,0 +1,146 @@
+// Whether the opening that an array keeps is legal (01, The book; cause 16).
+use records::setup::holder_kind;
+use records::setup::holders;
+use records::setup::path_sink;
+use records::setup::path_source;
+use records::setup::paths;
+use records::setup::sink_base;
+use records::setup::sink_kind;
+use records::setup::sinks;
+use records::setup::sources;
+ghost use mathlib.Core.Path.{_≡_};
+ghost use Rattle.tariff.specs.Sum.{allBelow};
+ghost use Rattle.ledger.specs.Opening.{countsFit, holderLegal, parentLegal, sinkLegal, pathLegal, pathsAlike, pathNew, legal};
+ghost use lib.ListN.{length};
+ghost use Rattle.records.specs.Opening.{openingIn};
+
+// At most 8 holders, 16 sources, 16 sinks and 16 paths.
+fn counts_fit(o: &[u64]) -> bool
+    ensures { λ r. ⌜ r ≡ countsFit (openingIn (now (o .entry))) ⌝ }
+{
+    (holders(o) <= 8) & (sources(o) <= 16) & (sinks(o) <= 16) & (paths(o) <= 16)
+}
+
+// A holder is of kind 1 or 2.
+fn holder_legal(o: &[u64], h: u64) -> bool
+    ensures { λ r. ⌜ r ≡ holderLegal (openingIn (now (o .entry))) h ⌝ }
+{
+    let kind = holder_kind(o, h);
+    (kind == 1) | (kind == 2)
+}
+
+// A Sub-LAP's parent has a lower number and is a Default LAP.
+fn parent_legal(o: &[u64], s: u64) -> bool
+    ensures { λ r. ⌜ r ≡ parentLegal (openingIn (now (o .entry))) s ⌝ }
+{
+    let parent = sink_base(o, s);
+    let parent_kind = sink_kind(o, parent);
+    (parent < s) & (parent_kind == 1)
+}
+
+// A sink is of kind 1 to 4; a Sub-LAP has a parent, any other sink names itself.
+fn sink_legal(o: &[u64], s: u64) -> bool
+    ensures { λ r. ⌜ r ≡ sinkLegal (openingIn (now (o .entry))) s ⌝ }
+{
+    let kind = sink_kind(o, s);
+    let kind_fits = (1 <= kind) & (kind <= 4);
+    if kind == 2 {
+        return kind_fits & parent_legal(o, s);
+    }
+    kind_fits & (sink_base(o, s) == s)
+}
+
+// A path's source and sink are in the book.
+fn path_legal(o: &[u64], p: u64) -> bool
+    ensures { λ r. ⌜ r ≡ pathLegal (openingIn (now (o .entry))) p ⌝ }
+{
+    let source = path_source(o, p);
+    let sink = path_sink(o, p);
+    (source < sources(o)) & (sink < sinks(o))
+}
+
+// Two paths share both source and sink.
+fn paths_alike(o: &[u64], p: u64, q: u64) -> bool
+    ensures { λ r. ⌜ r ≡ pathsAlike (openingIn (now (o .entry))) p q ⌝ }
+{
+    let same_source = path_source(o, p) == path_source(o, q);
+    let same_sink = path_sink(o, p) == path_sink(o, q);
+    same_source & same_sink
+}
+
+// Every holder is legal.
+fn holders_legal(o: &[u64]) -> bool
+    ensures { λ r. ⌜ r ≡ allBelow (openingIn (now (o .entry)) .holders) (holderLegal (openingIn (now (o .entry)))) ⌝ }
+{
+    let past = holders(o);
+    let mut h: u64 = 0;
+    while h < past {
+        if !holder_legal(o, h) {
+            return false;
+        }
+        h += 1;
+    }
+    true
+}
+
+// Every sink is legal.
+fn sinks_legal(o: &[u64]) -> bool
+    ensures { λ r. ⌜ r ≡ allBelow (openingIn (now (o .entry)) .sinks) (sinkLegal (openingIn (now (o .entry)))) ⌝ }
+{
+    let past = sinks(o);
+    let mut s: u64 = 0;
+    while s < past {
+        if !sink_legal(o, s) {
+            return false;
+        }
+        s += 1;
+    }
+    true
+}
+
+// Every path is legal.
+fn paths_legal(o: &[u64]) -> bool
+    ensures { λ r. ⌜ r ≡ allBelow (openingIn (now (o .entry)) .paths) (pathLegal (openingIn (now (o .entry)))) ⌝ }
+{
+    let past = paths(o);
+    let mut p: u64 = 0;
+    while p < past {
+        if !path_legal(o, p) {
+            return false;
+        }
+        p += 1;
+    }
+    true
+}
+
+// No two paths share both source and sink. The first pair that does ends the search.
+fn paths_differ(o: &[u64]) -> bool
+    ensures { λ r. ⌜ r ≡ allBelow (openingIn (now (o .entry)) .paths) (pathNew (openingIn (now (o .entry)))) ⌝ }
+{
+    let past = paths(o);
+    let mut differ = true;
+    let mut p: u64 = 0;
+    'pairs: while p < past {
+        let mut q: u64 = 0;
+        while q < p {
+            if paths_alike(o, p, q) {
+                differ = false;
+                break 'pairs;
+            }
+            q += 1;
+        }
+        p += 1;
+    }
+    differ
+}
+
+// The opening breaks no rule. The counts come first, as they bound the loops of the rest.
+pub fn is_legal(o: &[u64]) -> bool
+    requires { ⌜ length (now o) ≡ 76 ⌝ }
+    ensures { λ r. ⌜ r ≡ legal (openingIn (now (o .entry))) ⌝ }
+{
+    if !counts_fit(o) {
+        return false;
+    }
+    holders_legal(o) & sinks_legal(o) & paths_legal(o) & paths_differ(o)
+}

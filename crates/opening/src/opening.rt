@@ -1,0 +1,55 @@
+// Opening a book (01, The book; cause 16).
+use crate::legality::is_legal;
+use crate::lists::keep_opening;
+use crate::lists::lists_fit;
+use records::answers::Answer;
+use records::cells::clear;
+ghost use mathlib.Core.Path.{_≡_};
+ghost use lib.ListN.{length};
+ghost use Rattle.records.specs.Opening.{openingArray, openingFrom};
+ghost use Rattle.opening.specs.Opened.{openedAnswer, openedOpening};
+
+// Opens a book, for any counts and slices. A refused one leaves an opening with nothing in it, so that what is left is always a book.
+pub fn open(
+    o: &mut [u64],
+    holders: u64,
+    sources: u64,
+    sinks: u64,
+    paths: u64,
+    holder_kinds: &[u64],
+    sink_kinds: &[u64],
+    sink_parents: &[u64],
+    path_sources: &[u64],
+    path_sinks: &[u64],
+) -> Answer
+    requires { ⌜ length (now o) ≡ 76 ⌝ }
+    ensures { λ r. ⌜ (r ≡ openedAnswer (openingFrom holders sources sinks paths (now («holder_kinds» .entry)) (now («sink_kinds» .entry)) (now («sink_parents» .entry)) (now («path_sources» .entry)) (now («path_sinks» .entry)))) × (now (o .exit) ≡ openingArray (openedOpening (openingFrom holders sources sinks paths (now («holder_kinds» .entry)) (now («sink_kinds» .entry)) (now («sink_parents» .entry)) (now («path_sources» .entry)) (now («path_sinks» .entry))))) ⌝ }
+{
+    keep_opening(
+        o,
+        holders,
+        sources,
+        sinks,
+        paths,
+        holder_kinds,
+        sink_kinds,
+        sink_parents,
+        path_sources,
+        path_sinks,
+    );
+    let lists = lists_fit(
+        holders,
+        sinks,
+        paths,
+        holder_kinds,
+        sink_kinds,
+        sink_parents,
+        path_sources,
+        path_sinks,
+    );
+    if lists & is_legal(o) {
+        return Answer::Done;
+    }
+    clear(o);
+    Answer::Refused(16)
+}

@@ -1,0 +1,2 @@
+-- Loads in slices of numbers.
+pub mod Posting

@@ -1,0 +1,17 @@
+-- `records::setup::no_sink` meets its contract. Assumes nothing.
+use mathlib.Core.Path.{ap}
+use lib.Dec.{leb}
+use Rattle.ledger.specs.Ranges.{noSink}
+use borrow.Author.Needs.{needs}
+use Rattle.records.proofs.setup.no_sink.Statement.{statement}
+use Rattle.records.proofs.setup.no_sink.Tie as tie
+
+sinks-requires : tie.Need-sinks-requires
+sinks-requires c κs = search needs
+
+returns : tie.Need-returns
+unfolding noSink
+returns c = ap (λ n. leb n (c .before .before .args .s)) (c .sinks .ensures)
+
+pub no-sink-spec : {M : Type 1} → statement M
+no-sink-spec = tie.close (tie.spec sinks-requires returns)

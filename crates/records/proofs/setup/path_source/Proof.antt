@@ -1,0 +1,21 @@
+-- `records::setup::path_source` meets its contract: the entry of its list. Assumes nothing.
+use mathlib.Core.Path.{ap, _∙_}
+use lib.ListN.{take, drop, getD}
+use Rattle.records.specs.Opening.{setupIn, openingOf, openingIn}
+use Rattle.ledger.specs.Opening.{pathSource}
+use borrow.Author.Needs.{needs}
+use Rattle.records.proofs.setup.path_source.Statement.{statement}
+use Rattle.records.proofs.setup.path_source.Tie as tie
+
+paths-requires : tie.Need-paths-requires
+paths-requires c κs = search needs
+
+listed-requires : tie.Need-listed-requires
+listed-requires c κs = search needs
+
+returns : tie.Need-returns
+unfolding pathSource openingIn openingOf setupIn
+returns c = let args = c .before .before .before .args in c .listed .ensures ∙ ap (λ n. getD (take n (take 16 (drop 44 (args .o .now)))) (args .p) 0) (c .before .paths .ensures)
+
+pub path-source-spec : {M : Type 1} → statement M
+path-source-spec = tie.close (tie.spec paths-requires listed-requires returns)

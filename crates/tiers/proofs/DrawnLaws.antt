@@ -1,0 +1,100 @@
+-- What a holder draws from a source of what it has verified there: sums and their bounds in a book's lent arrays. Assumes nothing.
+use Prim.Native.Nat.{ℕ, _+_, _*_, _≤_, _<_}
+use mathlib.Core.Path.{_≡_, sym, ap, _∙_, subst}
+use mathlib.Core.Bool.{Bool, true, false, _&&_, _||_}
+use mathlib.Core.List.{List}
+use mathlib.Core.Logic.{_⊎_, inl, inr}
+use native.Mathlib.Nat.{le-trans, le-of-eq, mul-le-mul-right}
+use native.Mathlib.Omega.{arith}
+use lib.ListN.{take, drop, getD}
+use lib.Dec.{leb, eqb}
+use Rattle.tariff.specs.declared.evidence.Entry.{Entry}
+use Rattle.tariff.specs.Evidence.{noEntry, entryKw}
+use Rattle.tariff.specs.Ranges.{mostKw}
+use Rattle.tariff.specs.Sum.{countIf, sumTo}
+use Rattle.tariff.specs.Terms.{termOf}
+use Rattle.tariff.proofs.EvidenceBounds.{InRange, entry-le}
+use Rattle.tariff.proofs.Sums.{count-le, sum-bound, sum-part-le}
+use Rattle.tariff.proofs.Tests.{decided}
+use Rattle.ledger.specs.Opening.{Opening}
+use Rattle.ledger.specs.Ledger.{Ledger}
+use Rattle.ledger.specs.Season.{after}
+use Rattle.ledger.specs.Verification.{sumFromSource, drawsOnSame, drawnBefore, drawn}
+use Rattle.ledger.proofs.Bounds.{mostTogether, figures-fit}
+use Rattle.records.specs.Cells.{hasCell, readAt, cellsOf}
+use Rattle.records.specs.Opening.{openingIn}
+use Rattle.records.specs.Reading.{tiersIn, papersOf, ledgerOf, partsOf}
+use Rattle.records.specs.Layout.{partsIn, ledgerIn, entriesOf}
+use Rattle.records.specs.Handed.{Reached}
+use Rattle.records.proofs.CellLaws.{read-cells, read-none}
+use Rattle.records.proofs.PathSums.{source-sum-fits}
+use Rattle.tiers.proofs.LimitLaws.{nominated-now}
+use Rattle.tiers.proofs.Within.{few-paths, nominated-within, awards-within, open-within}
+
+-- a sum of the open tier's nominations, read where they stand
+pub nominated-source : (f : List ℕ) (m : List Bool) (x : List Entry) (o : Opening) (h s sum : ℕ) → sum ≡ sumFromSource o s (λ p. readAt 1 0 0 (take 128 (drop 1536 f)) h p 0) → sum ≡ sumFromSource o s (λ p. ledgerIn f m x .tiers .nominated h p (getD f 2945 0))
+nominated-source f m x o h s sum e = e ∙ (λ i. sumFromSource o s (λ p. sym (nominated-now f m x h p) i))
+
+-- the awards of an earlier tier, where they count
+unfoldable pub drawnIn : Opening → Ledger → ℕ → ℕ → ℕ → ℕ → ℕ
+drawnIn o L tier h s n = countIf (drawsOnSame tier n) (sumFromSource o s (λ p. L .tiers .awards h p n))
+
+-- the next tier's, as code has it
+pub next-drawn : (o : Opening) (L : Ledger) (tier h s n : ℕ) (same : Bool) (awards v : ℕ) → v ≡ countIf same awards → same ≡ drawsOnSame tier n → awards ≡ sumFromSource o s (λ p. L .tiers .awards h p n) → v ≡ drawnIn o L tier h s n
+unfolding drawnIn
+next-drawn o L tier h s n same awards v e t a = e ∙ (λ i. countIf (t i) (a i))
+
+pub same-drawn : (tier n one two : ℕ) → one ≡ termOf n → two ≡ termOf tier → (leb 1 n && (eqb one two || leb n 3)) ≡ drawsOnSame tier n
+unfolding drawsOnSame
+same-drawn tier n one two e f = λ i. leb 1 n && (eqb (e i) (f i) || leb n 3)
+
+-- the kW of one kind of evidence, as code finds it
+pub filed-kw : (x : List Entry) (h kind source place term now kw : ℕ) (paper : Entry) → kw ≡ entryKw term paper → paper ≡ readAt 2 1 noEntry x h source kind → source ≡ place → term ≡ now → kw ≡ entryKw now (readAt 2 1 noEntry x h place kind)
+filed-kw x h kind source place term now kw paper e q s t = e ∙ (λ i. entryKw (t i) ((q ∙ ap (λ j. readAt 2 1 noEntry x h j kind) s) i))
+
+module _ (o f : List ℕ) (m : List Bool) (x : List Entry) (r : Reached o f m x) where
+  -- evidence of one kind
+  pub entry-fits : (h s kind term : ℕ) → entryKw term (readAt 2 1 noEntry x h s kind) ≤ mostKw
+  unfolding entriesOf partsOf papersOf noEntry
+  entry-fits h s kind term =
+      let L = after (r .opening) (r .calls) in
+      entry-le mostKw term (readAt 2 1 noEntry x h s kind)
+      (subst (λ (e : Entry). InRange mostKw (e .evidence)) (sym (ap (λ y. readAt 2 1 noEntry y h s kind) (r .ofEntries))) (go L (figures-fit (r .opening) (r .isLegal) (r .calls) .evidenceFits h s kind) (decided (hasCell 2 1 h s kind))))
+    where
+      go : (L : Ledger) → InRange mostKw (L .papers .entry h s kind .evidence) → (hasCell 2 1 h s kind ≡ true) ⊎ (hasCell 2 1 h s kind ≡ false) → InRange mostKw (readAt 2 1 noEntry (cellsOf 2 1 (L .papers .entry)) h s kind .evidence)
+      go L k (inl e) = subst (λ (e : Entry). InRange mostKw (e .evidence)) (sym (read-cells 2 1 noEntry (L .papers .entry) h s kind e)) k
+      go L k (inr e) = subst (λ (e : Entry). InRange mostKw (e .evidence)) (sym (read-none 2 1 noEntry (cellsOf 2 1 (L .papers .entry)) h s kind e)) tt
+
+  module _ (h : ℕ) (l : h < openingIn o .holders) where
+    -- a holder's awards and nominations from a source
+    pub awards-from-fit : (s n : ℕ) → sumFromSource (openingIn o) s (λ p. ledgerIn f m x .tiers .awards h p n) ≤ 16 * mostTogether
+    unfolding ledgerIn partsIn ledgerOf tiersIn
+    awards-from-fit s n = source-sum-fits (openingIn o) s mostTogether (λ p. readAt 10 0 0 (take 1280 (drop 1664 f)) h p n) (few-paths o f m x r) (λ p k. awards-within o f m x r h l p n k)
+
+    pub nominated-from-fit : (s : ℕ) → sumFromSource (openingIn o) s (λ p. ledgerIn f m x .tiers .nominated h p (getD f 2945 0)) ≤ 16 * mostTogether
+    nominated-from-fit s = source-sum-fits (openingIn o) s mostTogether (λ p. ledgerIn f m x .tiers .nominated h p (getD f 2945 0)) (few-paths o f m x r) (λ p k. le-trans (le-of-eq (nominated-now f m x h p)) (nominated-within o f m x r h l p k))
+
+    -- the awards of all earlier tiers
+    drawn-sum-fits : (s tier : ℕ) → tier ≤ 9 → sumTo tier (drawnIn (openingIn o) (ledgerIn f m x) tier h s) ≤ 9 * (16 * mostTogether)
+    unfolding drawnIn
+    drawn-sum-fits s tier k =
+        le-trans (sum-bound (16 * mostTogether) tier (λ n i. le-trans (count-le (drawsOnSame tier n) (sumFromSource (openingIn o) s (λ p. ledgerIn f m x .tiers .awards h p n))) (awards-from-fit s n)))
+        (mul-le-mul-right (16 * mostTogether) k)
+
+    pub drawn-room : (s tier n sum v : ℕ) → tier ≤ 9 → n < tier → sum ≡ sumTo n (drawnIn (openingIn o) (ledgerIn f m x) tier h s) → v ≡ drawnIn (openingIn o) (ledgerIn f m x) tier h s n → sum + v ≤ 9 * (16 * mostTogether)
+    drawn-room s tier n sum v k i e g =
+        let part = sum-part-le (drawnIn (openingIn o) (ledgerIn f m x) tier h s) tier n i in
+        let whole = drawn-sum-fits s tier k in
+        omega arith
+
+    pub drawn-before-fits : (s tier : ℕ) → tier ≤ 9 → drawnBefore (openingIn o) (ledgerIn f m x) tier h s ≤ 9 * (16 * mostTogether)
+    unfolding drawnBefore drawnIn
+    drawn-before-fits s tier k = drawn-sum-fits s tier k
+
+    -- and all that is drawn in the open tier
+    pub drawn-fits : (s : ℕ) → drawn (openingIn o) (ledgerIn f m x) (getD f 2945 0) h s ≤ 10 * (16 * mostTogether)
+    unfolding drawn
+    drawn-fits s =
+        let one = nominated-from-fit s in
+        let two = drawn-before-fits s (getD f 2945 0) (open-within o f m x r) in
+        omega arith

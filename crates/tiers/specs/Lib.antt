@@ -1,0 +1,2 @@
+-- What the tiers need to be told.
+pub mod Verified
