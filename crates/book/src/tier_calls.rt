@@ -6,6 +6,7 @@ use tiers::award::award;
 use tiers::nominate::nominate;
 use tiers::turns::close_tier;
 use tiers::turns::open_tier;
+use tiers::verification::evidence_place;
 use tiers::verification::verified_kw;
 ghost use mathlib.Core.Path.{_≡_};
 ghost use Rattle.ledger.specs.Call.{openTier, nominate, award, closeTier};
@@ -49,7 +50,11 @@ impl Book {
         let opening = self.opening;
         let mut figures = self.figures;
         let entries = self.entries;
-        let verified = verified_kw(&opening, &figures, entries, h, p);
+        let place = evidence_place(&opening, h, p);
+        let at = place.at;
+        let owned = entries[at];
+        let contract = entries[at + 1];
+        let verified = verified_kw(&figures, place.there, owned, contract);
         let answer = nominate(&opening, &mut figures, verified, h, p, kw);
         with_figures(self, answer, figures)
     }

@@ -6,6 +6,7 @@ use Rattle.ledger.specs.Call.{Call, load, carry, prior, verify, migrate, openTi
 use Rattle.ledger.specs.Season.{call, query}
 use Rattle.book.specs.declared.book.Book.{Book}
 use Rattle.records.specs.declared.answers.Answer.{Answer}
+use Rattle.records.specs.declared.answers.Answer.the-variants.{Refused}
 use Rattle.book.specs.declared.book.Answered.{Answered}
 use Rattle.book.specs.Handed.{refusedWith, handed, told}
 use Rattle.lines.specs.declared.rows.Row.{Row}
@@ -13,6 +14,7 @@ use Rattle.lines.specs.Rows.{loadLine, blockLine, carryLine, priorLine, verifyL
 use Rattle.script.specs.Groups.{blockOf, classLineOf, Asked, nothing, asked, lookUp, whole, asksOf}
 use Rattle.script.specs.Heads.{NoCall}
 use Rattle.script.specs.Played.{answeredTo}
+use Rattle.script.specs.Told.{Answers}
 use mathlib.Core.List.{map}
 
 module _ (r : Row) (lines : List Row) where
@@ -68,11 +70,11 @@ module _ (r : Row) (lines : List Row) where
   pub no-head : NoCall (r .kind) → (r .kind ≡ limitLine → ⊥) → (r .kind ≡ heldLine → ⊥) → (r .kind ≡ netLine → ⊥) → asksOf r lines ≡ nothing
   unfolding asksOf lookUp
   no-head n l h t =
-      rw (ne-eqb (r .kind) loadLine (n .noLines .noLoad))
+      rw (ne-eqb (r .kind) loadLine (n .inOneRow .noLoad))
       (rw (ne-eqb (r .kind) carryLine (n .noCarry))
       (rw (ne-eqb (r .kind) priorLine (n .noPrior))
-      (rw (ne-eqb (r .kind) verifyLine (n .noVerify))
-      (rw (ne-eqb (r .kind) migrateLine (n .noLines .noMigrate))
+      (rw (ne-eqb (r .kind) verifyLine (n .inOneRow .noVerify))
+      (rw (ne-eqb (r .kind) migrateLine (n .inOneRow .noMigrate))
       (rw (ne-eqb (r .kind) openLine (n .noOpen))
       (rw (ne-eqb (r .kind) nominateLine (n .noNominate))
       (rw (ne-eqb (r .kind) awardLine (n .noAward))
@@ -83,14 +85,14 @@ module _ (r : Row) (lines : List Row) where
 
 module _ (b : Book) (g : Asked) where
   -- an asked call hands back what the book's contract says, an asked query answers and keeps the book
-  pub by-call : (c : Call) (a : Answered) → a ≡ handed b c → g ≡ asked (call c) → a ≡ answeredTo b g
+  pub by-call : (c : Call) (a : Answer) (next : Book) → _≡_ {A = Answered} (record { answer = a; book = next }) (handed b c) → g ≡ asked (call c) → Answers b g a next
   unfolding answeredTo
-  by-call c a e q = e ∙ sym (ap (answeredTo b) q)
+  by-call c a next e q = e ∙ sym (ap (answeredTo b) q)
 
-  pub by-query : (q : Query) (a : Answer) → a ≡ told b q → g ≡ asked (query q) → _≡_ {A = Answered} (record { answer = a; book = b }) (answeredTo b g)
+  pub by-query : (q : Query) (a : Answer) → a ≡ told b q → g ≡ asked (query q) → Answers b g a b
   unfolding answeredTo
   by-query q a e p = (λ i. record { answer = e i; book = b }) ∙ sym (ap (answeredTo b) p)
 
-  pub by-nothing : g ≡ nothing → refusedWith b 1 ≡ answeredTo b g
-  unfolding answeredTo
+  pub by-nothing : g ≡ nothing → Answers b g (Refused 1) b
+  unfolding answeredTo refusedWith
   by-nothing p = sym (ap (answeredTo b) p)

@@ -1,17 +1,26 @@
 -- A script's rest, group by group: what is answered and written so far, and what is left. Assumes nothing.
 use Prim.Native.Nat.{ℕ, _+_, _-_, _*_, _≤_, _<_}
 use mathlib.Core.Path.{_≡_, refl, sym, ap, _∙_, subst}
+use mathlib.Core.Bool.{false}
 use mathlib.Core.List.{List, [], _∷_, _++_, map, append-assoc, append-nil}
 use native.Mathlib.Nat.{le-trans, le-of-eq}
 use native.Mathlib.Omega.{arith}
-use lib.ListN.{length, take, drop, length-append, length-drop, drop-of-length-le, take-append-drop}
+use lib.ListN.{length, take, drop, replicate, length-append, length-drop, drop-of-length-le, take-append-drop}
 use native.Mathlib.Nat.{add-zero}
 use lib.Seq.{drop-drop}
+use Rattle.tariff.specs.declared.evidence.Entry.{Entry}
+use Rattle.ledger.specs.Ledger.{emptyLedger}
 use Rattle.ledger.specs.Season.{call, query}
+use Rattle.records.specs.Layout.{entriesOf}
+use Rattle.records.specs.declared.answers.Answer.{Answer}
 use Rattle.book.specs.declared.book.Book.{Book}
+use Rattle.book.specs.declared.book.Answered.{Answered}
 use Rattle.records.specs.Handed.{answerIn}
+use Rattle.book.specs.Reading.{bookIn, bookOf}
 use Rattle.book.specs.Handed.{refusedWith}
 use Rattle.book.specs.Reached.{Reached}
+use Rattle.lines.specs.declared.lines.NextRow.{NextRow}
+use Rattle.book.proofs.EmptyBook.{empty-figures, empty-marks}
 use Rattle.lines.specs.Rows.{rowsOf}
 use Rattle.lines.specs.Text.{linesOf}
 use Rattle.lines.specs.Reading.{nextRow}
@@ -21,13 +30,13 @@ use Rattle.lines.proofs.RowSteps.{first-row, used-some, used-within}
 use Rattle.lines.proofs.LineBytes.{bytes-within, rows-after}
 use Rattle.lines.proofs.FieldLaws.{rest-whole}
 use Rattle.lines.proofs.WritingLaws.{written-length, written-again}
-use Rattle.script.specs.declared.groups.Told.{Told}
 use Rattle.script.specs.Groups.{Asked, nothing, asked, linesCounted, asksOf, groupsFrom, groupsOf}
 use Rattle.script.specs.Answers.{textOf, textsOf}
 use Rattle.script.specs.Played.{answeredTo, answersOf, textFrom}
 use Rattle.script.specs.Writing.{Writable}
-use Rattle.script.specs.Told.{groupAsked, groupBytes, toldWith, toldFirst}
+use Rattle.script.specs.Told.{headAsks, headBytes, groupAsked, groupBytes, Answers}
 use Rattle.script.proofs.GroupLaws.{first-group, drop-shorter}
+use Rattle.script.proofs.ToldLaws.{row-bytes, row-told}
 use Rattle.script.proofs.PlayedLaws.{answered-reached}
 use Rattle.script.proofs.AnswerLaws.{text-short}
 use Rattle.script.proofs.WritableLaws.{handed-writable, told-writable}
@@ -40,27 +49,27 @@ group-writable b r (asked (call c)) = handed-writable b r c
 group-writable b r (asked (query q)) = told-writable b r q
 
 module _ (rest : List ℕ) (some : 1 ≤ length rest) where
-  behind : List ℕ
-  behind = drop (nextRow rest .used) rest
+  afterHead : List ℕ
+  afterHead = drop (nextRow rest .used) rest
 
   -- the rows after the first group
-  rows-left : rowsOf (drop (groupBytes rest) rest) ≡ drop (linesCounted (nextRow rest .row)) (rowsOf behind)
-  unfolding groupBytes behind
-  rows-left = ap rowsOf (sym (drop-drop (bytesOfLines (linesCounted (nextRow rest .row)) behind) (nextRow rest .used) rest)) ∙ rows-after (linesCounted (nextRow rest .row)) behind
+  rows-left : rowsOf (drop (groupBytes rest) rest) ≡ drop (linesCounted (nextRow rest .row)) (rowsOf afterHead)
+  unfolding groupBytes headBytes afterHead
+  rows-left = ap rowsOf (sym (drop-drop (bytesOfLines (linesCounted (nextRow rest .row)) afterHead) (nextRow rest .used) rest)) ∙ rows-after (linesCounted (nextRow rest .row)) afterHead
 
   pub groups-left : groupsOf (rowsOf rest) ≡ (groupAsked rest ∷ groupsOf (rowsOf (drop (groupBytes rest) rest)))
-  unfolding groupAsked rowsCounted behind
+  unfolding groupAsked headAsks rowsCounted afterHead
   groups-left =
       ap groupsOf (first-row rest some)
-      ∙ first-group (nextRow rest .row) (rowsOf behind)
-      ∙ ap (λ rows. asksOf (nextRow rest .row) (take (linesCounted (nextRow rest .row)) (rowsOf behind)) ∷ groupsOf rows) (sym rows-left)
+      ∙ first-group (nextRow rest .row) (rowsOf afterHead)
+      ∙ ap (λ rows. asksOf (nextRow rest .row) (take (linesCounted (nextRow rest .row)) (rowsOf afterHead)) ∷ groupsOf rows) (sym rows-left)
 
   pub rows-fewer : length (rowsOf (drop (groupBytes rest) rest)) + 1 ≤ length (rowsOf rest)
-  unfolding behind
+  unfolding afterHead
   rows-fewer =
       let all = ap length (first-row rest some) in
       let after = ap length rows-left in
-      let shorter = drop-shorter (linesCounted (nextRow rest .row)) (rowsOf behind) in
+      let shorter = drop-shorter (linesCounted (nextRow rest .row)) (rowsOf afterHead) in
       omega arith
 
   pub group-some : 1 ≤ groupBytes rest
@@ -68,7 +77,7 @@ module _ (rest : List ℕ) (some : 1 ≤ length rest) where
   group-some = let own = used-some rest some in omega arith
 
   pub group-fits : groupBytes rest ≤ length rest
-  unfolding groupBytes
+  unfolding groupBytes headBytes
   group-fits =
       let within = bytes-within (linesCounted (nextRow rest .row)) (drop (nextRow rest .used) rest) in
       let left = length-drop (nextRow rest .used) rest in
@@ -87,16 +96,6 @@ pub text-none : (b : Book) → textFrom b [] ≡ []
 unfolding textFrom rowsOf linesOf groupsOf groupsFrom answersOf textsOf
 text-none b = refl
 
--- the part of a script from a place on
-pub rest-few : (script : List ℕ) (at : ℕ) → length (rowsOf (drop at script)) ≤ 4096 → length (rowsOf (take (length script - at) (drop at script))) ≤ 4096
-rest-few script at few = le-trans (le-of-eq (ap (λ rest. length (rowsOf rest)) (rest-whole script at))) few
-
-pub rest-short : (script : List ℕ) (at : ℕ) → length script ≤ 65536 → length (take (length script - at) (drop at script)) ≤ 65536
-rest-short script at short =
-    let whole = ap length (rest-whole script at) in
-    let left = length-drop at script in
-    omega arith
-
 -- what is known when some groups have been answered
 pub record PlayedTo (script : List ℕ) (first : Book) (from start : ℕ) (out₀ out : List ℕ) (b : Book) (at written : ℕ) : Type 0 where
   pub reached : Reached b
@@ -108,22 +107,35 @@ pub record PlayedTo (script : List ℕ) (first : Book) (from start : ℕ) (out�
   pub bytes : out ≡ writtenAt out₀ start done
   pub left : done ++ textFrom b (drop at script) ≡ textFrom first (drop from script)
 
-pub none-played : (script : List ℕ) (first : Book) (from start : ℕ) (out : List ℕ) → Reached first → from ≤ length script → length (rowsOf (drop from script)) ≤ 4096 → start + 16 * length (rowsOf (drop from script)) ≤ length out → PlayedTo script first from start out out first from start
-unfolding writtenAt
-none-played script first from start out r l few room =
-    record {
-      reached = r;
-      inScript = l;
-      few = few;
-      room = room;
-      done = [];
-      place = omega arith;
-      bytes = sym (nothing-written start out);
-      left = refl;
-    }
-  where
-    nothing-written : (at : ℕ) (out : List ℕ) → take at out ++ [] ++ drop (at + 0) out ≡ out
-    nothing-written at out = ap (λ front. front ++ drop (at + 0) out) (append-nil (take at out)) ∙ ap (λ n. take at out ++ drop n out) (add-zero at) ∙ take-append-drop at out
+-- arrays at 0, with no mark and no evidence, are those of the book that was opened
+opened-book : (o : List ℕ) (x : List Entry) → x ≡ entriesOf emptyLedger → bookOf o emptyLedger ≡ bookIn o (replicate 2946 0) (replicate 1024 false) x
+unfolding bookOf
+opened-book o x e = λ i. bookIn o (sym empty-figures i) (sym empty-marks i) (sym e i)
+
+-- and nothing is answered yet
+module _ (script o : List ℕ) (x : List Entry) (from start : ℕ) (out : List ℕ) where
+  abbrev opened : Book
+  opened = bookOf o emptyLedger
+
+  none-answered : Reached opened → from ≤ length script → length (rowsOf (drop from script)) ≤ 4096 → start + 16 * length (rowsOf (drop from script)) ≤ length out → PlayedTo script opened from start out out opened from start
+  unfolding writtenAt
+  none-answered r l few room =
+      record {
+        reached = r;
+        inScript = l;
+        few = few;
+        room = room;
+        done = [];
+        place = omega arith;
+        bytes = sym (nothing-written start out);
+        left = refl;
+      }
+    where
+      nothing-written : (at : ℕ) (out : List ℕ) → take at out ++ [] ++ drop (at + 0) out ≡ out
+      nothing-written at out = ap (λ front. front ++ drop (at + 0) out) (append-nil (take at out)) ∙ ap (λ n. take at out ++ drop n out) (add-zero at) ∙ take-append-drop at out
+
+  pub none-played : x ≡ entriesOf emptyLedger → Reached opened → from ≤ length script → length (rowsOf (drop from script)) ≤ 4096 → start + 16 * length (rowsOf (drop from script)) ≤ length out → PlayedTo script opened from start out out (bookIn o (replicate 2946 0) (replicate 1024 false) x) from start
+  none-played e r l few room = subst (λ b. PlayedTo script opened from start out out b from start) (opened-book o x e) (none-answered r l few room)
 
 module _ (script : List ℕ) (first : Book) (from start : ℕ) (out₀ out : List ℕ) (b : Book) (at written : ℕ) (f : PlayedTo script first from start out₀ out b at written) where
   -- the output keeps its length
@@ -133,75 +145,106 @@ module _ (script : List ℕ) (first : Book) (from start : ℕ) (out₀ out : Lis
   pub played-within : written ≤ length out₀
   played-within = let room = f .room in omega arith
 
-  module _ (some : at < length script) (t : Told) (told : t ≡ toldFirst b (take (length script - at) (drop at script))) where
+  module _ (some : at < length script) where
     abbrev rest : List ℕ
     rest = drop at script
-
-    abbrev g : Asked
-    g = groupAsked rest
 
     rest-some : 1 ≤ length rest
     rest-some = let left = length-drop at script in omega arith
 
-    is : t ≡ toldFirst b rest
-    is = told ∙ ap (toldFirst b) (rest-whole script at)
-
-    answer-is : t .answer ≡ answeredTo b g .answer
-    unfolding toldFirst toldWith
-    answer-is = ap (λ x. x .answer) is
-
-    book-is : t .book ≡ answeredTo b g .book
-    unfolding toldFirst toldWith
-    book-is = ap (λ x. x .book) is
-
-    used-is : t .used ≡ groupBytes rest
-    unfolding toldFirst toldWith
-    used-is = ap (λ x. x .used) is
-
-    pub turn-within : at + t .used ≤ length script
-    turn-within = let used = used-is in let fits = group-fits rest rest-some in let left = length-drop at script in omega arith
-
-    pub turn-less : 1 ≤ t .used
-    turn-less = let used = used-is in let more = group-some rest rest-some in omega arith
-
-    pub turn-writable : Writable (answerIn (t .answer))
-    turn-writable = subst (λ a. Writable (answerIn a)) (sym answer-is) (group-writable b (f .reached) g)
-
     pub turn-room : written + 16 ≤ length out
     turn-room = let same = played-length in let room = f .room in let fewer = rows-fewer rest rest-some in omega arith
 
-    abbrev pub text : List ℕ
-    text = textOf (answerIn (t .answer))
+    -- the head's row, and what stands behind it
+    module _ (x : NextRow) (read : x ≡ nextRow (take (length script - at) (drop at script))) where
+      head-is : x ≡ nextRow rest
+      head-is = read ∙ ap nextRow (rest-whole script at)
 
-    place-next : drop (at + t .used) script ≡ drop (groupBytes rest) rest
-    place-next = sym (drop-drop (t .used) at script) ∙ ap (λ n. drop n rest) used-is
+      pub head-some : 1 ≤ x .used
+      head-some = le-trans (used-some rest rest-some) (le-of-eq (ap (λ y. y .used) (sym head-is)))
 
-    rows-next : rowsOf (drop (at + t .used) script) ≡ rowsOf (drop (groupBytes rest) rest)
-    rows-next = ap rowsOf place-next
+      pub head-within : at + x .used ≤ length script
+      head-within = let own = ap (λ y. y .used) head-is in let within = used-within rest in let left = length-drop at script in omega arith
 
-    pub played-turn : (next-written : ℕ) (out₁ : List ℕ) → next-written ≡ written + length text → out₁ ≡ writtenAt out written text → PlayedTo script first from start out₀ out₁ (t .book) (at + t .used) next-written
-    played-turn next-written out₁ w o =
-        let short = text-short (answerIn (t .answer)) turn-writable in
-        let fewer = rows-fewer rest rest-some in
-        let same-rows = ap length rows-next in
-        let room = f .room in
-        let place = f .place in
-        let sum = length-append (f .done) text in
-        let few = f .few in
-        record {
-          reached = subst Reached (sym book-is) (answered-reached b (f .reached) g);
-          inScript = turn-within;
-          few = omega arith;
-          room = omega arith;
-          done = f .done ++ text;
-          place = omega arith;
-          bytes = o ∙ (λ i. writtenAt (f .bytes i) (f .place i) text) ∙ written-again out₀ start (f .done) text (omega arith);
-          left =
-              append-assoc (f .done) text (textFrom (t .book) (drop (at + t .used) script))
-              ∙ ap (λ later. f .done ++ later)
-              ((λ i. textOf (answerIn (answer-is i)) ++ textFrom (book-is i) (place-next i)) ∙ sym (text-more b rest rest-some))
-              ∙ f .left;
-        }
+      abbrev pub behind : List ℕ
+      behind = take (length script - (at + x .used)) (drop (at + x .used) script)
+
+      behind-is : behind ≡ drop (nextRow rest .used) rest
+      behind-is = rest-whole script (at + x .used) ∙ sym (drop-drop (x .used) at script) ∙ ap (λ y. drop (y .used) rest) head-is
+
+      pub behind-few : length (rowsOf behind) ≤ 4096
+      behind-few =
+          let here = ap (λ s. length (rowsOf s)) behind-is in
+          let all = ap length (first-row rest rest-some) in
+          let few = f .few in
+          omega arith
+
+      group-is : headAsks (x .row) behind ≡ groupAsked rest
+      unfolding groupAsked
+      group-is = λ i. headAsks (head-is i .row) (behind-is i)
+
+      bytes-are : x .used + headBytes (x .row) behind ≡ groupBytes rest
+      unfolding groupBytes
+      bytes-are = λ i. head-is i .used + headBytes (head-is i .row) (behind-is i)
+
+      -- what the group is answered, the book that it leads to, and where the next one begins
+      module _ (a : Answer) (next : Book) (used : ℕ) (answered : Answers b (headAsks (x .row) behind) a next) (taken : used ≡ headBytes (x .row) behind) where
+        as-group : _≡_ {A = Answered} (record { answer = a; book = next }) (answeredTo b (groupAsked rest))
+        as-group = answered ∙ ap (answeredTo b) group-is
+
+        used-is : x .used + used ≡ groupBytes rest
+        used-is = ap (λ n. x .used + n) taken ∙ bytes-are
+
+        pub turn-within : (at + x .used) + used ≤ length script
+        turn-within = let all = used-is in let fits = group-fits rest rest-some in let left = length-drop at script in omega arith
+
+        pub turn-writable : Writable (answerIn a)
+        turn-writable = subst (λ y. Writable (answerIn (y .answer))) (sym as-group) (group-writable b (f .reached) (groupAsked rest))
+
+        abbrev text : List ℕ
+        text = textOf (answerIn a)
+
+        abbrev at₁ : ℕ
+        at₁ = (at + x .used) + used
+
+        place-next : drop at₁ script ≡ drop (groupBytes rest) rest
+        place-next =
+            let sum : at₁ ≡ at + (x .used + used) = omega arith in
+            ap (λ n. drop n script) sum ∙ sym (drop-drop (x .used + used) at script) ∙ ap (λ n. drop n rest) used-is
+
+        pub played-turn : (next-written : ℕ) (out₁ : List ℕ) → next-written ≡ written + length text → out₁ ≡ writtenAt out written text → PlayedTo script first from start out₀ out₁ next at₁ next-written
+        played-turn next-written out₁ w o =
+            let short = text-short (answerIn a) turn-writable in
+            let fewer = rows-fewer rest rest-some in
+            let same-rows = ap (λ s. length (rowsOf s)) place-next in
+            let room = f .room in
+            let place = f .place in
+            let sum = length-append (f .done) text in
+            let few = f .few in
+            record {
+              reached = subst (λ y. Reached (y .book)) (sym as-group) (answered-reached b (f .reached) (groupAsked rest));
+              inScript = turn-within;
+              few = omega arith;
+              room = omega arith;
+              done = f .done ++ text;
+              place = omega arith;
+              bytes = o ∙ (λ i. writtenAt (f .bytes i) (f .place i) text) ∙ written-again out₀ start (f .done) text (omega arith);
+              left =
+                  append-assoc (f .done) text (textFrom next (drop at₁ script))
+                  ∙ ap (λ later. f .done ++ later)
+                  ((λ i. textOf (answerIn (as-group i .answer)) ++ textFrom (as-group i .book) (place-next i)) ∙ sym (text-more b rest rest-some))
+                  ∙ f .left;
+            }
+
+      -- the same of a head that counts no lines
+      module _ (counts : linesCounted (x .row) ≡ 0) (a : Answer) (next : Book) (answered : Answers b (asksOf (x .row) []) a next) where
+        pub row-writable : Writable (answerIn a)
+        row-writable = turn-writable a next 0 (row-told b (x .row) behind counts a next answered) (row-bytes b (x .row) behind counts)
+
+        pub row-turn : (next-written : ℕ) (out₁ : List ℕ) → next-written ≡ written + length (textOf (answerIn a)) → out₁ ≡ writtenAt out written (textOf (answerIn a)) → PlayedTo script first from start out₀ out₁ next (at + x .used) next-written
+        row-turn next-written out₁ w o =
+            subst (λ n. PlayedTo script first from start out₀ out₁ next n next-written) (add-zero (at + x .used))
+            (played-turn a next 0 (row-told b (x .row) behind counts a next answered) (row-bytes b (x .row) behind counts) next-written out₁ w o)
 
   -- where no bytes are left all groups are answered
   module _ (gone : length script ≤ at) where

@@ -16,6 +16,7 @@ use Rattle.ledger.specs.Season.{after, afterFrom}
 use Rattle.records.specs.declared.answers.Answer.the-variants.{Done, Refused}
 use Rattle.records.specs.Handed.{answerIn}
 use Rattle.opening.specs.Opened.{openedAnswer}
+use Rattle.book.specs.Reading.{bookOf}
 use Rattle.book.specs.Opened.{openedAs}
 use Rattle.book.proofs.SeasonAnswers.{opened-at}
 use Rattle.lines.specs.declared.rows.Row.{Row}
@@ -27,7 +28,7 @@ use Rattle.lines.proofs.RowSteps.{first-row}
 use Rattle.script.specs.Groups.{groupsOf, bookReadable, openingOfRows, callRows}
 use Rattle.script.specs.Answers.{answersTo, answersAfter, scriptAnswers, textOf, textsOf}
 use Rattle.script.specs.Played.{answersOf, textFrom}
-use Rattle.script.specs.Started.{startedWith, startedOf}
+use Rattle.script.specs.Started.{startedWith, openingLeft, startedOf, openingAfter}
 use Rattle.script.specs.Run.{tooLong, tooShort, answersText, written, runRefusal, runNumber, outputAfter}
 use Rattle.script.proofs.PlayedLaws.{played}
 use Rattle.script.proofs.StartedLaws.{start-readable}
@@ -50,7 +51,7 @@ after-text o e rows =
 module _ (head : Row) (rows : List Row) (used : ℕ) where
   -- a book group that ends the run is answered by itself
   stops : startedWith head rows used .«goes_on» ≡ false → textsOf (scriptAnswers (head ∷ rows)) ≡ textOf (answerIn (startedWith head rows used .answer))
-  unfolding startedWith scriptAnswers answersAfter textsOf openedAs openedAnswer answerIn
+  unfolding startedWith scriptAnswers answersAfter textsOf openedAnswer answerIn
   stops e = go (bookReadable head rows) (legal (openingOfRows head rows)) e
     where
       go : (readable isLegal : Bool) → (readable && isLegal) ≡ false → textsOf (cond readable (cond isLegal (ledger.done ∷ answersTo (openingOfRows head rows) emptyLedger (groupsOf (callRows head rows))) (ledger.refused (openingRefusal (openingOfRows head rows)) ∷ [])) (ledger.refused 1 ∷ [])) ≡ textOf (answerIn (cond readable (cond isLegal Done (Refused (openingRefusal (openingOfRows head rows)))) (Refused 1)))
@@ -59,9 +60,9 @@ module _ (head : Row) (rows : List Row) (used : ℕ) where
       go false isLegal w = append-nil _
 
   -- one that does not is answered, and then the groups after it
-  goes-on : startedWith head rows used .«goes_on» ≡ true → textsOf (scriptAnswers (head ∷ rows)) ≡ textOf (answerIn (startedWith head rows used .answer)) ++ textsOf (map answerIn (answersOf (startedWith head rows used .book) (groupsOf (callRows head rows))))
-  unfolding startedWith scriptAnswers
-  goes-on e =
+  goes-on : (o : List ℕ) → startedWith head rows used .«goes_on» ≡ true → textsOf (scriptAnswers (head ∷ rows)) ≡ textOf (answerIn (startedWith head rows used .answer)) ++ textsOf (map answerIn (answersOf (bookOf (openingLeft head rows o) emptyLedger) (groupsOf (callRows head rows))))
+  unfolding startedWith openingLeft scriptAnswers openedAs
+  goes-on o e =
       let both = and-both (bookReadable head rows) (legal (openingOfRows head rows)) e in
       rw (both .0) (after-text (openingOfRows head rows) (both .1) (callRows head rows))
 
@@ -77,12 +78,12 @@ module _ (script : List ℕ) (some : 1 ≤ length script) where
   unfolding answersText startedOf head rows
   run-stops e = ap (λ all. textsOf (scriptAnswers all)) (first-row script some) ∙ stops head rows _ e
 
-  pub run-goes-on : startedOf script .«goes_on» ≡ true → answersText script ≡ textOf (answerIn (startedOf script .answer)) ++ textFrom (startedOf script .book) (drop (startedOf script .used) script)
-  unfolding answersText startedOf head rows textFrom
-  run-goes-on e =
+  pub run-goes-on : (o : List ℕ) → startedOf script .«goes_on» ≡ true → answersText script ≡ textOf (answerIn (startedOf script .answer)) ++ textFrom (bookOf (openingAfter script o) emptyLedger) (drop (startedOf script .used) script)
+  unfolding answersText startedOf openingAfter head rows textFrom
+  run-goes-on o e =
       ap (λ all. textsOf (scriptAnswers all)) (first-row script some)
-      ∙ goes-on head rows _ e
-      ∙ ap (λ calls. textOf (answerIn (startedOf script .answer)) ++ textsOf (map answerIn (answersOf (startedOf script .book) (groupsOf calls)))) (sym (start-readable script))
+      ∙ goes-on head rows _ o e
+      ∙ ap (λ calls. textOf (answerIn (startedOf script .answer)) ++ textsOf (map answerIn (answersOf (bookOf (openingAfter script o) emptyLedger) (groupsOf calls)))) (sym (start-readable script))
 
 -- what is written from the start on
 from-start : (out text : List ℕ) → writtenAt out 0 text ≡ text ++ drop (length text) out

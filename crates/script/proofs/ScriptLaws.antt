@@ -7,6 +7,8 @@ use native.Mathlib.Nat.{le-trans, le-of-eq, zero-add}
 use native.Mathlib.Omega.{arith}
 use lib.ListN.{length, drop, length-append}
 use Rattle.records.specs.Handed.{answerIn}
+use Rattle.ledger.specs.Ledger.{emptyLedger}
+use Rattle.book.specs.Reading.{bookOf}
 use Rattle.book.specs.Reached.{Reached}
 use Rattle.lines.specs.Rows.{rowsOf, field}
 use Rattle.lines.specs.Reading.{nextRow}
@@ -17,7 +19,7 @@ use Rattle.script.specs.declared.opened.Started.{Started}
 use Rattle.script.specs.Groups.{callRows}
 use Rattle.script.specs.Answers.{textOf}
 use Rattle.script.specs.Played.{textFrom}
-use Rattle.script.specs.Started.{startedOf}
+use Rattle.script.specs.Started.{startedOf, openingAfter}
 use Rattle.script.specs.Writing.{Writable}
 use Rattle.script.specs.Run.{answersText}
 use Rattle.script.proofs.GroupLaws.{drop-shorter}
@@ -25,7 +27,7 @@ use Rattle.script.proofs.StartedLaws.{start-readable, start-within, sta
 use Rattle.script.proofs.AnswerLaws.{text-short}
 use Rattle.script.proofs.RunLaws.{run-stops, run-goes-on}
 
-module _ (script out : List ℕ) (some : 1 ≤ length script) (few : length (rowsOf script) ≤ 4096) (room : 16 * length (rowsOf script) ≤ length out) (x : Started) (is : x ≡ startedOf script) where
+module _ (script out : List ℕ) (some : 1 ≤ length script) (few : length (rowsOf script) ≤ 4096) (room : 16 * length (rowsOf script) ≤ length out) (x : Started) (is : x ≡ startedOf script) (o₀ o : List ℕ) (opening : o ≡ openingAfter script o₀) where
   abbrev text : List ℕ
   text = textOf (answerIn (x .answer))
 
@@ -58,8 +60,8 @@ module _ (script out : List ℕ) (some : 1 ≤ length script) (few : length (row
         let all = run-stops script some (sym (ap (λ y. y .«goes_on») is) ∙ e) ∙ ap (λ y. textOf (answerIn (y .answer))) (sym is) in
         (place ∙ zero-add (length text) ∙ ap length (sym all), bytes ∙ ap (writtenAt out 0) (sym all))
 
-    pub left-reached : Reached (x .book)
-    left-reached = subst (λ y. Reached (y .book)) (sym is) (start-reached script)
+    pub left-reached : x .«goes_on» ≡ true → Reached (bookOf o emptyLedger)
+    left-reached e = subst (λ z. Reached (bookOf z emptyLedger)) (sym opening) (start-reached script o₀ (sym (ap (λ y. y .«goes_on») is) ∙ e))
 
     pub left-within : x .used ≤ length script
     left-within = le-trans (le-of-eq (ap (λ y. y .used) is)) (start-within script)
@@ -76,9 +78,12 @@ module _ (script out : List ℕ) (some : 1 ≤ length script) (few : length (row
     pub left-room : w + 16 * length (rowsOf rest) ≤ length out₁
     left-room = let left = rows-left in let s = short in let same = same-length in omega arith
 
-    pub gone-on : x .«goes_on» ≡ true → (w₂ : ℕ) (out₂ : List ℕ) → w₂ ≡ w + length (textFrom (x .book) rest) → out₂ ≡ writtenAt out₁ w (textFrom (x .book) rest) → w₂ ≤ length out₁ → (w₂ ≡ length (answersText script)) × (out₂ ≡ writtenAt out 0 (answersText script))
-    gone-on e w₂ out₂ n o within =
-        let all = run-goes-on script some (sym (ap (λ y. y .«goes_on») is) ∙ e) ∙ ap (λ y. textOf (answerIn (y .answer)) ++ textFrom (y .book) (drop (y .used) script)) (sym is) in
-        let sum = length-append text (textFrom (x .book) rest) in
+    abbrev later : List ℕ
+    later = textFrom (bookOf o emptyLedger) rest
+
+    pub gone-on : x .«goes_on» ≡ true → (w₂ : ℕ) (out₂ : List ℕ) → w₂ ≡ w + length later → out₂ ≡ writtenAt out₁ w later → w₂ ≤ length out₁ → (w₂ ≡ length (answersText script)) × (out₂ ≡ writtenAt out 0 (answersText script))
+    gone-on e w₂ out₂ n b within =
+        let all = run-goes-on script some o₀ (sym (ap (λ y. y .«goes_on») is) ∙ e) ∙ (λ i. textOf (answerIn (sym is i .answer)) ++ textFrom (bookOf (sym opening i) emptyLedger) (drop (sym is i .used) script)) in
+        let sum = length-append text later in
         let same = same-length in
-        (n ∙ omega arith ∙ ap length (sym all), o ∙ (λ i. writtenAt (bytes i) (place i) (textFrom (x .book) rest)) ∙ written-again out 0 text (textFrom (x .book) rest) (omega arith) ∙ ap (writtenAt out 0) (sym all))
+        (n ∙ omega arith ∙ ap length (sym all), b ∙ (λ i. writtenAt (bytes i) (place i) later) ∙ written-again out 0 text later (omega arith) ∙ ap (writtenAt out 0) (sym all))

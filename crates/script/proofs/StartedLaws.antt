@@ -6,16 +6,18 @@ use mathlib.Core.List.{List, [], _∷_, map}
 use native.Mathlib.Nat.{le-trans, le-of-eq}
 use native.Mathlib.Omega.{arith}
 use lib.ListN.{length, take, drop, length-drop, length-map}
-use lib.Seq.{drop-drop, take-all}
+use lib.Seq.{drop-drop}
 use lib.Dec.{eqb}
 use borrow.Author.Tests.{eqb-true}
 use Rattle.tariff.proofs.Tests.{and-both}
 use Rattle.ledger.specs.Opening.{Opening, legal, openingRefusal}
-use Rattle.records.specs.Opening.{emptyOpening, openingFrom}
+use Rattle.ledger.specs.Ledger.{emptyLedger}
+use Rattle.records.specs.Opening.{openingArray, openingFrom}
+use Rattle.records.specs.declared.answers.Answer.{Answer}
 use Rattle.records.specs.declared.answers.Answer.the-variants.{Done, Refused}
-use Rattle.book.specs.declared.book.Answered.{Answered}
 use Rattle.records.specs.Handed.{answerIn}
-use Rattle.opening.specs.Opened.{openedAnswer}
+use Rattle.opening.specs.Opened.{openedAnswer, openedOpening}
+use Rattle.book.specs.Reading.{bookOf}
 use Rattle.book.specs.Opened.{openedAs}
 use Rattle.book.specs.Reached.{Reached}
 use Rattle.book.proofs.OpenedLaws.{opened-reached}
@@ -26,12 +28,13 @@ use Rattle.lines.specs.Rows.{rowsOf, bookLine, holderLine, sinkLine, pathLine, 
 use Rattle.lines.specs.Reading.{nextRow}
 use Rattle.lines.specs.Counted.{bytesOfLines}
 use Rattle.lines.specs.BookLines.{keeps, bookLinesWhole, bookLinesOf}
+use Rattle.lines.proofs.FieldLaws.{rest-whole}
 use Rattle.lines.proofs.RowSteps.{used-within}
 use Rattle.lines.proofs.LineBytes.{bytes-within, rows-after}
 use Rattle.script.specs.declared.opened.Started.{Started}
 use Rattle.script.specs.Groups.{bookReadable, openingOfRows, callRows}
 use Rattle.script.specs.Writing.{Writable}
-use Rattle.script.specs.Started.{isDone, startedWith, startedOf}
+use Rattle.script.specs.Started.{isDone, startedWith, openingLeft, startedOf, openingAfter}
 use Rattle.script.proofs.WritableLaws.{opening-refusal-small}
 
 -- the head is one line
@@ -55,8 +58,8 @@ unfolding keeps
 front-kept j n rows numbers e k = ap (λ m. take m numbers) (sym (length-map rows (field j) ∙ e)) ∙ k
 
 -- a legal opening is done, and no other
-done-legal : (o : Opening) → isDone (openedAs o .answer) ≡ legal o
-unfolding openedAs openedAnswer isDone
+done-legal : (o : Opening) → isDone (openedAnswer o) ≡ legal o
+unfolding openedAnswer isDone
 done-legal o = go (legal o) (openingRefusal o)
   where
     go : (t : Bool) (n : ℕ) → isDone (cond t Done (Refused n)) ≡ t
@@ -133,24 +136,33 @@ module _ (head : Row) (rest : List ℕ) (lines : Counted) (e : lines ≡ bookLin
             pathSinks = front-kept 1 (field 3 head) (pathRows head rows) g (n .2) keepE i;
           }
 
-      pub started-opened : (used : ℕ) (opened : Answered) (goesOn : Bool) → opened ≡ openedAs read → goesOn ≡ isDone (opened .answer) → _≡_ {A = Started} (record { answer = opened .answer; book = opened .book; used = used + lines .used; «goes_on» = goesOn }) (startedWith head rows (used + bytesOfLines (field 0 head + field 2 head + field 3 head) rest))
+      pub started-opened : (used : ℕ) (answer : Answer) (goesOn : Bool) → answer ≡ openedAnswer read → goesOn ≡ isDone answer → _≡_ {A = Started} (record { answer = answer; used = used + lines .used; «goes_on» = goesOn }) (startedWith head rows (used + bytesOfLines (field 0 head + field 2 head + field 3 head) rest))
       unfolding startedWith
-      started-opened used opened goesOn eo ed =
+      started-opened used answer goesOn ea ed =
           let o = openingOfRows head rows in
-          let eo' = eo ∙ ap openedAs same-opening in
+          let ea' = ea ∙ ap openedAnswer same-opening in
           let so = sym (sym is-readable ∙ readable) in
-          let done = ed ∙ ap (λ x. isDone (x .answer)) eo' ∙ done-legal o in
-          (λ i. record { answer = eo' i .answer; book = eo' i .book; used = used + lines-used i; «goes_on» = done i })
-          ∙ (λ i. record { answer = cond (so i) (openedAs o .answer) (Refused 1); book = openedAs (cond (so i) o emptyOpening) .book; used = used + bytesOfLines (field 0 head + field 2 head + field 3 head) rest; «goes_on» = so i && legal o })
+          let done = ed ∙ ap isDone ea' ∙ done-legal o in
+          (λ i. record { answer = ea' i; used = used + lines-used i; «goes_on» = done i })
+          ∙ (λ i. record { answer = cond (so i) (openedAnswer o) (Refused 1); used = used + bytesOfLines (field 0 head + field 2 head + field 3 head) rest; «goes_on» = so i && legal o })
+
+      pub opening-put : (o₀ o₁ : List ℕ) → o₁ ≡ openingArray (openedOpening read) → o₁ ≡ openingLeft head rows o₀
+      unfolding openingLeft
+      opening-put o₀ o₁ e = e ∙ ap (λ o. openingArray (openedOpening o)) same-opening ∙ ap (λ t. cond t (openingArray (openedOpening (openingOfRows head rows))) o₀) (sym (sym is-readable ∙ readable))
 
   -- and what is answered where they are not
-  pub started-refused : (lines .whole && eqb (head .kind) bookLine) ≡ false → (used : ℕ) (opened : Answered) → opened ≡ openedAs emptyOpening → _≡_ {A = Started} (record { answer = Refused 1; book = opened .book; used = used + lines .used; «goes_on» = false }) (startedWith head rows (used + bytesOfLines (field 0 head + field 2 head + field 3 head) rest))
-  unfolding startedWith
-  started-refused unread used opened eo =
-      let o = openingOfRows head rows in
-      let so = sym (sym is-readable ∙ unread) in
-      (λ i. record { answer = Refused 1; book = eo i .book; used = used + lines-used i; «goes_on» = false })
-      ∙ (λ i. record { answer = cond (so i) (openedAs o .answer) (Refused 1); book = openedAs (cond (so i) o emptyOpening) .book; used = used + bytesOfLines (field 0 head + field 2 head + field 3 head) rest; «goes_on» = so i && legal o })
+  module _ (unread : (lines .whole && eqb (head .kind) bookLine) ≡ false) where
+    pub started-refused : (used : ℕ) → _≡_ {A = Started} (record { answer = Refused 1; used = used + lines .used; «goes_on» = false }) (startedWith head rows (used + bytesOfLines (field 0 head + field 2 head + field 3 head) rest))
+    unfolding startedWith
+    started-refused used =
+        let o = openingOfRows head rows in
+        let so = sym (sym is-readable ∙ unread) in
+        (λ i. record { answer = Refused 1; used = used + lines-used i; «goes_on» = false })
+        ∙ (λ i. record { answer = cond (so i) (openedAnswer o) (Refused 1); used = used + bytesOfLines (field 0 head + field 2 head + field 3 head) rest; «goes_on» = so i && legal o })
+
+    pub opening-stays : (o : List ℕ) → o ≡ openingLeft head rows o
+    unfolding openingLeft
+    opening-stays o = ap (λ t. cond t (openingArray (openedOpening (openingOfRows head rows))) o) (sym (sym is-readable ∙ unread))
 
 -- the head and what is left are those of the script
 startedAt : NextRow → List ℕ → Started
@@ -159,8 +171,14 @@ startedAt f rest = startedWith (f .row) (rowsOf rest) (f .used + bytesOfLines (f
 pub whole-start : (script : List ℕ) (f : NextRow) → f ≡ nextRow script → startedWith (f .row) (rowsOf (take (length script - f .used) (drop (f .used) script))) (f .used + bytesOfLines (field 0 (f .row) + field 2 (f .row) + field 3 (f .row)) (take (length script - f .used) (drop (f .used) script))) ≡ startedOf script
 unfolding startedOf startedAt
 whole-start script f e =
-    ap (startedAt f) (take-all (length script - f .used) (drop (f .used) script) (let len = length-drop (f .used) script in omega arith))
+    ap (startedAt f) (rest-whole script (f .used))
     ∙ ap (λ g. startedAt g (drop (g .used) script)) e
+
+pub whole-opening : (script o : List ℕ) (f : NextRow) → f ≡ nextRow script → openingLeft (f .row) (rowsOf (take (length script - f .used) (drop (f .used) script))) o ≡ openingAfter script o
+unfolding openingAfter
+whole-opening script o f e =
+    ap (λ rest. openingLeft (f .row) (rowsOf rest) o) (rest-whole script (f .used))
+    ∙ ap (λ g. openingLeft (g .row) (rowsOf (drop (g .used) script)) o) e
 
 -- where the calls begin
 pub start-used : (script : List ℕ) → startedOf script .used ≡ nextRow script .used + bytesOfLines (field 0 (nextRow script .row) + field 2 (nextRow script .row) + field 3 (nextRow script .row)) (drop (nextRow script .used) script)
@@ -190,12 +208,15 @@ module _ (script : List ℕ) where
   unfolding callRows
   start-readable = ap (λ u. rowsOf (drop u script)) (start-used script) ∙ ap rowsOf (sym (drop-drop (bytesOfLines counted-lines left) (nextRow script .used) script)) ∙ rows-after counted-lines left
 
-  pub start-reached : Reached (startedOf script .book)
-  unfolding startedOf startedWith
-  start-reached = opened-reached (cond (bookReadable first (rowsOf left)) (openingOfRows first (rowsOf left)) emptyOpening)
+  -- the book of a run that goes on
+  pub start-reached : (o : List ℕ) → startedOf script .«goes_on» ≡ true → Reached (bookOf (openingAfter script o) emptyLedger)
+  unfolding startedOf startedWith openingAfter openingLeft openedAs
+  start-reached o e =
+      let readable = and-both (bookReadable first (rowsOf left)) (legal (openingOfRows first (rowsOf left))) e .0 in
+      rw readable (opened-reached (openingOfRows first (rowsOf left)))
 
   pub start-writable : Writable (answerIn (startedOf script .answer))
-  unfolding startedOf startedWith openedAs openedAnswer answerIn Writable
+  unfolding startedOf startedWith openedAnswer answerIn Writable
   start-writable = go (bookReadable first (rowsOf left)) (legal (openingOfRows first (rowsOf left))) (openingRefusal (openingOfRows first (rowsOf left))) (opening-refusal-small (openingOfRows first (rowsOf left)))
     where
       go : (t u : Bool) (n : ℕ) → n < 100 → Writable (answerIn (cond t (cond u Done (Refused n)) (Refused 1)))
@@ -207,7 +228,7 @@ module _ (script : List ℕ) where
 pub lines-fit : (script : List ℕ) (f : NextRow) (lines : Counted) → f ≡ nextRow script → lines ≡ bookLinesOf (f .row) (take (length script - f .used) (drop (f .used) script)) → f .used + lines .used ≤ length script
 lines-fit script f lines e el =
     let more = lines-within (f .row) (take (length script - f .used) (drop (f .used) script)) lines el in
-    let all = ap length (take-all (length script - f .used) (drop (f .used) script) (let len = length-drop (f .used) script in omega arith)) in
+    let all = ap length (rest-whole script (f .used)) in
     let len = length-drop (f .used) script in
     let one = le-trans (le-of-eq (ap (λ g. g .used) e)) (used-within script) in
     omega arith

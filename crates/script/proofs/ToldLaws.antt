@@ -1,9 +1,8 @@
 -- What a head and the lines it counts are told. Assumes nothing.
-use Prim.Native.Nat.{ℕ, _+_, _-_, _≤_}
+use Prim.Native.Nat.{ℕ, _≤_}
 use mathlib.Core.Path.{_≡_, sym, ap, _∙_}
 use mathlib.Core.Bool.{Bool, true, false, cond}
 use mathlib.Core.List.{List, [], map}
-use native.Mathlib.Nat.{le-trans, le-of-eq, add-zero}
 use native.Mathlib.Omega.{arith}
 use lib.ListN.{length, take, drop, length-take, length-append, length-map, length-drop}
 use lib.Dec.{eqb}
@@ -14,25 +13,19 @@ use Rattle.migration.specs.Netting.{classLinesOf}
 use Rattle.ledger.specs.Call.{load, migrate}
 use Rattle.ledger.specs.Season.{Ask, call}
 use Rattle.book.specs.declared.book.Book.{Book}
+use Rattle.records.specs.declared.answers.Answer.{Answer}
 use Rattle.records.specs.declared.answers.Answer.the-variants.{Refused}
 use Rattle.book.specs.declared.book.Answered.{Answered}
-use Rattle.book.specs.Handed.{refusedWith, handed}
-use Rattle.book.specs.Handed.{handedBlocks}
-use Rattle.book.specs.Handed.{handedLines}
+use Rattle.book.specs.Handed.{refusedWith, handed, handedBlocks, handedLines}
 use Rattle.lines.specs.declared.rows.Row.{Row}
 use Rattle.lines.specs.declared.counted.Counted.{Counted}
-use Rattle.lines.specs.declared.lines.NextRow.{NextRow}
-use Rattle.lines.specs.Rows.{rowsOf, loadLine, migrateLine, field, counted, allOfKind}
-use Rattle.lines.specs.Reading.{nextRow}
+use Rattle.lines.specs.Rows.{rowsOf, loadLine, verifyLine, migrateLine, field, counted, allOfKind}
 use Rattle.lines.specs.Counted.{bytesOfLines, rowsCounted, countedOf, withField}
-use Rattle.lines.proofs.FieldLaws.{rest-whole}
-use Rattle.lines.proofs.RowSteps.{used-within}
-use Rattle.lines.proofs.LineBytes.{bytes-within, rows-after}
 use Rattle.lines.proofs.KeptFields.{fields-kept}
-use Rattle.script.specs.declared.groups.Told.{Told}
 use Rattle.script.specs.Groups.{blockOf, classLineOf, asked, linesCounted, whole, asksOf}
 use Rattle.script.specs.Played.{answeredTo}
-use Rattle.script.specs.Told.{toldWith, toldHead, groupAsked, groupBytes, toldFirst}
+use Rattle.script.specs.Told.{headAsks, headBytes, Answers}
+use Rattle.script.proofs.HeadLaws.{by-nothing}
 use Rattle.script.proofs.RowLists.{blocks-of-rows, blocks-even, class-lines-of-rows, class-lines-even}
 
 -- counted lines are at most those that are left
@@ -81,24 +74,22 @@ module _ (kind n : ℕ) (s : List ℕ) (x : Counted) (read : x ≡ countedOf kin
 
 -- a head that asks one thing if the lines it counts are whole
 module _ (b : Book) (head : Row) (s : List ℕ) (kind n : ℕ) (ask : Ask) (x : Counted) (read : x ≡ countedOf kind n s) (counts : linesCounted head ≡ n) (asks : asksOf head (rowsCounted n s) ≡ whole (counted kind n (rowsCounted n s)) ask) where
-  as-head : toldWith b (asksOf head (rowsCounted n s)) (bytesOfLines n s) ≡ toldHead b head s
-  unfolding toldHead
-  as-head = ap (λ k. toldWith b (asksOf head (rowsCounted k s)) (bytesOfLines k s)) (sym counts)
+  pub told-bytes : x .used ≡ headBytes head s
+  unfolding headBytes
+  told-bytes = used-is kind n s x read ∙ ap (λ k. bytesOfLines k s) (sym counts)
 
-  what : (t : Bool) → x .whole ≡ t → asksOf head (rowsCounted n s) ≡ whole t ask
-  what t e = asks ∙ ap (λ u. whole u ask) (sym (whole-is kind n s x read) ∙ e)
+  what : (t : Bool) → x .whole ≡ t → headAsks head s ≡ whole t ask
+  unfolding headAsks
+  what t e = ap (λ k. asksOf head (rowsCounted k s)) counts ∙ asks ∙ ap (λ u. whole u ask) (sym (whole-is kind n s x read) ∙ e)
 
   -- lines that are not whole are unreadable, and the group is passed over
-  pub broken-told : x .whole ≡ false → _≡_ {A = Told} (record { answer = Refused 1; book = b; used = x .used }) (toldHead b head s)
-  unfolding toldWith answeredTo whole refusedWith
-  broken-told e = (λ i. toldWith b (sym (what false e) i) (used-is kind n s x read i)) ∙ as-head
+  pub broken-told : x .whole ≡ false → Answers b (headAsks head s) (Refused 1) b
+  unfolding whole
+  broken-told e = by-nothing b (headAsks head s) (what false e)
 
-  pub whole-told : x .whole ≡ true → (a : Answered) → a ≡ answeredTo b (asked ask) → _≡_ {A = Told} (record { answer = a .answer; book = a .book; used = x .used }) (toldHead b head s)
-  unfolding toldWith whole
-  whole-told e a is =
-      (λ i. record { answer = is i .answer; book = is i .book; used = used-is kind n s x read i })
-      ∙ ap (λ w. toldWith b w (bytesOfLines n s)) (sym (what true e))
-      ∙ as-head
+  pub whole-told : x .whole ≡ true → (a : Answer) (next : Book) → Answers b (asked ask) a next → Answers b (headAsks head s) a next
+  unfolding whole
+  whole-told e a next is = is ∙ ap (answeredTo b) (sym (what true e))
 
 module _ (b : Book) (head : Row) (rows : List Row) where
   -- blocks that stand in slices as they stand in rows
@@ -128,47 +119,20 @@ module _ (head : Row) where
   unfolding linesCounted
   migrate-counts e = rw e
 
+  pub verify-counts : head .kind ≡ verifyLine → linesCounted head ≡ 0
+  unfolding linesCounted
+  verify-counts e = rw e
+
   pub counts-none : (head .kind ≡ loadLine → ⊥) → (head .kind ≡ migrateLine → ⊥) → linesCounted head ≡ 0
   unfolding linesCounted
   counts-none l m = rw (ne-eqb (head .kind) loadLine l) (rw (ne-eqb (head .kind) migrateLine m))
 
 -- a head that counts no lines
-pub row-told : (b : Book) (head : Row) (s : List ℕ) (a : Answered) → linesCounted head ≡ 0 → a ≡ answeredTo b (asksOf head []) → _≡_ {A = Told} (record { answer = a .answer; book = a .book; used = 0 }) (toldHead b head s)
-unfolding toldHead toldWith rowsCounted bytesOfLines
-row-told b head s a counts is =
-    (λ i. record { answer = is i .answer; book = is i .book; used = 0 })
-    ∙ ap (λ n. toldWith b (asksOf head (rowsCounted n s)) (bytesOfLines n s)) (sym counts)
+module _ (b : Book) (head : Row) (s : List ℕ) (counts : linesCounted head ≡ 0) where
+  pub row-bytes : 0 ≡ headBytes head s
+  unfolding headBytes bytesOfLines
+  row-bytes = ap (λ n. bytesOfLines n s) (sym counts)
 
--- the first group, with the head's own line
-pub first-told : (b : Book) (rest : List ℕ) (x : NextRow) (t : Told) → x ≡ nextRow rest → t ≡ toldHead b (x .row) (take (length rest - x .used) (drop (x .used) rest)) → _≡_ {A = Told} (record { answer = t .answer; book = t .book; used = x .used + t .used }) (toldFirst b rest)
-unfolding toldFirst groupAsked groupBytes toldWith toldHead
-first-told b rest x t read told =
-    (λ i. record { answer = told i .answer; book = told i .book; used = x .used + told i .used })
-    ∙ ap (λ behind. record { answer = toldHead b (x .row) behind .answer; book = toldHead b (x .row) behind .book; used = x .used + toldHead b (x .row) behind .used }) (rest-whole rest (x .used))
-    ∙ ap (λ y. record { answer = toldHead b (y .row) (drop (y .used) rest) .answer; book = toldHead b (y .row) (drop (y .used) rest) .book; used = y .used + toldHead b (y .row) (drop (y .used) rest) .used }) read
-
--- the head's line is among the bytes, and those behind it have no more rows
-module _ (rest : List ℕ) (x : NextRow) (read : x ≡ nextRow rest) where
-  pub head-within : x .used ≤ length rest
-  head-within = le-trans (le-of-eq (ap (λ y. y .used) read)) (used-within rest)
-
-  pub rows-behind : length (rowsOf rest) ≤ 4096 → length (rowsOf (take (length rest - x .used) (drop (x .used) rest))) ≤ 4096
-  unfolding bytesOfLines
-  rows-behind few =
-      let here = ap (λ behind. length (rowsOf behind)) (rest-whole rest (x .used)) in
-      let place = ap (λ y. length (rowsOf (drop (y .used) rest))) read in
-      let whole = ap (λ n. length (rowsOf (drop n rest))) (sym (add-zero (nextRow rest .used))) in
-      let after = ap length (rows-after 1 rest) in
-      let fewer = length-drop 1 (rowsOf rest) in
-      omega arith
-
-  -- the bytes of the whole group are among them too
-  pub group-within : (b : Book) (t : Told) → t ≡ toldHead b (x .row) (take (length rest - x .used) (drop (x .used) rest)) → x .used + t .used ≤ length rest
-  unfolding toldHead toldWith
-  group-within b t told =
-      let own = ap (λ y. y .used) told in
-      let within = bytes-within (linesCounted (x .row)) (take (length rest - x .used) (drop (x .used) rest)) in
-      let size = ap length (rest-whole rest (x .used)) in
-      let left = length-drop (x .used) rest in
-      let first = head-within in
-      omega arith
+  pub row-told : (a : Answer) (next : Book) → Answers b (asksOf head []) a next → Answers b (headAsks head s) a next
+  unfolding headAsks rowsCounted
+  row-told a next is = is ∙ ap (λ n. answeredTo b (asksOf head (rowsCounted n s))) (sym counts)

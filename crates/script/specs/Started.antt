@@ -1,13 +1,13 @@
--- The book group that a script begins with: what it is answered, the book to go on with, and where the calls begin (01, Script and host).
+-- The book group that a script begins with: what it is answered, the opening that it leaves, and where the calls begin (01, Script and host).
 use Prim.Native.Nat.{ℕ, _+_}
 use mathlib.Core.Bool.{Bool, true, false, cond, _&&_}
 use mathlib.Core.List.{List}
 use lib.ListN.{drop}
 use Rattle.ledger.specs.Opening.{legal}
-use Rattle.records.specs.Opening.{emptyOpening}
+use Rattle.records.specs.Opening.{openingArray}
 use Rattle.records.specs.declared.answers.Answer.{Answer}
 use Rattle.records.specs.declared.answers.Answer.the-variants.{Done, Value, Refused}
-use Rattle.book.specs.Opened.{openedAs}
+use Rattle.opening.specs.Opened.{openedAnswer, openedOpening}
 use Rattle.lines.specs.declared.rows.Row.{Row}
 use Rattle.lines.specs.Rows.{rowsOf, field}
 use Rattle.lines.specs.Reading.{nextRow}
@@ -21,16 +21,19 @@ isDone Done = true
 isDone (Value v) = false
 isDone (Refused number) = false
 
--- a group that is unreadable is refused with 1; like a refused opening it hands back a book with nothing in it, and ends the run
-module _ (head : Row) (rows : List Row) (used : ℕ) where
-  unfoldable pub startedWith : Started
-  startedWith =
+module _ (head : Row) (rows : List Row) where
+  -- a group that is unreadable is refused with 1; like a refused opening it ends the run
+  unfoldable pub startedWith : ℕ → Started
+  startedWith used =
       record {
-        answer = cond (bookReadable head rows) (openedAs (openingOfRows head rows) .answer) (Refused 1);
-        book = openedAs (cond (bookReadable head rows) (openingOfRows head rows) emptyOpening) .book;
+        answer = cond (bookReadable head rows) (openedAnswer (openingOfRows head rows)) (Refused 1);
         used = used;
         «goes_on» = bookReadable head rows && legal (openingOfRows head rows);
       }
+
+  -- the array that an opening is kept in: an unreadable group leaves it as it was
+  unfoldable pub openingLeft : List ℕ → List ℕ
+  openingLeft o = cond (bookReadable head rows) (openingArray (openedOpening (openingOfRows head rows))) o
 
 -- the script's first line is the head
 unfoldable pub startedOf : List ℕ → Started
@@ -38,3 +41,6 @@ startedOf script =
     let head = nextRow script .row in
     let rest = drop (nextRow script .used) script in
     startedWith head (rowsOf rest) (nextRow script .used + bytesOfLines (field 0 head + field 2 head + field 3 head) rest)
+
+unfoldable pub openingAfter : List ℕ → List ℕ → List ℕ
+openingAfter script o = openingLeft (nextRow script .row) (rowsOf (drop (nextRow script .used) script)) o

@@ -1,28 +1,39 @@
--- What the first group of a script's rest is told: its answer, the book that it hands on, and the bytes that it takes.
+-- The first group of a script's rest: what it asks, the bytes that it takes, and what it leads to.
 use Prim.Native.Nat.{ℕ, _+_}
+use mathlib.Core.Path.{_≡_}
+use mathlib.Core.Bool.{Bool}
 use mathlib.Core.List.{List}
 use lib.ListN.{drop}
+use Rattle.tariff.specs.declared.evidence.Entry.{Entry}
+use Rattle.records.specs.declared.answers.Answer.{Answer}
+use Rattle.tiers.specs.Verified.{Verified}
 use Rattle.book.specs.declared.book.Book.{Book}
+use Rattle.book.specs.declared.book.Answered.{Answered}
 use Rattle.lines.specs.declared.rows.Row.{Row}
+use Rattle.lines.specs.Rows.{field, nominateLine}
 use Rattle.lines.specs.Reading.{nextRow}
 use Rattle.lines.specs.Counted.{bytesOfLines, rowsCounted}
-use Rattle.script.specs.declared.groups.Told.{Told}
 use Rattle.script.specs.Groups.{Asked, linesCounted, asksOf}
 use Rattle.script.specs.Played.{answeredTo}
 
-unfoldable pub toldWith : Book → Asked → ℕ → Told
-toldWith b what used = record { answer = answeredTo b what .answer; book = answeredTo b what .book; used = used }
+-- a head with the lines that stand behind it: what they ask, and the bytes of those lines
+unfoldable pub headAsks : Row → List ℕ → Asked
+headAsks head behind = asksOf head (rowsCounted (linesCounted head) behind)
 
--- a head with the lines that stand behind it
-unfoldable pub toldHead : Book → Row → List ℕ → Told
-toldHead b head behind = toldWith b (asksOf head (rowsCounted (linesCounted head) behind)) (bytesOfLines (linesCounted head) behind)
+unfoldable pub headBytes : Row → List ℕ → ℕ
+headBytes head behind = bytesOfLines (linesCounted head) behind
 
--- the first group: what it asks, and the bytes that it takes
+-- the first group, with the head's own line
 unfoldable pub groupAsked : List ℕ → Asked
-groupAsked rest = asksOf (nextRow rest .row) (rowsCounted (linesCounted (nextRow rest .row)) (drop (nextRow rest .used) rest))
+groupAsked rest = headAsks (nextRow rest .row) (drop (nextRow rest .used) rest)
 
 unfoldable pub groupBytes : List ℕ → ℕ
-groupBytes rest = nextRow rest .used + bytesOfLines (linesCounted (nextRow rest .row)) (drop (nextRow rest .used) rest)
+groupBytes rest = nextRow rest .used + headBytes (nextRow rest .row) (drop (nextRow rest .used) rest)
 
-unfoldable pub toldFirst : Book → List ℕ → Told
-toldFirst b rest = toldWith b (groupAsked rest) (groupBytes rest)
+-- an answer and the book beside it are those that a group, put to a book, leads to
+abbrev pub Answers : Book → Asked → Answer → Book → Type 0
+Answers b g answer next = _≡_ {A = Answered} (record { answer = answer; book = next }) (answeredTo b g)
+
+-- what a head needs to be told of the book's evidence: a nomination, what its holder has verified; any other, nothing
+abbrev pub VerifiedFor : List ℕ → List ℕ → List Bool → List Entry → Row → ℕ → Type 0
+VerifiedFor o f m x r kw = r .kind ≡ nominateLine → Verified o f m x (field 0 r) (field 1 r) kw

@@ -1,38 +1,44 @@
 // The book group that a script begins with (01, Script and host).
-use book::book::Answered;
-use book::book::Book;
-use book::opened::open_book;
 use lines::book_lines::read_book_lines;
 use lines::lines::next_row;
 use lines::rows::BOOK;
 use lines::rows::Row;
+use opening::opening::open;
 use records::answers::Answer;
 ghost use Prim.Native.Nat.{_≤_};
 ghost use mathlib.Core.Path.{_≡_};
 ghost use lib.ListN.{length, take};
-ghost use Rattle.records.specs.Opening.{emptyOpening, openingFrom};
-ghost use Rattle.book.specs.Opened.{openedAs};
+ghost use Rattle.records.specs.Opening.{openingArray, openingFrom};
+ghost use Rattle.opening.specs.Opened.{openedAnswer, openedOpening};
 ghost use Rattle.lines.specs.Rows.{rowsOf, field};
-ghost use Rattle.script.specs.Started.{isDone, startedOf};
+ghost use Rattle.script.specs.Started.{isDone, startedOf, openingAfter};
 
-// What the book group comes to: its answer, the book to go on with, how many bytes it takes, and whether the run goes on.
+// What the book group comes to: its answer, how many bytes it takes, and whether the run goes on.
 pub struct Started {
     pub answer: Answer,
-    pub book: Book,
     pub used: usize,
     pub goes_on: bool,
 }
 
-// Opens the book of a head from the arrays that keep its lines.
-fn open_read(head: Row, a: &[u64], b: &[u64], c: &[u64], d: &[u64], e: &[u64]) -> Answered
-    requires { ⌜ (field 0 head ≤ length (now a)) × (field 2 head ≤ length (now b)) × (field 2 head ≤ length (now c)) × (field 3 head ≤ length (now d)) × (field 3 head ≤ length (now e)) ⌝ }
-    ensures { λ r. ⌜ r ≡ openedAs (openingFrom (field 0 head) (field 1 head) (field 2 head) (field 3 head) (take (field 0 head) (now (a .entry))) (take (field 2 head) (now (b .entry))) (take (field 2 head) (now (c .entry))) (take (field 3 head) (now (d .entry))) (take (field 3 head) (now (e .entry)))) ⌝ }
+// Opens the book of a head, in a lent array, from the arrays that keep its lines.
+fn open_read(
+    o: &mut [u64],
+    head: Row,
+    a: &[u64],
+    b: &[u64],
+    c: &[u64],
+    d: &[u64],
+    e: &[u64],
+) -> Answer
+    requires { ⌜ (length (now o) ≡ 76) × (field 0 head ≤ length (now a)) × (field 2 head ≤ length (now b)) × (field 2 head ≤ length (now c)) × (field 3 head ≤ length (now d)) × (field 3 head ≤ length (now e)) ⌝ }
+    ensures { λ r. ⌜ (r ≡ openedAnswer (openingFrom (field 0 head) (field 1 head) (field 2 head) (field 3 head) (take (field 0 head) (now (a .entry))) (take (field 2 head) (now (b .entry))) (take (field 2 head) (now (c .entry))) (take (field 3 head) (now (d .entry))) (take (field 3 head) (now (e .entry))))) × (now (o .exit) ≡ openingArray (openedOpening (openingFrom (field 0 head) (field 1 head) (field 2 head) (field 3 head) (take (field 0 head) (now (a .entry))) (take (field 2 head) (now (b .entry))) (take (field 2 head) (now (c .entry))) (take (field 3 head) (now (d .entry))) (take (field 3 head) (now (e .entry)))))) ⌝ }
 {
     let fields = head.fields;
     let holders = fields[0] as usize;
     let sinks = fields[2] as usize;
     let paths = fields[3] as usize;
-    open_book(
+    open(
+        o,
         fields[0],
         fields[1],
         fields[2],
@@ -45,13 +51,6 @@ fn open_read(head: Row, a: &[u64], b: &[u64], c: &[u64], d: &[u64], e: &[u64]) -
     )
 }
 
-// The book with nothing in it, beside which an unreadable group is refused.
-fn open_nothing() -> Answered
-    ensures { λ r. ⌜ r ≡ openedAs emptyOpening ⌝ }
-{
-    open_book(0, 0, 0, 0, &[], &[], &[], &[], &[])
-}
-
 // Only a group that is done is gone on from.
 fn is_done(answer: Answer) -> bool
     ensures { λ r. ⌜ r ≡ isDone answer ⌝ }
@@ -62,17 +61,18 @@ fn is_done(answer: Answer) -> bool
     }
 }
 
-// Reads the book group at the start of a script and opens its book.
+// Reads the book group at the start of a script and opens its book in a lent array.
 pub fn start(
     script: &[u8],
+    o: &mut [u64],
     a: &mut [u64],
     b: &mut [u64],
     c: &mut [u64],
     d: &mut [u64],
     e: &mut [u64],
 ) -> Started
-    requires { ⌜ (length (rowsOf (now script)) ≤ 4096) × (length (now a) ≡ 4096) × (length (now b) ≡ 4096) × (length (now c) ≡ 4096) × (length (now d) ≡ 4096) × (length (now e) ≡ 4096) ⌝ }
-    ensures { λ r. ⌜ (r ≡ startedOf (now (script .entry))) × (length (now (a .exit)) ≡ 4096) × (length (now (b .exit)) ≡ 4096) × (length (now (c .exit)) ≡ 4096) × (length (now (d .exit)) ≡ 4096) × (length (now (e .exit)) ≡ 4096) ⌝ }
+    requires { ⌜ ((length (rowsOf (now script)) ≤ 4096) × (length (now o) ≡ 76)) × (length (now a) ≡ 4096) × (length (now b) ≡ 4096) × (length (now c) ≡ 4096) × (length (now d) ≡ 4096) × (length (now e) ≡ 4096) ⌝ }
+    ensures { λ r. ⌜ ((r ≡ startedOf (now (script .entry))) × (now (o .exit) ≡ openingAfter (now (script .entry)) (now (o .entry)))) × (length (now (a .exit)) ≡ 4096) × (length (now (b .exit)) ≡ 4096) × (length (now (c .exit)) ≡ 4096) × (length (now (d .exit)) ≡ 4096) × (length (now (e .exit)) ≡ 4096) ⌝ }
 {
     let first = next_row(script);
     let head = first.row;
@@ -80,22 +80,16 @@ pub fn start(
     let lines = read_book_lines(&script[at_lines..], head, a, b, c, d, e);
     let used = at_lines + lines.used;
     if lines.whole & (head.kind == BOOK) {
-        let opened = open_read(head, a, b, c, d, e);
-        let answer = opened.answer;
+        let answer = open_read(o, head, a, b, c, d, e);
         let goes_on = is_done(answer);
-        let book = opened.book;
         return Started {
             answer,
-            book,
             used,
             goes_on,
         };
     }
-    let unread = open_nothing();
-    let book = unread.book;
     Started {
         answer: Answer::Refused(1),
-        book,
         used,
         goes_on: false,
     }

@@ -21,18 +21,18 @@ fn answer_script(script: &[u8], out: &mut [u8]) -> usize
     let mut c = [0u64; 4096];
     let mut d = [0u64; 4096];
     let mut e = [0u64; 4096];
-    let started = start(script, &mut a, &mut b, &mut c, &mut d, &mut e);
+    let mut o = [0u64; 76];
+    let started = start(script, &mut o, &mut a, &mut b, &mut c, &mut d, &mut e);
     let answer = started.answer;
     let written = write_answer(out, 0, answer);
     if !started.goes_on {
         return written;
     }
-    let book = started.book;
     let used = started.used;
     play(
         script,
         used,
-        book,
+        &o,
         out,
         written,
         &mut a,

@@ -48,23 +48,7 @@ pub same-drawn : (tier n one two : ℕ) → one ≡ termOf n → two ≡ termOf 
 unfolding drawsOnSame
 same-drawn tier n one two e f = λ i. leb 1 n && (eqb (e i) (f i) || leb n 3)
 
--- the kW of one kind of evidence, as code finds it
-pub filed-kw : (x : List Entry) (h kind source place term now kw : ℕ) (paper : Entry) → kw ≡ entryKw term paper → paper ≡ readAt 2 1 noEntry x h source kind → source ≡ place → term ≡ now → kw ≡ entryKw now (readAt 2 1 noEntry x h place kind)
-filed-kw x h kind source place term now kw paper e q s t = e ∙ (λ i. entryKw (t i) ((q ∙ ap (λ j. readAt 2 1 noEntry x h j kind) s) i))
-
 module _ (o f : List ℕ) (m : List Bool) (x : List Entry) (r : Reached o f m x) where
-  -- evidence of one kind
-  pub entry-fits : (h s kind term : ℕ) → entryKw term (readAt 2 1 noEntry x h s kind) ≤ mostKw
-  unfolding entriesOf partsOf papersOf noEntry
-  entry-fits h s kind term =
-      let L = after (r .opening) (r .calls) in
-      entry-le mostKw term (readAt 2 1 noEntry x h s kind)
-      (subst (λ (e : Entry). InRange mostKw (e .evidence)) (sym (ap (λ y. readAt 2 1 noEntry y h s kind) (r .ofEntries))) (go L (figures-fit (r .opening) (r .isLegal) (r .calls) .evidenceFits h s kind) (decided (hasCell 2 1 h s kind))))
-    where
-      go : (L : Ledger) → InRange mostKw (L .papers .entry h s kind .evidence) → (hasCell 2 1 h s kind ≡ true) ⊎ (hasCell 2 1 h s kind ≡ false) → InRange mostKw (readAt 2 1 noEntry (cellsOf 2 1 (L .papers .entry)) h s kind .evidence)
-      go L k (inl e) = subst (λ (e : Entry). InRange mostKw (e .evidence)) (sym (read-cells 2 1 noEntry (L .papers .entry) h s kind e)) k
-      go L k (inr e) = subst (λ (e : Entry). InRange mostKw (e .evidence)) (sym (read-none 2 1 noEntry (cellsOf 2 1 (L .papers .entry)) h s kind e)) tt
-
   module _ (h : ℕ) (l : h < openingIn o .holders) where
     -- a holder's awards and nominations from a source
     pub awards-from-fit : (s n : ℕ) → sumFromSource (openingIn o) s (λ p. ledgerIn f m x .tiers .awards h p n) ≤ 16 * mostTogether

@@ -1,5 +1,6 @@
 pub mod AwardLaws
 pub mod DrawnLaws
+pub mod EvidenceLaws
 pub mod HeldLaws
 pub mod Within
 pub mod LimitLaws

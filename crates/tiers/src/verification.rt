@@ -8,48 +8,54 @@ use records::setup::path_source;
 use records::sums::count_if;
 use records::sums::sum_from_source;
 use tariff::evidence::Entry;
-use tariff::evidence::Evidence;
 use tariff::evidence::entry_kw;
 use tariff::terms::term_of;
 ghost use mathlib.Core.Path.{_≡_};
 ghost use mathlib.Core.Bool.{Bool};
 ghost use mathlib.Core.List.{List};
-ghost use Prim.Native.Nat.{_<_, _≤_};
+ghost use Prim.Native.Nat.{ℕ, _+_, _<_, _≤_};
 ghost use lib.ListN.{getD};
 ghost use Rattle.tariff.specs.declared.evidence.Entry.{Entry};
-ghost use Rattle.tariff.specs.Evidence.{noEntry};
+ghost use Rattle.tariff.specs.Evidence.{entryKw};
+ghost use Rattle.tariff.specs.Ranges.{mostKw};
+ghost use Rattle.tariff.specs.Sum.{countIf};
 ghost use Rattle.tariff.specs.Terms.{termOf};
-ghost use Rattle.ledger.specs.Opening.{pathSource};
-ghost use Rattle.ledger.specs.Verification.{sumFromSource, verifiedKw, drawsOnSame, drawnBefore, drawn};
-ghost use Rattle.records.specs.Cells.{readAt};
+ghost use Rattle.ledger.specs.Verification.{sumFromSource, drawsOnSame, drawnBefore, drawn};
 ghost use Rattle.records.specs.Opening.{openingIn};
 ghost use Rattle.records.specs.Layout.{ledgerIn};
-ghost use Rattle.records.specs.Handed.{Kept, Filed};
+ghost use Rattle.records.specs.Handed.{Kept};
+ghost use Rattle.tiers.specs.Verified.{evidencePlace};
 
-// What a holder filed for a source, of one kind of evidence.
-fn filed(entries: [Entry; 256], h: u64, s: u64, kind: u64) -> Entry
-    ensures { λ r. ⌜ r ≡ readAt 2 1 noEntry entries h s kind ⌝ }
+// Where a holder's evidence for a source stands among a book's entries, ownership and behind it the contract, if it has a place there.
+pub struct Place {
+    pub there: bool,
+    pub at: usize,
+}
+
+// Where a holder's evidence for a path's source stands.
+pub fn evidence_place(o: &[u64], h: u64, p: u64) -> Place
+    ensures { λ r. ⌜ r ≡ evidencePlace (now (o .entry)) h p ⌝ }
 {
-    if has_cell(2, 1, h, s, kind) {
-        let at = cell(2, 1, h, s, kind);
-        return entries[at];
+    let source = path_source(o, p);
+    if has_cell(2, 1, h, source, 1) {
+        let at = cell(2, 1, h, source, 1);
+        return Place { there: true, at };
     }
-    Entry {
-        evidence: Evidence::Empty,
-        first: 0,
-        last: 0,
+    Place {
+        there: false,
+        at: 0,
     }
 }
 
-// A holder's verified kW of a path's source for the open tier's term: ownership and contract add.
-pub fn verified_kw(o: &[u64], f: &[u64], entries: [Entry; 256], h: u64, p: u64) -> u64
-    requires { ⌜ Filed (now o) (now f) entries ⌝ }
-    ensures { λ r. ⌜ ((m : List Bool) → r ≡ verifiedKw (ledgerIn (now (f .entry)) m entries) h (pathSource (openingIn (now (o .entry))) p) (termOf (getD (now (f .entry)) 2945 0))) ⌝ }
+// A holder's verified kW for the open tier's term, of the two entries where its evidence stands: ownership and contract add.
+pub fn verified_kw(f: &[u64], there: bool, owned: Entry, contract: Entry) -> u64
+    requires { ⌜ ((term : ℕ) → (entryKw term owned ≤ mostKw) × (entryKw term contract ≤ mostKw)) ⌝ }
+    ensures { λ r. ⌜ r ≡ countIf there (entryKw (termOf (getD (now (f .entry)) 2945 0)) owned + entryKw (termOf (getD (now (f .entry)) 2945 0)) contract) ⌝ }
 {
-    let source = path_source(o, p);
+    if !there {
+        return 0;
+    }
     let term = term_of(open_now(f));
-    let owned = filed(entries, h, source, 1);
-    let contract = filed(entries, h, source, 2);
     entry_kw(owned, term) + entry_kw(contract, term)
 }
 

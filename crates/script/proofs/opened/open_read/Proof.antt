@@ -15,44 +15,47 @@ array-read-sinks c = search needs
 array-read-paths : tie.Need-array-read-paths
 array-read-paths c = search needs
 
-array-read-open-book : tie.Need-array-read-open-book
-array-read-open-book c = search needs
+array-read-open : tie.Need-array-read-open
+array-read-open c = search needs
 
-array-read-open-book-2 : tie.Need-array-read-open-book-2
-array-read-open-book-2 c = search needs
+array-read-open-2 : tie.Need-array-read-open-2
+array-read-open-2 c = search needs
 
-array-read-open-book-3 : tie.Need-array-read-open-book-3
-array-read-open-book-3 c = search needs
+array-read-open-3 : tie.Need-array-read-open-3
+array-read-open-3 c = search needs
 
-array-read-open-book-4 : tie.Need-array-read-open-book-4
-array-read-open-book-4 c = search needs
+array-read-open-4 : tie.Need-array-read-open-4
+array-read-open-4 c = search needs
 
-slice-aggregate-open-book : tie.Need-slice-aggregate-open-book
+slice-aggregate-open : tie.Need-slice-aggregate-open
 unfolding field
-slice-aggregate-open-book c = sym (length-take-le _ _ (c .before .before .before .before .before .before .before .pre .0))
+slice-aggregate-open c = sym (length-take-le _ _ (c .before .before .before .before .before .before .before .before .before .pre .1))
 
-slice-aggregate-open-book-2 : tie.Need-slice-aggregate-open-book-2
+slice-aggregate-open-2 : tie.Need-slice-aggregate-open-2
 unfolding field
-slice-aggregate-open-book-2 c = sym (length-take-le _ _ (c .before .before .before .before .before .before .before .before .pre .1))
+slice-aggregate-open-2 c = sym (length-take-le _ _ (c .before .before .before .before .before .before .before .before .before .before .pre .2))
 
-slice-aggregate-open-book-3 : tie.Need-slice-aggregate-open-book-3
+slice-aggregate-open-3 : tie.Need-slice-aggregate-open-3
 unfolding field
-slice-aggregate-open-book-3 c = sym (length-take-le _ _ (c .before .before .before .before .before .before .before .before .before .pre .2))
+slice-aggregate-open-3 c = sym (length-take-le _ _ (c .before .before .before .before .before .before .before .before .before .before .before .pre .3))
 
-slice-aggregate-open-book-4 : tie.Need-slice-aggregate-open-book-4
+slice-aggregate-open-4 : tie.Need-slice-aggregate-open-4
 unfolding field
-slice-aggregate-open-book-4 c = sym (length-take-le _ _ (c .before .before .before .before .before .before .before .before .before .before .pre .3))
+slice-aggregate-open-4 c = sym (length-take-le _ _ (c .before .before .before .before .before .before .before .before .before .before .before .before .pre .4))
 
-slice-aggregate-open-book-5 : tie.Need-slice-aggregate-open-book-5
+slice-aggregate-open-5 : tie.Need-slice-aggregate-open-5
 unfolding field
-slice-aggregate-open-book-5 c = sym (length-take-le _ _ (c .before .before .before .before .before .before .before .before .before .before .before .pre .4))
+slice-aggregate-open-5 c = sym (length-take-le _ _ (c .before .before .before .before .before .before .before .before .before .before .before .before .before .pre .5))
 
-open-book-requires : tie.Need-open-book-requires
-open-book-requires c κs = search needs
+open-requires : tie.Need-open-requires
+open-requires c κs = search needs
+
+same-length : tie.Need-same-length
+same-length c = search needs
 
 returns : tie.Need-returns
 unfolding field
-returns c = c .open-book .ensures
+returns c = c .before .before .«open» .ensures
 
 pub open-read-spec : {M : Type 1} → statement M
 open-read-spec =
@@ -61,14 +64,15 @@ open-read-spec =
     array-read-holders
     array-read-sinks
     array-read-paths
-    array-read-open-book
-    array-read-open-book-2
-    array-read-open-book-3
-    array-read-open-book-4
-    slice-aggregate-open-book
-    slice-aggregate-open-book-2
-    slice-aggregate-open-book-3
-    slice-aggregate-open-book-4
-    slice-aggregate-open-book-5
-    open-book-requires
+    array-read-open
+    array-read-open-2
+    array-read-open-3
+    array-read-open-4
+    slice-aggregate-open
+    slice-aggregate-open-2
+    slice-aggregate-open-3
+    slice-aggregate-open-4
+    slice-aggregate-open-5
+    open-requires
+    same-length
     returns)

@@ -4,87 +4,218 @@ use mathlib.Core.Path.{_≡_, sym, _∙_}
 use native.Mathlib.Omega.{arith}
 use lib.ListN.{length}
 use borrow.Author.Needs.{needs}
-use Rattle.script.proofs.PlayLaws.{PlayedTo, none-played, rest-few, rest-short, played-length, turn-within, turn-less, turn-writable, turn-room, played-turn, played-number, played-bytes, played-within}
+use Rattle.tariff.specs.Evidence.{noEntry}
+use Rattle.ledger.specs.Ledger.{emptyLedger}
+use Rattle.records.proofs.ReachedParts.{figures-sized, marks-sized}
+use Rattle.tiers.proofs.EvidenceLaws.{place-below, place-fits, place-verified}
+use Rattle.book.specs.Reading.{bookIn, bookOf}
+use Rattle.lines.specs.Rows.{field}
+use Rattle.script.proofs.ToldLaws.{verify-counts}
+use Rattle.script.proofs.PlayLaws.{PlayedTo, none-played, played-length, played-within, turn-room, head-some, head-within, behind-few, turn-within, turn-writable, played-turn, row-writable, row-turn, played-number, played-bytes}
 use Rattle.script.proofs.play.play.Statement.{statement}
 use Rattle.script.proofs.play.play.Tie as tie
 
 abbrev Inv-loop : tie.InvT-loop
-Inv-loop script from out₀ start a₀ b₀ c₀ d₀ e₀ book₀ at₀ written₀ out a b c d e book at written = PlayedTo script book₀ from start out₀ out book at written × (length a ≡ 4096) × (length b ≡ 4096) × (length c ≡ 4096) × (length d ≡ 4096) × (length e ≡ 4096)
+Inv-loop script from o out₀ start a₀ b₀ c₀ d₀ e₀ f₀ m₀ entries₀ at₀ written₀ out a b c d e f m entries at written =
+    PlayedTo script (bookOf o emptyLedger) from start out₀ out (bookIn o f m entries) at written × (length a ≡ 4096) × (length b ≡ 4096) × (length c ≡ 4096) × (length d ≡ 4096) × (length e ≡ 4096)
 
 abbrev μ-loop : tie.MeasureT-loop
-μ-loop script from out₀ start a₀ b₀ c₀ d₀ e₀ book₀ at₀ written₀ out a b c d e book at written = length script - at
+μ-loop script from o out₀ start a₀ b₀ c₀ d₀ e₀ f₀ m₀ entries₀ at₀ written₀ out a b c d e f m entries at written =
+    length script - at
+
+no-entries-requires : tie.Need-no-entries-requires Inv-loop μ-loop
+no-entries-requires c κs = tt
 
 loop-holds : tie.Need-loop-holds Inv-loop μ-loop
-loop-holds c =
-    let k = c .before .before .before .before .before .before .before .pre in
-    (none-played _ _ _ _ _ (k .0 .0) (k .0 .1) (k .0 .3) (k .0 .4), k .1, k .2, k .3, k .4, k .5)
+loop-holds c = let k = c .before .before .before .before .before .before .before .before .before .pre in (none-played _ _ _ _ _ _ (c .no-entries .ensures) (k .0 .0) (k .0 .1) (k .0 .3) (k .0 .4), k .1, k .2, k .3, k .4, k .5)
 
-sub-tell-first : tie.Need-sub-tell-first Inv-loop μ-loop
-sub-tell-first c = search needs
+sub-next-row : tie.Need-sub-next-row Inv-loop μ-loop
+sub-next-row c = c .before .loop .inv .0 .inScript
 
-part-tell-first-start : tie.Need-part-tell-first-start Inv-loop μ-loop
-part-tell-first-start c = search needs
+part-next-row-start : tie.Need-part-next-row-start Inv-loop μ-loop
+part-next-row-start c = search needs
 
-part-tell-first-end : tie.Need-part-tell-first-end Inv-loop μ-loop
-part-tell-first-end c = search needs
+part-next-row-end : tie.Need-part-next-row-end Inv-loop μ-loop
+part-next-row-end c = search needs
 
-tell-first-requires : tie.Need-tell-first-requires Inv-loop μ-loop
-tell-first-requires c κs =
-    let inv = c .before .before .before .before .before .before .before .loop .inv in
-    let s = c .before .before .before .before .before .before .before .before .before .before .before .before .before .before .before in
-    let at = c .before .before .before .before .before .before .before .loop .at in
-    (inv .0 .reached, rest-few (s .args .script .now) at (inv .0 .few), inv .1, inv .2, inv .3, inv .4, inv .5, rest-short (s .args .script .now) at (s .pre .0 .2))
-
-write-answer-requires : tie.Need-write-answer-requires Inv-loop μ-loop
-write-answer-requires c κs =
-    let f = c .before .before .before .before .before .before .before .before .before .before .before .before .before .before .before .before .before .before .before .loop .inv .0 in
-    let some = c .before .before .before .before .before .before .before .before .before .before .before .before .before .before .before .before .before .before .loop-test .taken in
-    let told = c .before .before .before .before .before .before .before .before .before .before .before .tell-first .ensures .0 in
-    (turn-room _ _ _ _ _ _ _ _ _ f some _ told, turn-writable _ _ _ _ _ _ _ _ _ f some _ told)
+next-row-requires : tie.Need-next-row-requires Inv-loop μ-loop
+next-row-requires c κs = tt
 
 add-at : tie.Need-add-at Inv-loop μ-loop
 add-at c =
-    let f = c .before .before .before .before .before .before .before .before .before .before .before .before .before .before .before .before .before .before .before .before .before .before .before .before .loop .inv .0 in
-    let some = c .before .before .before .before .before .before .before .before .before .before .before .before .before .before .before .before .before .before .before .before .before .before .before .loop-test .taken in
-    let told = c .before .before .before .before .before .before .before .before .before .before .before .before .before .before .before .before .tell-first .ensures in
-    let within = turn-within _ _ _ _ _ _ _ _ _ f some _ (told .0) in
-    let short = c .before .before .before .before .before .before .before .before .before .before .before .before .before .before .before .before .before .before .before .before .before .before .before .before .before .before .before .before .before .before .before .before .pre .0 .2 in
+    let inv = c .before .before .before .before .before .loop .inv in
+    let some = c .before .before .before .before .loop-test .taken in
+    let read = c .before .before .next-row .ensures in
+    let within = head-within _ _ _ _ _ _ _ _ _ (inv .0) some _ read in
+    let short = c .before .before .before .before .before .before .before .before .before .before .before .before .before .before .before .pre .0 .2 in
     omega arith
+
+slice-aggregate-tell-verify : tie.Need-slice-aggregate-tell-verify Inv-loop μ-loop
+unfolding bookIn
+slice-aggregate-tell-verify c = sym (figures-sized _ _ _ _ (c .before .before .before .before .before .before .before .before .loop .inv .0 .reached))
+
+slice-aggregate-tell-verify-2 : tie.Need-slice-aggregate-tell-verify-2 Inv-loop μ-loop
+unfolding bookIn
+slice-aggregate-tell-verify-2 c = sym (marks-sized _ _ _ _ (c .before .before .before .before .before .before .before .before .before .loop .inv .0 .reached))
+
+tell-verify-requires : tie.Need-tell-verify-requires Inv-loop μ-loop
+unfolding bookIn
+tell-verify-requires c κs = (c .before .before .before .before .before .before .before .before .before .loop .inv .0 .reached, c .before .before .if1 .taken)
+
+write-answer-requires : tie.Need-write-answer-requires Inv-loop μ-loop
+unfolding bookIn
+write-answer-requires c κs =
+    let inv = c .before .before .before .before .before .before .before .before .before .before .before .before .before .loop .inv in
+    let some = c .before .before .before .before .before .before .before .before .before .before .before .before .loop-test .taken in
+    let read = c .before .before .before .before .before .before .before .before .before .before .next-row .ensures in
+    (turn-room _ _ _ _ _ _ _ _ _ (inv .0) some, row-writable _ _ _ _ _ _ _ _ _ (inv .0) some _ read (verify-counts _ (c .before .before .before .before .before .before .if1 .taken)) _ _ (c .before .before .before .tell-verify .ensures))
 
 loop-less : tie.Need-loop-less Inv-loop μ-loop
 loop-less c =
-    let f = c .before .before .before .before .before .before .before .before .before .before .before .before .before .before .before .before .before .before .before .before .before .before .before .before .loop .inv .0 in
-    let some = c .before .before .before .before .before .before .before .before .before .before .before .before .before .before .before .before .before .before .before .before .before .before .before .loop-test .taken in
-    let told = c .before .before .before .before .before .before .before .before .before .before .before .before .before .before .before .before .tell-first .ensures in
-    let within = turn-within _ _ _ _ _ _ _ _ _ f some _ (told .0) in
-    let more = turn-less _ _ _ _ _ _ _ _ _ f some _ (told .0) in
+    let inv = c .before .before .before .before .before .before .before .before .before .before .before .before .before .before .before .before .loop .inv in
+    let some = c .before .before .before .before .before .before .before .before .before .before .before .before .before .before .before .loop-test .taken in
+    let read = c .before .before .before .before .before .before .before .before .before .before .before .before .before .next-row .ensures in
+    let within = head-within _ _ _ _ _ _ _ _ _ (inv .0) some _ read in
+    let more = head-some _ _ _ _ _ _ _ _ _ (inv .0) some _ read in
     omega arith
 
 loop-again : tie.Need-loop-again Inv-loop μ-loop
+unfolding bookIn
 loop-again c =
-    let f = c .before .before .before .before .before .before .before .before .before .before .before .before .before .before .before .before .before .before .before .before .before .before .before .before .loop .inv .0 in
-    let some = c .before .before .before .before .before .before .before .before .before .before .before .before .before .before .before .before .before .before .before .before .before .before .before .loop-test .taken in
-    let told = c .before .before .before .before .before .before .before .before .before .before .before .before .before .before .before .before .tell-first .ensures in
-    let wrote = c .before .before .before .before .write-answer .ensures in
-    (played-turn _ _ _ _ _ _ _ _ _ f some _ (told .0) _ _ (wrote .0) (wrote .1), told .1, told .2, told .3, told .4, told .5)
+    let inv = c .before .before .before .before .before .before .before .before .before .before .before .before .before .before .before .before .loop .inv in
+    let some = c .before .before .before .before .before .before .before .before .before .before .before .before .before .before .before .loop-test .taken in
+    let read = c .before .before .before .before .before .before .before .before .before .before .before .before .before .next-row .ensures in
+    let wrote = c .before .before .write-answer .ensures in
+    (row-turn _ _ _ _ _ _ _ _ _ (inv .0) some _ read (verify-counts _ (c .before .before .before .before .before .before .before .before .before .if1 .taken)) _ _ (c .before .before .before .before .before .before .tell-verify .ensures) _ _ (wrote .0) (wrote .1), inv .1, inv .2, inv .3, inv .4, inv .5)
+
+array-read-evidence-place : tie.Need-array-read-evidence-place Inv-loop μ-loop
+array-read-evidence-place c = search needs
+
+array-read-evidence-place-2 : tie.Need-array-read-evidence-place-2 Inv-loop μ-loop
+array-read-evidence-place-2 c = search needs
+
+evidence-place-requires : tie.Need-evidence-place-requires Inv-loop μ-loop
+evidence-place-requires c κs = tt
+
+mul-owned : tie.Need-mul-owned Inv-loop μ-loop
+mul-owned c = let below = place-below _ _ _ _ (c .evidence-place .ensures) in omega arith
+
+array-copy-out-owned : tie.Need-array-copy-out-owned Inv-loop μ-loop
+array-copy-out-owned c = let below = place-below _ _ _ _ (c .evidence-place .ensures) in omega arith
+
+add-contract : tie.Need-add-contract Inv-loop μ-loop
+add-contract c = let below = place-below _ _ _ _ (c .before .evidence-place .ensures) in omega arith
+
+mul-contract : tie.Need-mul-contract Inv-loop μ-loop
+mul-contract c = let below = place-below _ _ _ _ (c .before .evidence-place .ensures) in omega arith
+
+array-copy-out-contract : tie.Need-array-copy-out-contract Inv-loop μ-loop
+array-copy-out-contract c = place-below _ _ _ _ (c .before .evidence-place .ensures)
+
+slice-aggregate-verified-kw : tie.Need-slice-aggregate-verified-kw Inv-loop μ-loop
+unfolding bookIn
+slice-aggregate-verified-kw c = sym (figures-sized _ _ _ _ (c .before .before .before .before .before .before .before .before .before .before .before .before .loop .inv .0 .reached))
+
+verified-kw-requires : tie.Need-verified-kw-requires Inv-loop μ-loop
+unfolding bookIn noEntry
+verified-kw-requires c κs = place-fits _ _ _ _ (c .before .before .before .before .before .before .before .before .before .before .before .before .loop .inv .0 .reached) _ _ _ (c .before .before .before .evidence-place .ensures)
+
+slice-aggregate-tell-head : tie.Need-slice-aggregate-tell-head Inv-loop μ-loop
+unfolding bookIn
+slice-aggregate-tell-head c = sym (figures-sized _ _ _ _ (c .before .before .before .before .before .before .before .before .before .before .before .before .before .before .loop .inv .0 .reached))
+
+slice-aggregate-tell-head-2 : tie.Need-slice-aggregate-tell-head-2 Inv-loop μ-loop
+unfolding bookIn
+slice-aggregate-tell-head-2 c = sym (marks-sized _ _ _ _ (c .before .before .before .before .before .before .before .before .before .before .before .before .before .before .before .loop .inv .0 .reached))
+
+sub-tell-head : tie.Need-sub-tell-head Inv-loop μ-loop
+sub-tell-head c =
+    let inv = c .before .before .before .before .before .before .before .before .before .before .before .before .before .before .before .loop .inv in
+    let some = c .before .before .before .before .before .before .before .before .before .before .before .before .before .before .loop-test .taken in
+    let read = c .before .before .before .before .before .before .before .before .before .before .before .before .next-row .ensures in
+    head-within _ _ _ _ _ _ _ _ _ (inv .0) some _ read
+
+part-tell-head-start : tie.Need-part-tell-head-start Inv-loop μ-loop
+part-tell-head-start c =
+    let inv = c .before .before .before .before .before .before .before .before .before .before .before .before .before .before .before .loop .inv in
+    let some = c .before .before .before .before .before .before .before .before .before .before .before .before .before .before .loop-test .taken in
+    let read = c .before .before .before .before .before .before .before .before .before .before .before .before .next-row .ensures in
+    let within = head-within _ _ _ _ _ _ _ _ _ (inv .0) some _ read in
+    search needs
+
+part-tell-head-end : tie.Need-part-tell-head-end Inv-loop μ-loop
+part-tell-head-end c = search needs
+
+tell-head-requires : tie.Need-tell-head-requires Inv-loop μ-loop
+unfolding bookIn
+tell-head-requires c κs =
+    let inv = c .before .before .before .before .before .before .before .before .before .before .before .before .before .before .before .before .before .before .before .before .before .loop .inv in
+    let some = c .before .before .before .before .before .before .before .before .before .before .before .before .before .before .before .before .before .before .before .before .loop-test .taken in
+    let read = c .before .before .before .before .before .before .before .before .before .before .before .before .before .before .before .before .before .before .next-row .ensures in
+    ((record { entries = _; reached = inv .0 .reached }, c .before .before .before .before .before .before .before .before .before .before .before .before .before .before .if1 .left), behind-few _ _ _ _ _ _ _ _ _ (inv .0) some _ read, inv .1, inv .2, inv .3, inv .4, inv .5)
+
+write-answer-requires-2 : tie.Need-write-answer-requires-2 Inv-loop μ-loop
+unfolding bookIn field noEntry
+write-answer-requires-2 c κs =
+    let inv = c .before .before .before .before .before .before .before .before .before .before .before .before .before .before .before .before .before .before .before .before .before .before .before .before .before .before .before .before .before .before .before .before .before .before .before .loop .inv in
+    let some = c .before .before .before .before .before .before .before .before .before .before .before .before .before .before .before .before .before .before .before .before .before .before .before .before .before .before .before .before .before .before .before .before .before .before .loop-test .taken in
+    let read = c .before .before .before .before .before .before .before .before .before .before .before .before .before .before .before .before .before .before .before .before .before .before .before .before .before .before .before .before .before .before .before .before .next-row .ensures in
+    let told = c .before .before .before .before .before .before .before .before .before .before .before .before .before .tell-head .ensures in
+    let answered = told .0 _ (inv .0 .reached) (λ k e. place-verified _ _ _ _ (c .before .before .before .before .before .before .before .before .before .before .before .before .before .before .before .before .before .before .before .before .before .before .before .before .before .before .evidence-place .ensures) _ _ _ _ _ (c .before .before .before .before .before .before .before .before .before .before .before .before .before .before .before .before .before .before .before .before .before .before .verified-kw .ensures)) in
+    (turn-room _ _ _ _ _ _ _ _ _ (inv .0) some, turn-writable _ _ _ _ _ _ _ _ _ (inv .0) some _ read _ _ _ answered (told .1))
+
+add-at-2 : tie.Need-add-at-2 Inv-loop μ-loop
+unfolding bookIn field noEntry
+add-at-2 c =
+    let inv = c .before .before .before .before .before .before .before .before .before .before .before .before .before .before .before .before .before .before .before .before .before .before .before .before .before .before .before .before .before .before .before .before .before .before .before .before .before .before .before .loop .inv in
+    let some = c .before .before .before .before .before .before .before .before .before .before .before .before .before .before .before .before .before .before .before .before .before .before .before .before .before .before .before .before .before .before .before .before .before .before .before .before .before .before .loop-test .taken in
+    let read = c .before .before .before .before .before .before .before .before .before .before .before .before .before .before .before .before .before .before .before .before .before .before .before .before .before .before .before .before .before .before .before .before .before .before .before .before .next-row .ensures in
+    let told = c .before .before .before .before .before .before .before .before .before .before .before .before .before .before .before .before .before .tell-head .ensures in
+    let answered = told .0 _ (inv .0 .reached) (λ k e. place-verified _ _ _ _ (c .before .before .before .before .before .before .before .before .before .before .before .before .before .before .before .before .before .before .before .before .before .before .before .before .before .before .before .before .before .before .evidence-place .ensures) _ _ _ _ _ (c .before .before .before .before .before .before .before .before .before .before .before .before .before .before .before .before .before .before .before .before .before .before .before .before .before .before .verified-kw .ensures)) in
+    let within = turn-within _ _ _ _ _ _ _ _ _ (inv .0) some _ read _ _ _ answered (told .1) in
+    let short = c .before .before .before .before .before .before .before .before .before .before .before .before .before .before .before .before .before .before .before .before .before .before .before .before .before .before .before .before .before .before .before .before .before .before .before .before .before .before .before .before .before .before .before .before .before .before .before .before .before .pre .0 .2 in
+    omega arith
+
+loop-less-2 : tie.Need-loop-less-2 Inv-loop μ-loop
+unfolding bookIn field noEntry
+loop-less-2 c =
+    let inv = c .before .before .before .before .before .before .before .before .before .before .before .before .before .before .before .before .before .before .before .before .before .before .before .before .before .before .before .before .before .before .before .before .before .before .before .before .before .before .before .loop .inv in
+    let some = c .before .before .before .before .before .before .before .before .before .before .before .before .before .before .before .before .before .before .before .before .before .before .before .before .before .before .before .before .before .before .before .before .before .before .before .before .before .before .loop-test .taken in
+    let read = c .before .before .before .before .before .before .before .before .before .before .before .before .before .before .before .before .before .before .before .before .before .before .before .before .before .before .before .before .before .before .before .before .before .before .before .before .next-row .ensures in
+    let told = c .before .before .before .before .before .before .before .before .before .before .before .before .before .before .before .before .before .tell-head .ensures in
+    let answered = told .0 _ (inv .0 .reached) (λ k e. place-verified _ _ _ _ (c .before .before .before .before .before .before .before .before .before .before .before .before .before .before .before .before .before .before .before .before .before .before .before .before .before .before .before .before .before .before .evidence-place .ensures) _ _ _ _ _ (c .before .before .before .before .before .before .before .before .before .before .before .before .before .before .before .before .before .before .before .before .before .before .before .before .before .before .verified-kw .ensures)) in
+    let within = turn-within _ _ _ _ _ _ _ _ _ (inv .0) some _ read _ _ _ answered (told .1) in
+    let more = head-some _ _ _ _ _ _ _ _ _ (inv .0) some _ read in
+    omega arith
+
+loop-again-2 : tie.Need-loop-again-2 Inv-loop μ-loop
+unfolding bookIn field noEntry
+loop-again-2 c =
+    let inv = c .before .before .before .before .before .before .before .before .before .before .before .before .before .before .before .before .before .before .before .before .before .before .before .before .before .before .before .before .before .before .before .before .before .before .before .before .before .before .before .loop .inv in
+    let some = c .before .before .before .before .before .before .before .before .before .before .before .before .before .before .before .before .before .before .before .before .before .before .before .before .before .before .before .before .before .before .before .before .before .before .before .before .before .before .loop-test .taken in
+    let read = c .before .before .before .before .before .before .before .before .before .before .before .before .before .before .before .before .before .before .before .before .before .before .before .before .before .before .before .before .before .before .before .before .before .before .before .before .next-row .ensures in
+    let told = c .before .before .before .before .before .before .before .before .before .before .before .before .before .before .before .before .before .tell-head .ensures in
+    let answered = told .0 _ (inv .0 .reached) (λ k e. place-verified _ _ _ _ (c .before .before .before .before .before .before .before .before .before .before .before .before .before .before .before .before .before .before .before .before .before .before .before .before .before .before .before .before .before .before .evidence-place .ensures) _ _ _ _ _ (c .before .before .before .before .before .before .before .before .before .before .before .before .before .before .before .before .before .before .before .before .before .before .before .before .before .before .verified-kw .ensures)) in
+    let wrote = c .before .before .before .write-answer2 .ensures in
+    (played-turn _ _ _ _ _ _ _ _ _ (inv .0) some _ read _ _ _ answered (told .1) _ _ (wrote .0) (wrote .1), told .2, told .3, told .4, told .5, told .6)
 
 same-length : tie.Need-same-length Inv-loop μ-loop
 same-length c = played-length _ _ _ _ _ _ _ _ _ (c .before .loop .inv .0)
 
 same-length-2 : tie.Need-same-length-2 Inv-loop μ-loop
-same-length-2 c = c .before .loop .inv .1 ∙ sym (c .before .before .before .before .before .before .before .before .before .pre .1)
+same-length-2 c = c .before .loop .inv .1 ∙ sym (c .before .before .before .before .before .before .before .before .before .before .before .pre .1)
 
 same-length-3 : tie.Need-same-length-3 Inv-loop μ-loop
-same-length-3 c = c .before .loop .inv .2 ∙ sym (c .before .before .before .before .before .before .before .before .before .pre .2)
+same-length-3 c = c .before .loop .inv .2 ∙ sym (c .before .before .before .before .before .before .before .before .before .before .before .pre .2)
 
 same-length-4 : tie.Need-same-length-4 Inv-loop μ-loop
-same-length-4 c = c .before .loop .inv .3 ∙ sym (c .before .before .before .before .before .before .before .before .before .pre .3)
+same-length-4 c = c .before .loop .inv .3 ∙ sym (c .before .before .before .before .before .before .before .before .before .before .before .pre .3)
 
 same-length-5 : tie.Need-same-length-5 Inv-loop μ-loop
-same-length-5 c = c .before .loop .inv .4 ∙ sym (c .before .before .before .before .before .before .before .before .before .pre .4)
+same-length-5 c = c .before .loop .inv .4 ∙ sym (c .before .before .before .before .before .before .before .before .before .before .before .pre .4)
 
 same-length-6 : tie.Need-same-length-6 Inv-loop μ-loop
-same-length-6 c = c .before .loop .inv .5 ∙ sym (c .before .before .before .before .before .before .before .before .before .pre .5)
+same-length-6 c = c .before .loop .inv .5 ∙ sym (c .before .before .before .before .before .before .before .before .before .before .before .pre .5)
 
 returns : tie.Need-returns Inv-loop μ-loop
 returns c =
@@ -98,15 +229,39 @@ play-spec =
     (tie.spec
     Inv-loop
     μ-loop
+    no-entries-requires
     loop-holds
-    sub-tell-first
-    part-tell-first-start
-    part-tell-first-end
-    tell-first-requires
-    write-answer-requires
+    sub-next-row
+    part-next-row-start
+    part-next-row-end
+    next-row-requires
     add-at
+    slice-aggregate-tell-verify
+    slice-aggregate-tell-verify-2
+    tell-verify-requires
+    write-answer-requires
     loop-less
     loop-again
+    array-read-evidence-place
+    array-read-evidence-place-2
+    evidence-place-requires
+    mul-owned
+    array-copy-out-owned
+    add-contract
+    mul-contract
+    array-copy-out-contract
+    slice-aggregate-verified-kw
+    verified-kw-requires
+    slice-aggregate-tell-head
+    slice-aggregate-tell-head-2
+    sub-tell-head
+    part-tell-head-start
+    part-tell-head-end
+    tell-head-requires
+    write-answer-requires-2
+    add-at-2
+    loop-less-2
+    loop-again-2
     same-length
     same-length-2
     same-length-3

@@ -20,24 +20,27 @@ slice-aggregate-start-4 c = search needs
 slice-aggregate-start-5 : tie.Need-slice-aggregate-start-5
 slice-aggregate-start-5 c = search needs
 
+slice-aggregate-start-6 : tie.Need-slice-aggregate-start-6
+slice-aggregate-start-6 c = search needs
+
 start-requires : tie.Need-start-requires
 start-requires c κs = search needs
 
 write-answer-requires : tie.Need-write-answer-requires
 write-answer-requires c κs =
-    let s = c .before .before .before .before .before .before .before .before .before .before .before .before .before .before in
-    let is = c .before .before .before .before .before .before .start .ensures .0 in
-    (first-room _ (s .args .out .now) (s .pre .0) (s .pre .2) (s .pre .3) _ is, first-writable _ (s .args .out .now) (s .pre .0) (s .pre .2) (s .pre .3) _ is)
+    let s = c .before .before .before .before .before .before .before .before .before .before .before .before .before .before .before .before in
+    let given = c .before .before .before .before .before .before .before .start .ensures .0 in
+    (first-room _ (s .args .out .now) (s .pre .0) (s .pre .2) (s .pre .3) _ (given .0) _ _ (given .1), first-writable _ (s .args .out .now) (s .pre .0) (s .pre .2) (s .pre .3) _ (given .0) _ _ (given .1))
 
 same-length : tie.Need-same-length
 same-length c = search needs
 
 returns : tie.Need-returns
 returns c =
-    let s = c .before .before .before .before .before .before .before .before .before .before .before .before .before .before .before .before .before .before .before in
-    let is = c .before .before .before .before .before .before .before .before .before .before .before .start .ensures .0 in
+    let s = c .before .before .before .before .before .before .before .before .before .before .before .before .before .before .before .before .before .before .before .before .before in
+    let given = c .before .before .before .before .before .before .before .before .before .before .before .before .start .ensures .0 in
     let wrote = c .before .before .before .before .write-answer .ensures in
-    stopped _ (s .args .out .now) (s .pre .0) (s .pre .2) (s .pre .3) _ is _ _ (wrote .0) (wrote .1) (not-true _ (c .if1 .taken))
+    stopped _ (s .args .out .now) (s .pre .0) (s .pre .2) (s .pre .3) _ (given .0) _ _ (given .1) _ _ (wrote .0) (wrote .1) (not-true _ (c .if1 .taken))
 
 slice-aggregate-play : tie.Need-slice-aggregate-play
 slice-aggregate-play c = search needs
@@ -54,24 +57,28 @@ slice-aggregate-play-4 c = search needs
 slice-aggregate-play-5 : tie.Need-slice-aggregate-play-5
 slice-aggregate-play-5 c = search needs
 
+slice-aggregate-play-6 : tie.Need-slice-aggregate-play-6
+slice-aggregate-play-6 c = search needs
+
 play-requires : tie.Need-play-requires
 play-requires c κs =
-    let s = c .before .before .before .before .before .before .before .before .before .before .before .before .before .before .before .before .before .before .before .before .before .before .before .before .before .before in
-    let is = c .before .before .before .before .before .before .before .before .before .before .before .before .before .before .before .before .before .before .start .ensures .0 in
-    let sizes = c .before .before .before .before .before .before .before .before .before .before .before .before .before .before .before .before .before .before .start .ensures in
+    let s = c .before .before .before .before .before .before .before .before .before .before .before .before .before .before .before .before .before .before .before .before .before .before .before .before .before .before .before .before in
+    let given = c .before .before .before .before .before .before .before .before .before .before .before .before .before .before .before .before .before .before .before .start .ensures .0 in
     let wrote = c .before .before .before .before .before .before .before .before .before .before .before .write-answer .ensures in
-    ((left-reached _ (s .args .out .now) (s .pre .0) (s .pre .2) (s .pre .3) _ is _ _ (wrote .0) (wrote .1), left-within _ (s .args .out .now) (s .pre .0) (s .pre .2) (s .pre .3) _ is _ _ (wrote .0) (wrote .1), s .pre .1, left-few _ (s .args .out .now) (s .pre .0) (s .pre .2) (s .pre .3) _ is _ _ (wrote .0) (wrote .1), left-room _ (s .args .out .now) (s .pre .0) (s .pre .2) (s .pre .3) _ is _ _ (wrote .0) (wrote .1)), sizes .1, sizes .2, sizes .3, sizes .4, sizes .5)
+    let sizes = c .before .before .before .before .before .before .before .before .before .before .before .before .before .before .before .before .before .before .before .start .ensures in
+    let at = not-false _ (c .before .before .before .before .before .before .before .if1 .left) in
+    ((left-reached _ (s .args .out .now) (s .pre .0) (s .pre .2) (s .pre .3) _ (given .0) _ _ (given .1) _ _ (wrote .0) (wrote .1) at, left-within _ (s .args .out .now) (s .pre .0) (s .pre .2) (s .pre .3) _ (given .0) _ _ (given .1) _ _ (wrote .0) (wrote .1), s .pre .1, left-few _ (s .args .out .now) (s .pre .0) (s .pre .2) (s .pre .3) _ (given .0) _ _ (given .1) _ _ (wrote .0) (wrote .1), left-room _ (s .args .out .now) (s .pre .0) (s .pre .2) (s .pre .3) _ (given .0) _ _ (given .1) _ _ (wrote .0) (wrote .1)), sizes .1, sizes .2, sizes .3, sizes .4, sizes .5)
 
 same-length-2 : tie.Need-same-length-2
 same-length-2 c = search needs
 
 returns-2 : tie.Need-returns-2
 returns-2 c =
-    let s = c .before .before .before .before .before .before .before .before .before .before .before .before .before .before .before .before .before .before .before .before .before .before .before .before .before .before .before .before .before .before .before .before .before .before in
-    let is = c .before .before .before .before .before .before .before .before .before .before .before .before .before .before .before .before .before .before .before .before .before .before .before .before .before .before .start .ensures .0 in
+    let s = c .before .before .before .before .before .before .before .before .before .before .before .before .before .before .before .before .before .before .before .before .before .before .before .before .before .before .before .before .before .before .before .before .before .before .before .before in
+    let given = c .before .before .before .before .before .before .before .before .before .before .before .before .before .before .before .before .before .before .before .before .before .before .before .before .before .before .before .start .ensures .0 in
     let wrote = c .before .before .before .before .before .before .before .before .before .before .before .before .before .before .before .before .before .before .before .write-answer .ensures in
     let all = c .before .before .before .before .before .before .before .play .ensures in
-    gone-on _ (s .args .out .now) (s .pre .0) (s .pre .2) (s .pre .3) _ is _ _ (wrote .0) (wrote .1) (not-false _ (c .before .before .before .before .before .before .before .before .before .before .before .before .before .before .before .if1 .left)) _ _ (all .0) (all .1) (all .2)
+    gone-on _ (s .args .out .now) (s .pre .0) (s .pre .2) (s .pre .3) _ (given .0) _ _ (given .1) _ _ (wrote .0) (wrote .1) (not-false _ (c .before .before .before .before .before .before .before .before .before .before .before .before .before .before .before .if1 .left)) _ _ (all .0) (all .1) (all .2)
 
 pub answer-script-spec : {M : Type 1} → statement M
 answer-script-spec =
@@ -82,6 +89,7 @@ answer-script-spec =
     slice-aggregate-start-3
     slice-aggregate-start-4
     slice-aggregate-start-5
+    slice-aggregate-start-6
     start-requires
     write-answer-requires
     same-length
@@ -91,6 +99,7 @@ answer-script-spec =
     slice-aggregate-play-3
     slice-aggregate-play-4
     slice-aggregate-play-5
+    slice-aggregate-play-6
     play-requires
     same-length-2
     returns-2)
