@@ -1,6 +1,6 @@
 -- What a call hands back: the ledger's answer, and the book of the ledger's next step.
 use Prim.Native.Nat.{ℕ}
-use mathlib.Core.Bool.{cond}
+use mathlib.Core.Bool.{Bool, cond}
 use mathlib.Core.List.{List}
 use Rattle.tariff.specs.Metered.{blocksOf, sameLengths}
 use Rattle.migration.specs.Netting.{classLinesOf, sameCounts}
@@ -28,9 +28,12 @@ handed b c =
 unfoldable pub told : Book → Query → Answer
 told b q = answerOf (season.answer (openedWith b) (ledgerOf b) (season.query q))
 
--- an answer beside a book with these figures
+-- an answer beside a book with these figures, and with these marks too
+unfoldable pub besidePostings : Book → Answer → List ℕ → List Bool → Answered
+besidePostings b answer figures marks = record { answer = answer; book = bookIn (b .opening) figures marks (b .entries) }
+
 unfoldable pub besideFigures : Book → Answer → List ℕ → Answered
-besideFigures b answer figures = record { answer = answer; book = bookIn (b .opening) figures (b .marks) (b .entries) }
+besideFigures b answer figures = besidePostings b answer figures (b .marks)
 
 -- slices of unequal length are no blocks and no class lines: the call is refused as unreadable, and the book stays as it was
 unfoldable pub handedBlocks : Book → ℕ → ℕ → ℕ → ℕ → ℕ → List ℕ → List ℕ → List ℕ → Answered

@@ -2,7 +2,7 @@
 use records::answers::Answer;
 use tariff::evidence::Entry;
 ghost use mathlib.Core.Path.{_≡_};
-ghost use Rattle.book.specs.Handed.{refusedWith};
+ghost use Rattle.book.specs.Handed.{refusedWith, besideFigures, besidePostings};
 
 pub struct Book {
     pub opening: [u64; 76],
@@ -23,4 +23,29 @@ pub fn refused(b: Book, number: u64) -> Answered
 {
     let answer = Answer::Refused(number);
     Answered { answer, book: b }
+}
+
+// The book with other figures, beside an answer.
+pub fn with_figures(b: Book, answer: Answer, figures: [u64; 2946]) -> Answered
+    ensures { λ r. ⌜ r ≡ besideFigures b answer figures ⌝ }
+{
+    let marks = b.marks;
+    with_postings(b, answer, figures, marks)
+}
+
+// The book with other figures and marks, beside an answer.
+pub fn with_postings(b: Book, answer: Answer, figures: [u64; 2946], marks: [bool; 1024]) -> Answered
+    ensures { λ r. ⌜ r ≡ besidePostings b answer figures marks ⌝ }
+{
+    let opening = b.opening;
+    let entries = b.entries;
+    Answered {
+        answer,
+        book: Book {
+            opening,
+            figures,
+            marks,
+            entries,
+        },
+    }
 }

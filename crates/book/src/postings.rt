@@ -1,6 +1,8 @@
 // The calls that post (01, Posting), and migration (01, Migration): the book's arrays are lent to the call, and the next book is made of them.
 use crate::book::Answered;
 use crate::book::Book;
+use crate::book::with_figures;
+use crate::book::with_postings;
 use moves::migrate::migrate;
 use posting::carry::carry;
 use posting::load::load;
@@ -43,16 +45,7 @@ impl Book {
             hours,
             kws,
         );
-        let entries = self.entries;
-        Answered {
-            answer,
-            book: Book {
-                opening,
-                figures,
-                marks,
-                entries,
-            },
-        }
+        with_postings(self, answer, figures, marks)
     }
 
     // Carries kw in for a holder on a path.
@@ -64,16 +57,7 @@ impl Book {
         let mut figures = self.figures;
         let mut marks = self.marks;
         let answer = carry(&opening, &mut figures, &mut marks, h, p, kw);
-        let entries = self.entries;
-        Answered {
-            answer,
-            book: Book {
-                opening,
-                figures,
-                marks,
-                entries,
-            },
-        }
+        with_postings(self, answer, figures, marks)
     }
 
     // Posts the prior of a holder on a path.
@@ -85,16 +69,7 @@ impl Book {
         let mut figures = self.figures;
         let mut marks = self.marks;
         let answer = prior(&opening, &mut figures, &mut marks, h, p, a, l);
-        let entries = self.entries;
-        Answered {
-            answer,
-            book: Book {
-                opening,
-                figures,
-                marks,
-                entries,
-            },
-        }
+        with_postings(self, answer, figures, marks)
     }
 
     // Files evidence of a holder for a source.
@@ -168,16 +143,6 @@ impl Book {
             customers,
             watts,
         );
-        let marks = self.marks;
-        let entries = self.entries;
-        Answered {
-            answer,
-            book: Book {
-                opening,
-                figures,
-                marks,
-                entries,
-            },
-        }
+        with_figures(self, answer, figures)
     }
 }

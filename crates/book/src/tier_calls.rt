@@ -1,7 +1,7 @@
 // The calls of the tiers (01, Tiers): the book's arrays are lent to the call, and the next book is made of them.
 use crate::book::Answered;
 use crate::book::Book;
-use records::answers::Answer;
+use crate::book::with_figures;
 use tiers::award::award;
 use tiers::nominate::nominate;
 use tiers::turns::close_tier;
@@ -10,26 +10,8 @@ use tiers::verification::evidence_place;
 use tiers::verification::verified_kw;
 ghost use mathlib.Core.Path.{_≡_};
 ghost use Rattle.ledger.specs.Call.{openTier, nominate, award, closeTier};
-ghost use Rattle.book.specs.Handed.{besideFigures, handed};
+ghost use Rattle.book.specs.Handed.{handed};
 ghost use Rattle.book.specs.Reached.{Reached};
-
-// The book with other figures, beside an answer.
-fn with_figures(b: Book, answer: Answer, figures: [u64; 2946]) -> Answered
-    ensures { λ r. ⌜ r ≡ besideFigures b answer figures ⌝ }
-{
-    let opening = b.opening;
-    let marks = b.marks;
-    let entries = b.entries;
-    Answered {
-        answer,
-        book: Book {
-            opening,
-            figures,
-            marks,
-            entries,
-        },
-    }
-}
 
 impl Book {
     // Opens a tier.

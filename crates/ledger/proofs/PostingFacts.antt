@@ -11,15 +11,16 @@ use Rattle.tariff.specs.Load.{Block, blocksBroken, tooManyMissing}
 use Rattle.tariff.specs.Terms.{firstTierOf}
 use Rattle.tariff.specs.Evidence.{highestRight}
 use Rattle.tariff.proofs.Tests.{or-unmet}
+use Rattle.tariff.proofs.EvidenceRange.{evidence-facts}
 use Rattle.ledger.specs.Opening.{Opening, pathSink}
 use Rattle.ledger.specs.Ledger.{Ledger}
 use Rattle.ledger.specs.Call.{load, carry, prior, verify}
-use Rattle.tariff.specs.Ranges.{wrongTerm, mostKw, wrongEvidence}
+use Rattle.tariff.specs.Ranges.{wrongTerm, mostKw}
 use Rattle.ledger.specs.Ranges.{noHolder, noSource, noSink, noPath, wrongLoad, wrongPrior}
 use Rattle.ledger.specs.Calendar.{loadInTime}
 use Rattle.ledger.specs.Causes.{callCauses, loadCauses, carryCauses, priorCauses, verifyCauses, sinkNotFor, isSubLap}
 use Rattle.ledger.specs.Season.{accepted}
-use Rattle.ledger.proofs.Unmet.{unmet, accepted-zero, is-within, kw-in-range, none-open, before-tier, is-month}
+use Rattle.ledger.proofs.Unmet.{unmet, accepted-zero, is-within, kw-in-range, none-open, before-tier}
 
 pub record LoadFacts (o : Opening) (L : Ledger) (h s term contract n : ℕ) (blocks : List Block) : Type 0 where
   pub holder : h < o .holders
@@ -150,29 +151,22 @@ pub record VerifyFacts (o : Opening) (L : Ledger) (h s kind capacity right first
   pub new : L .papers .posted h s kind ≡ false
 
 pub verify-facts : (o : Opening) (L : Ledger) (h s kind capacity right first last : ℕ) → accepted o L (verify h s kind capacity right first last) ≡ true → VerifyFacts o L h s kind capacity right first last
-unfolding callCauses verifyCauses noHolder noSource wrongEvidence
+unfolding callCauses verifyCauses noHolder noSource
 verify-facts o L h s kind capacity right first last e =
     let r2 = unmet 1 _ _ (accepted-zero o L (verify h s kind capacity right first last) e) in
     let r3 = unmet 2 _ _ (r2 .1) in
     let r4 = unmet 3 _ _ (r3 .1) in
     let r5 = unmet 4 _ _ (r4 .1) in
     let inBook = or-unmet _ _ (r2 .0) in
-    let order = or-unmet _ _ (r3 .0) in
-    let lastMonth = or-unmet _ _ (order .0) in
-    let firstMonth = or-unmet _ _ (lastMonth .0) in
-    let rightRange = or-unmet _ _ (firstMonth .0) in
-    let kindRange = or-unmet _ _ (rightRange .0) in
-    let range = kw-in-range capacity (kindRange .1) in
-    let early = is-month first (firstMonth .1) in
-    let late = is-month last (lastMonth .1) in
+    let evidence = evidence-facts kind capacity right first last (r3 .0) in
     record {
       holder = leb-false _ _ (inBook .0);
       source = leb-false _ _ (inBook .1);
-      kinds = is-within 1 2 kind (kindRange .0);
-      low = range .0;
-      high = range .1;
-      rights = is-within 1 (highestRight kind capacity) right (rightRange .1);
-      months = (early .0, ltb-false _ _ (order .1), late .1);
+      kinds = evidence .kinds;
+      low = evidence .capacities .0;
+      high = evidence .capacities .1;
+      rights = evidence .rights;
+      months = evidence .months;
       idle = none-open L (r4 .0);
       new = r5 .0;
     }

@@ -4,15 +4,15 @@ use mathlib.Core.Path.{_≡_, refl}
 use mathlib.Core.Bool.{Bool, true, false, not, _&&_}
 use mathlib.Core.List.{List, _∷_}
 use native.Mathlib.Omega.{arith}
-use lib.Dec.{leb, ltb, eqb}
-use borrow.Author.Tests.{ltb-true, leb-true, eqb-true, eqb-false, not-true, not-false}
-use Rattle.tariff.specs.Terms.{isMonth}
+use lib.Dec.{ltb, eqb}
+use borrow.Author.Tests.{ltb-true, eqb-true, eqb-false, not-true, not-false}
 use Rattle.tariff.proofs.Tests.{and-both}
+use Rattle.tariff.proofs.EvidenceRange.{within-bounds}
 use Rattle.ledger.specs.Opening.{Opening}
 use Rattle.ledger.specs.Ledger.{Ledger}
 use Rattle.ledger.specs.Call.{Call}
 use Rattle.ledger.specs.Numbers.{Cause, cause, firstMet}
-use Rattle.tariff.specs.Ranges.{within, wrongKw, wrongMonth, mostKw}
+use Rattle.tariff.specs.Ranges.{within, wrongKw, mostKw}
 use Rattle.ledger.specs.Calendar.{tierIsOpen, beforeTier}
 use Rattle.ledger.specs.Causes.{refusal, callCauses}
 use Rattle.ledger.specs.Season.{accepted}
@@ -28,20 +28,11 @@ unfolding accepted refusal
 accepted-zero o L c e = eqb-true (firstMet (callCauses o L c)) 0 e
 
 pub is-within : (low high x : ℕ) → not (within low high x) ≡ false → (low ≤ x) × (x ≤ high)
-unfolding within
-is-within low high x e =
-    let both = and-both (leb low x) (leb x high) (not-false (leb low x && leb x high) e) in
-    (leb-true low x (both .0), leb-true x high (both .1))
+is-within low high x e = within-bounds low high x (not-false _ e)
 
 pub kw-in-range : (kw : ℕ) → wrongKw kw ≡ false → (1 ≤ kw) × (kw ≤ mostKw)
 unfolding wrongKw
 kw-in-range kw e = is-within 1 mostKw kw e
-
-pub is-month : (m : ℕ) → wrongMonth m ≡ false → (1 ≤ m) × (m ≤ 3)
-unfolding wrongMonth isMonth
-is-month m e =
-    let both = and-both (leb 1 m) (leb m 3) (not-false (leb 1 m && leb m 3) e) in
-    (leb-true 1 m (both .0), leb-true m 3 (both .1))
 
 -- a tier is open: the number of the open one is not 0
 pub open-number : (L : Ledger) → not (tierIsOpen L) ≡ false → 1 ≤ L .tiers .openNow

@@ -145,36 +145,11 @@ pub fn move_all(f: &mut [u64], o: &[u64], term: u64, sink: u64, x: Moved)
     let first = pick(season, 1, term);
     let past = pick(season, 4, term + 1);
     shift_paths(&mut f[CARRIED..AWARDED], 3, 1, first, past, o, sink, x);
-    let awarded_past = pick(season, 1, term + 1);
-    shift_paths(
-        &mut f[AWARDED..ALLOCATED],
-        3,
-        1,
-        first,
-        awarded_past,
-        o,
-        sink,
-        x,
-    );
-    let priors_past = pick(season, 1, 0);
-    shift_paths(
-        &mut f[ALLOCATED..RENEWABLE],
-        1,
-        0,
-        0,
-        priors_past,
-        o,
-        sink,
-        x,
-    );
-    shift_paths(
-        &mut f[RENEWABLE..NOMINATED],
-        1,
-        0,
-        0,
-        priors_past,
-        o,
-        sink,
-        x,
-    );
+    // Of the awarded holdings the season has no month, a month itself.
+    let until = pick(season, 1, term + 1);
+    shift_paths(&mut f[AWARDED..ALLOCATED], 3, 1, first, until, o, sink, x);
+    // Last year's allocations have one figure a path, and move with the season.
+    let once = pick(season, 1, 0);
+    shift_paths(&mut f[ALLOCATED..RENEWABLE], 1, 0, 0, once, o, sink, x);
+    shift_paths(&mut f[RENEWABLE..NOMINATED], 1, 0, 0, once, o, sink, x);
 }

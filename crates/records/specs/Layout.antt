@@ -9,6 +9,13 @@ use Rattle.records.specs.Parts.{Parts}
 use Rattle.records.specs.Opening.{setupIn, setupOf, emptyOpening}
 use Rattle.records.specs.Reading.{ledgerOf, partsOf}
 
+-- the tier last closed and the open one, 0 for none, stand behind all figures
+abbrev pub lastClosedIn : List ℕ → ℕ
+lastClosedIn f = getD f 2944 0
+
+abbrev pub openTierIn : List ℕ → ℕ
+openTierIn f = getD f 2945 0
+
 -- the parts that stand in the arrays
 unfoldable pub partsIn : List ℕ → List ℕ → List Bool → List Entry → Parts
 partsIn o f m x =
@@ -18,7 +25,7 @@ partsIn o f m x =
       rights = record { carried = take 384 (drop 512 f); awarded = take 384 (drop 896 f); posted = take 128 (drop 512 m) };
       priors = record { allocated = take 128 (drop 1280 f); renewable = take 128 (drop 1408 f); posted = take 128 (drop 640 m) };
       papers = record { entries = x; posted = take 256 (drop 768 m) };
-      tiers = record { nominated = take 128 (drop 1536 f); awards = take 1280 (drop 1664 f); lastClosed = getD f 2944 0; openNow = getD f 2945 0 };
+      tiers = record { nominated = take 128 (drop 1536 f); awards = take 1280 (drop 1664 f); lastClosed = lastClosedIn f; openNow = openTierIn f };
     }
 
 -- the ledger that stands in the arrays

@@ -6,19 +6,19 @@ ghost use mathlib.Core.Path.{_≡_};
 ghost use mathlib.Core.Bool.{not, _&&_, _||_};
 ghost use lib.Dec.{leb, ltb, eqb};
 ghost use Prim.Native.Nat.{suc};
-ghost use lib.ListN.{getD};
 ghost use Rattle.tariff.specs.Terms.{firstTierOf};
+ghost use Rattle.records.specs.Layout.{lastClosedIn, openTierIn};
 
 // The tier last closed, 0 for none.
 pub fn last_closed(figures: &[u64]) -> u64
-    ensures { λ r. ⌜ r ≡ getD (now (figures .entry)) 2944 0 ⌝ }
+    ensures { λ r. ⌜ r ≡ lastClosedIn (now (figures .entry)) ⌝ }
 {
     number_at(figures, LAST_CLOSED)
 }
 
 // The open tier, 0 for none.
 pub fn open_now(figures: &[u64]) -> u64
-    ensures { λ r. ⌜ r ≡ getD (now (figures .entry)) 2945 0 ⌝ }
+    ensures { λ r. ⌜ r ≡ openTierIn (now (figures .entry)) ⌝ }
 {
     number_at(figures, OPEN_NOW)
 }

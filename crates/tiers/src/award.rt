@@ -19,18 +19,17 @@ ghost use mathlib.Core.Path.{_≡_};
 ghost use mathlib.Core.Bool.{Bool};
 ghost use mathlib.Core.List.{List};
 ghost use Prim.Native.Nat.{_<_, _≤_};
-ghost use lib.ListN.{getD};
 ghost use Rattle.tariff.specs.declared.evidence.Entry.{Entry};
 ghost use Rattle.ledger.specs.Call.{award};
 ghost use Rattle.ledger.specs.Causes.{beyondNominated, refusal};
 ghost use Rattle.records.specs.Opening.{openingIn};
-ghost use Rattle.records.specs.Layout.{ledgerIn};
+ghost use Rattle.records.specs.Layout.{ledgerIn, openTierIn};
 ghost use Rattle.records.specs.Handed.{Kept, Reached, Handed};
 
 // Cause 14: with kw more, a holder's awards on a path exceed its nominations in the open tier.
 fn beyond_nominated(o: &[u64], f: &[u64], h: u64, p: u64, kw: u64) -> bool
     requires { ⌜ (kw ≤ 99999999) × (p < openingIn (now o) .paths) × (Kept (now o) (now f) × (h < openingIn (now o) .holders)) ⌝ }
-    ensures { λ r. ⌜ ((m : List Bool) (x : List Entry) → r ≡ beyondNominated (ledgerIn (now (f .entry)) m x) (getD (now (f .entry)) 2945 0) h p kw) ⌝ }
+    ensures { λ r. ⌜ ((m : List Bool) (x : List Entry) → r ≡ beyondNominated (ledgerIn (now (f .entry)) m x) (openTierIn (now (f .entry))) h p kw) ⌝ }
 {
     let nominated = read(f, NOMINATED, 1, 0, h, p, 0);
     let wanted = read(f, AWARDS, 10, 0, h, p, open_now(f)) + kw;

@@ -23,7 +23,6 @@ ghost use mathlib.Core.Path.{_≡_};
 ghost use mathlib.Core.Bool.{Bool};
 ghost use mathlib.Core.List.{List};
 ghost use Prim.Native.Nat.{_<_};
-ghost use lib.ListN.{getD};
 ghost use Rattle.tariff.specs.declared.evidence.Entry.{Entry};
 ghost use Rattle.tariff.specs.Sum.{listTo};
 ghost use Rattle.ledger.specs.Opening.{pathBase};
@@ -31,7 +30,7 @@ ghost use Rattle.ledger.specs.Call.{limitOf};
 ghost use Rattle.ledger.specs.Causes.{queryRefusal};
 ghost use Rattle.ledger.specs.Limits.{longTermAt, priorYearAt, awardsAt, nominatedAt, limitSums, tierLimit};
 ghost use Rattle.records.specs.Opening.{openingIn};
-ghost use Rattle.records.specs.Layout.{ledgerIn};
+ghost use Rattle.records.specs.Layout.{ledgerIn, openTierIn};
 ghost use Rattle.records.specs.Handed.{Kept, toldBy};
 
 // LT: a holder's carried holding at a base in a month.
@@ -61,7 +60,7 @@ fn awards_at(o: &[u64], bases: &[u64], f: &[u64], h: u64, base: u64, tier: u64) 
 // A holder's nominations at a base in the open tier.
 pub fn nominated_at(o: &[u64], f: &[u64], h: u64, base: u64) -> u64
     requires { ⌜ Kept (now o) (now f) × (h < openingIn (now o) .holders) ⌝ }
-    ensures { λ r. ⌜ ((m : List Bool) (x : List Entry) → r ≡ nominatedAt (openingIn (now (o .entry))) (ledgerIn (now (f .entry)) m x) h base (getD (now (f .entry)) 2945 0)) ⌝ }
+    ensures { λ r. ⌜ ((m : List Bool) (x : List Entry) → r ≡ nominatedAt (openingIn (now (o .entry))) (ledgerIn (now (f .entry)) m x) h base (openTierIn (now (f .entry)))) ⌝ }
 {
     let bases = path_bases(o);
     sum_at_base(o, &bases, f, NOMINATED, 1, 0, h, 0, base)

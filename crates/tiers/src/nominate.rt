@@ -24,20 +24,19 @@ ghost use mathlib.Core.Path.{_≡_};
 ghost use mathlib.Core.Bool.{Bool, _||_, _&&_};
 ghost use mathlib.Core.List.{List};
 ghost use lib.Dec.{eqb};
-ghost use lib.ListN.{getD};
 ghost use Prim.Native.Nat.{_<_, _≤_};
 ghost use Rattle.tariff.specs.declared.evidence.Entry.{Entry};
 ghost use Rattle.ledger.specs.Opening.{pathSink};
 ghost use Rattle.ledger.specs.Call.{nominate};
 ghost use Rattle.ledger.specs.Causes.{sinkNotFor, isSubLap, beyondVerified, beyondRenewable, beyondLimit, refusal};
 ghost use Rattle.records.specs.Opening.{openingIn};
-ghost use Rattle.records.specs.Layout.{ledgerIn};
+ghost use Rattle.records.specs.Layout.{ledgerIn, openTierIn};
 ghost use Rattle.records.specs.Handed.{Kept, Reached, Handed};
 ghost use Rattle.tiers.specs.Verified.{Verified};
 
 // Cause 10: the path's sink is not for the holder, or is a Sub-LAP in tier 1.
 fn sink_not_for_it(o: &[u64], f: &[u64], h: u64, p: u64) -> bool
-    ensures { λ r. ⌜ r ≡ (sinkNotFor (openingIn (now (o .entry))) h (pathSink (openingIn (now (o .entry))) p) || (eqb (getD (now (f .entry)) 2945 0) 1 && isSubLap (openingIn (now (o .entry))) (pathSink (openingIn (now (o .entry))) p))) ⌝ }
+    ensures { λ r. ⌜ r ≡ (sinkNotFor (openingIn (now (o .entry))) h (pathSink (openingIn (now (o .entry))) p) || (eqb (openTierIn (now (f .entry))) 1 && isSubLap (openingIn (now (o .entry))) (pathSink (openingIn (now (o .entry))) p))) ⌝ }
 {
     let sink = path_sink(o, p);
     let sub_lap = (open_now(f) == 1) & is_sub_lap(o, sink);
@@ -47,7 +46,7 @@ fn sink_not_for_it(o: &[u64], f: &[u64], h: u64, p: u64) -> bool
 // Cause 11: with kw more, an outside entity draws more than it has verified.
 fn beyond_verified(o: &[u64], f: &[u64], verified: u64, h: u64, p: u64, kw: u64) -> bool
     requires { ⌜ (kw ≤ 99999999) × (Kept (now o) (now f) × (h < openingIn (now o) .holders)) ⌝ }
-    ensures { λ r. ⌜ ((m : List Bool) (x : List Entry) → Verified (now (o .entry)) (now (f .entry)) m x h p verified → r ≡ beyondVerified (openingIn (now (o .entry))) (ledgerIn (now (f .entry)) m x) (getD (now (f .entry)) 2945 0) h p kw) ⌝ }
+    ensures { λ r. ⌜ ((m : List Bool) (x : List Entry) → Verified (now (o .entry)) (now (f .entry)) m x h p verified → r ≡ beyondVerified (openingIn (now (o .entry))) (ledgerIn (now (f .entry)) m x) (openTierIn (now (f .entry))) h p kw) ⌝ }
 {
     let kind = holder_kind(o, h);
     if kind != 2 {
@@ -61,7 +60,7 @@ fn beyond_verified(o: &[u64], f: &[u64], verified: u64, h: u64, p: u64, kw: u64)
 // Cause 12: with kw more, a holder's tier 1 nominations on a path exceed what is left of last year's allocation.
 fn beyond_renewable(o: &[u64], f: &[u64], h: u64, p: u64, kw: u64) -> bool
     requires { ⌜ (kw ≤ 99999999) × (p < openingIn (now o) .paths) × (Kept (now o) (now f) × (h < openingIn (now o) .holders)) ⌝ }
-    ensures { λ r. ⌜ ((m : List Bool) (x : List Entry) → r ≡ beyondRenewable (ledgerIn (now (f .entry)) m x) (getD (now (f .entry)) 2945 0) h p kw) ⌝ }
+    ensures { λ r. ⌜ ((m : List Bool) (x : List Entry) → r ≡ beyondRenewable (ledgerIn (now (f .entry)) m x) (openTierIn (now (f .entry))) h p kw) ⌝ }
 {
     let renewable = read(f, RENEWABLE, 1, 0, h, p, 0);
     let wanted = read(f, NOMINATED, 1, 0, h, p, 0) + kw;
@@ -71,7 +70,7 @@ fn beyond_renewable(o: &[u64], f: &[u64], h: u64, p: u64, kw: u64) -> bool
 // Cause 13: with kw more, a holder's nominations at the path's base exceed the limit.
 fn beyond_limit(o: &[u64], f: &[u64], h: u64, p: u64, kw: u64) -> bool
     requires { ⌜ (kw ≤ 99999999) × (Kept (now o) (now f) × (h < openingIn (now o) .holders)) ⌝ }
-    ensures { λ r. ⌜ ((m : List Bool) (x : List Entry) → r ≡ beyondLimit (openingIn (now (o .entry))) (ledgerIn (now (f .entry)) m x) (getD (now (f .entry)) 2945 0) h p kw) ⌝ }
+    ensures { λ r. ⌜ ((m : List Bool) (x : List Entry) → r ≡ beyondLimit (openingIn (now (o .entry))) (ledgerIn (now (f .entry)) m x) (openTierIn (now (f .entry))) h p kw) ⌝ }
 {
     let base = path_base(o, p);
     let limit = tier_limit_of(o, f, open_now(f), h, base);

@@ -14,7 +14,6 @@ ghost use mathlib.Core.Path.{_≡_};
 ghost use mathlib.Core.Bool.{Bool};
 ghost use mathlib.Core.List.{List};
 ghost use Prim.Native.Nat.{ℕ, _+_, _<_, _≤_};
-ghost use lib.ListN.{getD};
 ghost use Rattle.tariff.specs.declared.evidence.Entry.{Entry};
 ghost use Rattle.tariff.specs.Evidence.{entryKw};
 ghost use Rattle.tariff.specs.Ranges.{mostKw};
@@ -22,7 +21,7 @@ ghost use Rattle.tariff.specs.Sum.{countIf};
 ghost use Rattle.tariff.specs.Terms.{termOf};
 ghost use Rattle.ledger.specs.Verification.{sumFromSource, drawsOnSame, drawnBefore, drawn};
 ghost use Rattle.records.specs.Opening.{openingIn};
-ghost use Rattle.records.specs.Layout.{ledgerIn};
+ghost use Rattle.records.specs.Layout.{ledgerIn, openTierIn};
 ghost use Rattle.records.specs.Handed.{Kept};
 ghost use Rattle.tiers.specs.Verified.{evidencePlace};
 
@@ -50,7 +49,7 @@ pub fn evidence_place(o: &[u64], h: u64, p: u64) -> Place
 // A holder's verified kW for the open tier's term, of the two entries where its evidence stands: ownership and contract add.
 pub fn verified_kw(f: &[u64], there: bool, owned: Entry, contract: Entry) -> u64
     requires { ⌜ ((term : ℕ) → (entryKw term owned ≤ mostKw) × (entryKw term contract ≤ mostKw)) ⌝ }
-    ensures { λ r. ⌜ r ≡ countIf there (entryKw (termOf (getD (now (f .entry)) 2945 0)) owned + entryKw (termOf (getD (now (f .entry)) 2945 0)) contract) ⌝ }
+    ensures { λ r. ⌜ r ≡ countIf there (entryKw (termOf (openTierIn (now (f .entry)))) owned + entryKw (termOf (openTierIn (now (f .entry)))) contract) ⌝ }
 {
     if !there {
         return 0;
@@ -77,7 +76,7 @@ fn awards_from(o: &[u64], f: &[u64], h: u64, s: u64, tier: u64) -> u64
 // A holder's nominations from a source in the open tier.
 fn nominated_from(o: &[u64], f: &[u64], h: u64, s: u64) -> u64
     requires { ⌜ Kept (now o) (now f) × (h < openingIn (now o) .holders) ⌝ }
-    ensures { λ r. ⌜ ((m : List Bool) (x : List Entry) → r ≡ sumFromSource (openingIn (now (o .entry))) s (λ p. ledgerIn (now (f .entry)) m x .tiers .nominated h p (getD (now (f .entry)) 2945 0))) ⌝ }
+    ensures { λ r. ⌜ ((m : List Bool) (x : List Entry) → r ≡ sumFromSource (openingIn (now (o .entry))) s (λ p. ledgerIn (now (f .entry)) m x .tiers .nominated h p (openTierIn (now (f .entry))))) ⌝ }
 {
     sum_from_source(o, f, NOMINATED, 1, 0, h, 0, s)
 }
@@ -98,7 +97,7 @@ fn drawn_before(o: &[u64], f: &[u64], tier: u64, h: u64, s: u64) -> u64
 // What a holder uses of its evidence for a source in the open tier.
 pub fn drawn_now(o: &[u64], f: &[u64], h: u64, s: u64) -> u64
     requires { ⌜ Kept (now o) (now f) × (h < openingIn (now o) .holders) ⌝ }
-    ensures { λ r. ⌜ ((m : List Bool) (x : List Entry) → r ≡ drawn (openingIn (now (o .entry))) (ledgerIn (now (f .entry)) m x) (getD (now (f .entry)) 2945 0) h s) ⌝ }
+    ensures { λ r. ⌜ ((m : List Bool) (x : List Entry) → r ≡ drawn (openingIn (now (o .entry))) (ledgerIn (now (f .entry)) m x) (openTierIn (now (f .entry))) h s) ⌝ }
 {
     let before = drawn_before(o, f, open_now(f), h, s);
     nominated_from(o, f, h, s) + before

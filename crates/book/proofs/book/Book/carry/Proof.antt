@@ -1,5 +1,7 @@
--- `book::Book::carry` meets its contract: the next book is made of the arrays that were lent. Assumes nothing.
+-- `book::Book::carry` meets its contract: the next book has the figures and the marks that were lent. Assumes nothing.
+use mathlib.Core.Path.{_∙_}
 use Rattle.book.specs.Reading.{bookIn}
+use Rattle.book.specs.Handed.{besidePostings}
 use Rattle.book.proofs.HandedBooks.{handed-book}
 use borrow.Author.Needs.{needs}
 use Rattle.book.proofs.book.Book.carry.Statement.{statement}
@@ -15,11 +17,14 @@ slice-aggregate-carry-3 : tie.Need-slice-aggregate-carry-3
 slice-aggregate-carry-3 c = search needs
 
 carry-requires : tie.Need-carry-requires
-carry-requires c κs = record { entries = _; reached = c .before .before .before .before .before .before .pre }
+carry-requires c κs = search needs
+
+with-postings-requires : tie.Need-with-postings-requires
+with-postings-requires c κs = search needs
 
 returns : tie.Need-returns
-unfolding bookIn
-returns c = handed-book _ _ _ _ _ _ _ _ _ (c .before .before .before .carry .ensures _ (c .before .before .before .before .before .before .before .before .before .before .pre))
+unfolding bookIn besidePostings
+returns c = c .with-postings .ensures ∙ handed-book _ _ _ _ _ _ _ _ _ (c .before .before .before .carry .ensures _ (c .before .before .before .before .before .before .before .before .before .before .pre))
 
 pub carry-spec : {M : Type 1} → statement M
 carry-spec =
@@ -29,4 +34,5 @@ carry-spec =
     slice-aggregate-carry-2
     slice-aggregate-carry-3
     carry-requires
+    with-postings-requires
     returns)

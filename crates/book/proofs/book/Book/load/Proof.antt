@@ -1,6 +1,7 @@
--- `book::Book::load` meets its contract: the next book is made of the arrays that were lent. Assumes nothing.
+-- `book::Book::load` meets its contract: the next book has the figures and the marks that were lent. Assumes nothing.
+use mathlib.Core.Path.{_∙_}
 use Rattle.book.specs.Reading.{bookIn}
-use Rattle.book.specs.Handed.{handedBlocks}
+use Rattle.book.specs.Handed.{besidePostings, handedBlocks}
 use Rattle.book.proofs.HandedBooks.{handed-if}
 use borrow.Author.Needs.{needs}
 use Rattle.book.proofs.book.Book.load.Statement.{statement}
@@ -16,11 +17,14 @@ slice-aggregate-load-3 : tie.Need-slice-aggregate-load-3
 slice-aggregate-load-3 c = search needs
 
 load-requires : tie.Need-load-requires
-load-requires c κs = record { entries = _; reached = c .before .before .before .before .before .before .before .before .before .pre }
+load-requires c κs = search needs
+
+with-postings-requires : tie.Need-with-postings-requires
+with-postings-requires c κs = search needs
 
 returns : tie.Need-returns
-unfolding bookIn handedBlocks
-returns c = handed-if _ _ _ _ _ _ _ _ _ _ (c .before .before .before .load .ensures _ (c .before .before .before .before .before .before .before .before .before .before .before .before .before .pre))
+unfolding bookIn besidePostings handedBlocks
+returns c = c .with-postings .ensures ∙ handed-if _ _ _ _ _ _ _ _ _ _ (c .before .before .before .load .ensures _ (c .before .before .before .before .before .before .before .before .before .before .before .before .before .pre))
 
 pub load-spec : {M : Type 1} → statement M
 load-spec =
@@ -30,4 +34,5 @@ load-spec =
     slice-aggregate-load-2
     slice-aggregate-load-3
     load-requires
+    with-postings-requires
     returns)

@@ -1,6 +1,7 @@
--- `book::Book::migrate` meets its contract: the next book is made of the arrays that were lent. Assumes nothing.
+-- `book::Book::migrate` meets its contract: the next book has the figures that were lent. Assumes nothing.
+use mathlib.Core.Path.{_∙_}
 use Rattle.book.specs.Reading.{bookIn}
-use Rattle.book.specs.Handed.{handedLines}
+use Rattle.book.specs.Handed.{besideFigures, besidePostings, handedLines}
 use Rattle.book.proofs.HandedBooks.{handed-if}
 use borrow.Author.Needs.{needs}
 use Rattle.book.proofs.book.Book.migrate.Statement.{statement}
@@ -13,12 +14,21 @@ slice-aggregate-migrate-2 : tie.Need-slice-aggregate-migrate-2
 slice-aggregate-migrate-2 c = search needs
 
 migrate-requires : tie.Need-migrate-requires
-migrate-requires c κs = record { marks = _; entries = _; reached = c .before .before .before .before .before .before .before .before .before .pre }
+migrate-requires c κs = search needs
+
+with-figures-requires : tie.Need-with-figures-requires
+with-figures-requires c κs = search needs
 
 returns : tie.Need-returns
-unfolding bookIn handedLines
-returns c = handed-if _ _ _ _ _ _ _ _ _ _ (c .before .before .before .migrate .ensures _ _ (c .before .before .before .before .before .before .before .before .before .before .before .before .before .pre))
+unfolding bookIn besideFigures besidePostings handedLines
+returns c = c .with-figures .ensures ∙ handed-if _ _ _ _ _ _ _ _ _ _ (c .before .before .migrate .ensures _ _ (c .before .before .before .before .before .before .before .before .before .before .before .before .pre))
 
 pub migrate-spec : {M : Type 1} → statement M
 migrate-spec =
-    tie.close (tie.spec slice-aggregate-migrate slice-aggregate-migrate-2 migrate-requires returns)
+    tie.close
+    (tie.spec
+    slice-aggregate-migrate
+    slice-aggregate-migrate-2
+    migrate-requires
+    with-figures-requires
+    returns)

@@ -4,7 +4,7 @@ use native.Mathlib.Omega.{arith}
 use Rattle.tariff.specs.Evidence.{noEntry}
 use Rattle.tiers.proofs.EvidenceLaws.{place-below, place-fits, place-verified}
 use Rattle.book.specs.Reading.{bookIn}
-use Rattle.book.specs.Handed.{besideFigures}
+use Rattle.book.specs.Handed.{besideFigures, besidePostings}
 use Rattle.book.proofs.HandedBooks.{handed-book}
 use borrow.Author.Needs.{needs}
 use Rattle.book.proofs.book.Book.nominate.Statement.{statement}
@@ -51,7 +51,7 @@ with-figures-requires : tie.Need-with-figures-requires
 with-figures-requires c κs = search needs
 
 returns : tie.Need-returns
-unfolding bookIn besideFigures noEntry
+unfolding bookIn besideFigures besidePostings noEntry
 returns c =
     c .with-figures .ensures
     ∙ handed-book _ _ _ _ _ _ _ _ _ (c .before .before .nominate .ensures _ _ (c .before .before .before .before .before .before .before .before .before .before .before .before .before .before .pre) (λ e. place-verified _ _ _ _ (c .before .before .before .before .before .before .before .before .before .evidence-place .ensures) _ _ _ _ _ (c .before .before .before .before .before .verified-kw .ensures)))

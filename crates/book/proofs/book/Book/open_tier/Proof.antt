@@ -2,7 +2,7 @@
 use mathlib.Core.Path.{_∙_}
 use Rattle.records.proofs.ReachedParts.{figures-sized}
 use Rattle.book.specs.Reading.{bookIn}
-use Rattle.book.specs.Handed.{besideFigures}
+use Rattle.book.specs.Handed.{besideFigures, besidePostings}
 use Rattle.book.proofs.HandedBooks.{handed-book}
 use borrow.Author.Needs.{needs}
 use Rattle.book.proofs.book.Book.open_tier.Statement.{statement}
@@ -18,7 +18,7 @@ with-figures-requires : tie.Need-with-figures-requires
 with-figures-requires c κs = search needs
 
 returns : tie.Need-returns
-unfolding bookIn besideFigures
+unfolding bookIn besideFigures besidePostings
 returns c = c .with-figures .ensures ∙ handed-book _ _ _ _ _ _ _ _ _ (c .before .before .open-tier .ensures _ _ _ (c .before .before .before .before .before .pre))
 
 pub open-tier-spec : {M : Type 1} → statement M

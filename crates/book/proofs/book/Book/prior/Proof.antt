@@ -1,5 +1,7 @@
--- `book::Book::prior` meets its contract: the next book is made of the arrays that were lent. Assumes nothing.
+-- `book::Book::prior` meets its contract: the next book has the figures and the marks that were lent. Assumes nothing.
+use mathlib.Core.Path.{_∙_}
 use Rattle.book.specs.Reading.{bookIn}
+use Rattle.book.specs.Handed.{besidePostings}
 use Rattle.book.proofs.HandedBooks.{handed-book}
 use borrow.Author.Needs.{needs}
 use Rattle.book.proofs.book.Book.prior.Statement.{statement}
@@ -15,11 +17,14 @@ slice-aggregate-prior-3 : tie.Need-slice-aggregate-prior-3
 slice-aggregate-prior-3 c = search needs
 
 prior-requires : tie.Need-prior-requires
-prior-requires c κs = record { entries = _; reached = c .before .before .before .before .before .before .pre }
+prior-requires c κs = search needs
+
+with-postings-requires : tie.Need-with-postings-requires
+with-postings-requires c κs = search needs
 
 returns : tie.Need-returns
-unfolding bookIn
-returns c = handed-book _ _ _ _ _ _ _ _ _ (c .before .before .before .prior .ensures _ (c .before .before .before .before .before .before .before .before .before .before .pre))
+unfolding bookIn besidePostings
+returns c = c .with-postings .ensures ∙ handed-book _ _ _ _ _ _ _ _ _ (c .before .before .before .prior .ensures _ (c .before .before .before .before .before .before .before .before .before .before .pre))
 
 pub prior-spec : {M : Type 1} → statement M
 prior-spec =
@@ -29,4 +34,5 @@ prior-spec =
     slice-aggregate-prior-2
     slice-aggregate-prior-3
     prior-requires
+    with-postings-requires
     returns)
