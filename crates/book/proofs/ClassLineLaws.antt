@@ -1,7 +1,7 @@
 -- Class lines taken apart into columns: what stands in the columns, what the largest holder number tells, and what a migration of the columns hands back. Assumes nothing.
 use Prim.Native.Nat.{ℕ, zero, suc, max, _+_, _≤_, _<_}
 use mathlib.Core.Path.{_≡_, refl, sym, ap, ap₂, _∙_, subst}
-use mathlib.Core.Bool.{Bool, true, false, cond, _||_, or-true, or-false, or-assoc, or-comm}
+use mathlib.Core.Bool.{Bool, true, false, cond, _||_, or-true, or-false, or-assoc}
 use mathlib.Core.List.{List}
 use mathlib.Core.Logic.{_⊎_, inl, inr}
 use native.Mathlib.Omega.{arith}
@@ -82,9 +82,6 @@ module _ (lines : List ClassLine) (f : ClassLine → ℕ) (column : Columns → 
       (λ q b. filled-more fieldAt k old (fieldAt k) (omega arith) refl (column-filled k (omega arith)) q (omega arith))
 
   module _ (n : ℕ) (few : n ≤ 64) where
-    column-count : length (take n (column (columnsTo lines n))) ≡ n
-    column-count = sym (first-long n (column (columnsTo lines n)) few (column-long n))
-
     column-at : (j : ℕ) → j < n → getD (take n (column (columnsTo lines n))) j 0 ≡ fieldAt j
     column-at j l = getD-take n (column (columnsTo lines n)) j 0 l ∙ column-filled n few j l
 

@@ -1,12 +1,10 @@
 -- Arrays filled with 0, with no mark and with no evidence are those of a ledger with nothing in it. Assumes nothing.
-use mathlib.Core.Path.{_≡_, refl, sym, ap, _∙_}
+use mathlib.Core.Path.{_≡_, sym, ap, _∙_}
 use mathlib.Core.Bool.{false}
-use mathlib.Core.List.{List, [], _∷_, _++_}
+use mathlib.Core.List.{[], _∷_, _++_}
 use lib.ListN.{replicate, replicate-append-replicate}
-use Rattle.tariff.specs.Sum.{listTo}
 use Rattle.tariff.specs.Evidence.{noEntry}
 use Rattle.ledger.specs.Ledger.{emptyLedger}
-use Rattle.records.specs.Opening.{openingArray, setupArray, setupOf, emptyOpening}
 use Rattle.records.specs.Reading.{partsOf, loadsOf, rightsOf, priorsOf, papersOf, tiersOf}
 use Rattle.records.specs.Layout.{figuresOfParts, marksOfParts, figuresOf, marksOf, entriesOf}
 use Rattle.book.proofs.Filled.{same-cells}
@@ -34,8 +32,3 @@ empty-marks =
 pub empty-entries : replicate 256 noEntry ≡ entriesOf emptyLedger
 unfolding entriesOf partsOf papersOf emptyLedger
 empty-entries = same-cells 2 1 noEntry
-
--- and an array of 76 is that of an opening with nothing in it
-pub empty-opening : replicate 76 0 ≡ openingArray emptyOpening
-unfolding openingArray setupArray setupOf emptyOpening listTo
-empty-opening = refl

@@ -1,6 +1,6 @@
 -- What a call hands back in lent arrays, as the book that its method hands back. Assumes nothing.
 use Prim.Native.Nat.{ℕ}
-use mathlib.Core.Path.{_≡_, refl, ap, _∙_, sym}
+use mathlib.Core.Path.{_≡_, refl}
 use mathlib.Core.Bool.{Bool, true, false, cond}
 use mathlib.Core.List.{List}
 use Rattle.tariff.specs.declared.evidence.Entry.{Entry}

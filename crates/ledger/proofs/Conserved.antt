@@ -1,7 +1,7 @@
 -- Rights and load are conserved over every list of calls: the holders' figures add up to what the accepted calls brought in. Assumes nothing.
 use Prim.Native.Nat.{ℕ, _+_, _<_}
 use mathlib.Core.Path.{_≡_, refl, sym, ap, ap₂, _∙_}
-use mathlib.Core.Bool.{true, not, _&&_, and-assoc, and-true}
+use mathlib.Core.Bool.{Bool, true, not, _&&_, and-assoc, and-true}
 use mathlib.Core.List.{List}
 use native.Mathlib.Nat.{add-zero}
 use native.Mathlib.Omega.{arith}
@@ -34,19 +34,21 @@ awardedSum o p m L = sumTo (o .holders) (λ h. L .rights .awarded h p m)
 unfoldable pub loadSum : Opening → ℕ → ℕ → Ledger → ℕ
 loadSum o s t L = sumTo (o .holders) (λ h. L .loads .kw h s t)
 
+-- kw added for one holder where two tests pass
+for-one : (o : Opening) (x kw : ℕ) (v : ℕ → ℕ) (t u : Bool) → x < o .holders → sumTo (o .holders) (λ h. v h + countIf (eqb h x && t && u) kw) ≡ sumTo (o .holders) v + countIf (t && u) kw
+for-one o x kw v t u l =
+    sum-ext {f = λ h. v h + countIf (eqb h x && t && u) kw} {g = λ h. v h + countIf (eqb h x && (t && u)) kw} (o .holders) (λ h i. ap (λ b. v h + countIf b kw) (and-assoc (eqb h x) t u))
+    ∙ column-plus v (o .holders) x (t && u) kw l
+
 -- kw added for one holder and path in the months of a term
 pub in-term : (o : Opening) (term x q kw : ℕ) (f : ℕ → ℕ → ℕ → ℕ) (p m : ℕ) → x < o .holders → sumTo (o .holders) (λ h. plusInTerm term x q kw f h p m) ≡ sumTo (o .holders) (λ h. f h p m) + countIf (eqb p q && hasMonth term m) kw
 unfolding plusInTerm same2
-in-term o term x q kw f p m l =
-    sum-ext {f = λ h. f h p m + countIf (eqb h x && eqb p q && hasMonth term m) kw} {g = λ h. f h p m + countIf (eqb h x && (eqb p q && hasMonth term m)) kw} (o .holders) (λ h i. ap (λ b. f h p m + countIf b kw) (and-assoc (eqb h x) (eqb p q) (hasMonth term m)))
-    ∙ column-plus (λ h. f h p m) (o .holders) x (eqb p q && hasMonth term m) kw l
+in-term o term x q kw f p m l = for-one o x kw (λ h. f h p m) (eqb p q) (hasMonth term m) l
 
 -- kw added in one place
 pub in-place : (o : Opening) (x q term kw : ℕ) (f : ℕ → ℕ → ℕ → ℕ) (s t : ℕ) → x < o .holders → sumTo (o .holders) (λ h. plusAt3 x q term kw f h s t) ≡ sumTo (o .holders) (λ h. f h s t) + countIf (eqb s q && eqb t term) kw
 unfolding plusAt3 same3
-in-place o x q term kw f s t l =
-    sum-ext {f = λ h. f h s t + countIf (eqb h x && eqb s q && eqb t term) kw} {g = λ h. f h s t + countIf (eqb h x && (eqb s q && eqb t term)) kw} (o .holders) (λ h i. ap (λ b. f h s t + countIf b kw) (and-assoc (eqb h x) (eqb s q) (eqb t term)))
-    ∙ column-plus (λ h. f h s t) (o .holders) x (eqb s q && eqb t term) kw l
+in-place o x q term kw f s t l = for-one o x kw (λ h. f h s t) (eqb s q) (eqb t term) l
 
 -- a figure that is 0 in the empty ledger is what the accepted calls add to it
 from-empty : (figure : Ledger → ℕ) (amount : Ledger → Call → ℕ) (o : Opening) → Adds figure amount o → figure emptyLedger ≡ 0 → (cs : List Call) → figure (after o cs) ≡ sumAccepted amount o emptyLedger cs

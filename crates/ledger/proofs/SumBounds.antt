@@ -1,10 +1,9 @@
 -- The sums that methods form over a ledger's figures and over a migration's lines fit 64 bits. Assumes nothing.
-use Prim.Native.Nat.{ℕ, suc, _*_, _^_, _≤_, _<_, zero-le}
+use Prim.Native.Nat.{ℕ, _*_, _≤_, _<_, zero-le}
 use mathlib.Core.Path.{_≡_}
 use mathlib.Core.Bool.{Bool, true, false, not, _&&_, _||_}
 use mathlib.Core.List.{List, [], _∷_}
 use native.Mathlib.Nat.{le-trans, mul-le-mul, mul-le-mul-right, suc-mul}
-use native.Mathlib.Bridge.{le-by-compare, IsLe}
 use native.Mathlib.Omega.{arith}
 use lib.ListN.{length}
 use lib.Dec.{ltb, eqb}
@@ -14,17 +13,15 @@ use Rattle.tariff.specs.Sum.{countIf, sumOver, anyOf}
 use Rattle.migration.specs.Migration.{wattsOneWay}
 use Rattle.tariff.proofs.Sums.{count-le, sum-add}
 use Rattle.tariff.proofs.Tests.{or-unmet}
-use Rattle.tariff.proofs.EvidenceBounds.{entry-le}
-use Rattle.ledger.specs.Opening.{Opening, endsAt, comesFrom, legal}
+use Rattle.ledger.specs.Opening.{Opening, legal}
 use Rattle.ledger.specs.Call.{Call}
-use Rattle.ledger.specs.Limits.{sumAtBase, longTermAt, priorYearAt, awardsAt, nominatedAt}
-use Rattle.ledger.specs.Verification.{sumFromSource, verifiedKw}
-use Rattle.tariff.specs.Ranges.{mostKw, within}
+use Rattle.ledger.specs.Limits.{nominatedAt}
+use Rattle.tariff.specs.Ranges.{within}
 use Rattle.migration.specs.ClassRanges.{wrongClassLine, wrongClassFields}
 use Rattle.ledger.specs.Season.{after, held, net}
 use Rattle.ledger.proofs.Conserved.{carriedSum, awardedSum}
 use Rattle.ledger.proofs.TierBounds.{nominatedSum}
-use Rattle.ledger.proofs.Bounds.{mostTogether, legal-counts, Fits, figures-fit, one-fits, paths-fit}
+use Rattle.ledger.proofs.Bounds.{mostTogether, Fits, figures-fit, one-fits}
 
 module _ {A : Type 0} (bad : A → Bool) (f : A → ℕ) (most : ℕ) (each : (x : A) → bad x ≡ false → f x ≤ most) where
   -- lines of which none is bad, each with at most so much, have together at most that for each line
@@ -52,51 +49,13 @@ watts-fit lines i j few e =
         let w : l .watts ≤ 9999999 = ltb-false 9999999 (l .watts) (watts .1) in
         le-trans (count-le (eqb (l .from) i && eqb (l .to) j) (l .customers * l .watts)) (mul-le-mul c w)
 
--- that is far below 2 ^ 64
-pub watts-in-64-bits : 64 * (9999999 * 9999999) < 2 ^ 64
-unfolding IsLe
-watts-in-64-bits = le-by-compare (suc (64 * (9999999 * 9999999))) (2 ^ 64) tt
-
 module _ (o : Opening) (ok : legal o ≡ true) (cs : List Call) where
   fits : Fits o (after o cs)
   fits = figures-fit o ok cs
 
-  few-paths : o .paths ≤ 16
-  few-paths = legal-counts o ok .3
-
-  at-base-fits : (b most : ℕ) (f : ℕ → ℕ) → ((p : ℕ) → p < o .paths → f p ≤ most) → sumAtBase o b f ≤ 16 * most
-  unfolding sumAtBase
-  at-base-fits b most f each = paths-fit (λ p. countIf (endsAt o b p) (f p)) (o .paths) most few-paths (λ p l. le-trans (count-le (endsAt o b p) (f p)) (each p l))
-
-  from-source-fits : (s most : ℕ) (f : ℕ → ℕ) → ((p : ℕ) → p < o .paths → f p ≤ most) → sumFromSource o s f ≤ 16 * most
-  unfolding sumFromSource
-  from-source-fits s most f each = paths-fit (λ p. countIf (comesFrom o s p) (f p)) (o .paths) most few-paths (λ p l. le-trans (count-le (comesFrom o s p) (f p)) (each p l))
-
-  -- LT of a holder, its allocation of last year, and its awards and nominations at a base
-  pub long-term-fits : (h b m : ℕ) → h < o .holders → longTermAt o (after o cs) h b m ≤ 16 * mostTogether
-  unfolding longTermAt carriedSum
-  long-term-fits h b m l = at-base-fits b mostTogether (λ p. after o cs .rights .carried h p m) (λ p i. one-fits (λ x. after o cs .rights .carried x p m) (o .holders) mostTogether h l (fits .carriedFit p m))
-
-  pub prior-year-fits : (h b : ℕ) → h < o .holders → priorYearAt o (after o cs) h b ≤ 16 * mostTogether
-  unfolding priorYearAt
-  prior-year-fits h b l = at-base-fits b mostTogether (λ p. after o cs .priors .allocated h p) (λ p i. one-fits (λ x. after o cs .priors .allocated x p) (o .holders) mostTogether h l (fits .allocatedFit p))
-
-  pub awards-at-fits : (h b t : ℕ) → h < o .holders → awardsAt o (after o cs) h b t ≤ 16 * mostTogether
-  unfolding awardsAt
-  awards-at-fits h b t l = at-base-fits b mostTogether (λ p. after o cs .tiers .awards h p t) (λ p i. one-fits (λ x. after o cs .tiers .awards x p t) (o .holders) mostTogether h l (fits .awardsFit p t i))
-
   pub nominated-at-fits : (h b t : ℕ) → h < o .holders → nominatedAt o (after o cs) h b t ≤ mostTogether
   unfolding nominatedSum
   nominated-at-fits h b t l = one-fits (λ x. nominatedAt o (after o cs) x b t) (o .holders) mostTogether h l (fits .nominatedFit b t)
-
-  -- evidence of both kinds
-  pub verified-fits : (h s term : ℕ) → verifiedKw (after o cs) h s term ≤ 2 * mostKw
-  unfolding verifiedKw
-  verified-fits h s term =
-      let L = after o cs in
-      let one = entry-le mostKw term (L .papers .entry h s 1) (fits .evidenceFits h s 1) in
-      let two = entry-le mostKw term (L .papers .entry h s 2) (fits .evidenceFits h s 2) in
-      omega arith
 
   -- net: carried and awarded holdings of all holders
   pub net-fits : (p m : ℕ) → p < o .paths → net o (after o cs) p m ≤ 11 * mostTogether

@@ -1,25 +1,20 @@
 -- Laws of the next line: a script's rows are the next line's and those of the bytes after it, and every number of a row has at most nine digits. Assumes nothing.
-use Prim.Native.Nat.{ℕ, zero, suc, _+_, _≤_, _<_}
+use Prim.Native.Nat.{ℕ, suc, _+_, _≤_, _<_}
 use mathlib.Core.Path.{_≡_, refl, sym, ap, ap₂, _∙_, subst}
-use mathlib.Core.Bool.{Bool, true, false, cond}
 use mathlib.Core.List.{List, [], _∷_, map}
 use mathlib.Core.Logic.{⊎-elim}
-use native.Mathlib.Nat.{not-suc-le-zero}
 use native.Mathlib.Omega.{arith}
 use borrow.Author.Tests.{ltb-true, ltb-false}
-use lib.ListN.{length, getD, take, drop, length-map, List·getD-eq-default}
+use lib.ListN.{length, take, drop, length-map}
 use lib.Seq.{length-take-le, drop-length}
-use lib.Dec.{ltb, eqb}
-use Rattle.tariff.specs.Sum.{listTo}
-use Rattle.tariff.proofs.Tests.{decided, and-both}
-use Rattle.tariff.proofs.Lists.{length-list-to, at-list-to}
+use lib.Dec.{ltb}
+use Rattle.tariff.proofs.Tests.{decided}
 use Rattle.lines.specs.declared.rows.Row.{Row}
 use Rattle.lines.specs.declared.lines.NextRow.{NextRow}
-use Rattle.lines.specs.Text.{lineFeed, Line, ended, unended, linesOf, fieldsOf, isNumber, valueOf}
-use Rattle.lines.specs.Rows.{kindOf, allNumbers, row, unreadableRow, rowIf, rowOfFields, rowOf, rowsOf}
+use Rattle.lines.specs.Text.{lineFeed, Line, ended, unended, linesOf, fieldsOf}
+use Rattle.lines.specs.Rows.{row, unreadableRow, rowOfFields, rowOf, rowsOf}
 use Rattle.lines.specs.Reading.{lengthUpTo, firstRow, firstBytes, nextRow}
 use Rattle.lines.proofs.TextLaws.{up-to-le, line-ended, line-unended}
-use Rattle.lines.proofs.NumberLaws.{number-below}
 
 -- a row, and the bytes that its line takes
 nextOf : Row → ℕ → NextRow
@@ -88,72 +83,6 @@ module _ (b : ℕ) (bytes : List ℕ) where
       go (with-end text e l) = subst (λ ls. firstBytes ls ≤ length (b ∷ bytes)) (sym e) l
       go (without l e) = subst (λ ls. firstBytes ls ≤ length (b ∷ bytes)) (sym e) (omega arith)
 
--- the three of a script that is not at its end
-pub next-of : (rest : List ℕ) → 0 < length rest → (rowsOf rest ≡ nextRow rest .row ∷ rowsOf (drop (nextRow rest .used) rest)) × (1 ≤ nextRow rest .used) × (nextRow rest .used ≤ length rest)
-next-of [] l = absurd (not-suc-le-zero l)
-next-of (b ∷ bytes) l = (next-rows b bytes, next-some b bytes, next-fits b bytes)
-
 pub row-count : (script : List ℕ) → length (rowsOf script) ≡ length (linesOf script)
 unfolding rowsOf
 row-count script = length-map (linesOf script) rowOf
-
--- seven numbers, each of at most nine digits
-pub record NumbersFit (r : Row) : Type 0 where
-  pub width : length (r .fields) ≡ 7
-  pub below : (k : ℕ) → getD (r .fields) k 0 < 1000000000
-
-row-fits : (kind : ℕ) (numbers : List ℕ) → ((k : ℕ) → getD numbers k 0 < 1000000000) → NumbersFit (row kind numbers)
-unfolding row
-row-fits kind numbers small = record { width = length-list-to 7 (λ k. getD numbers k 0); below = λ k. ⊎-elim (λ t. inside k (ltb-true k 7 t)) (λ t. past k (ltb-false k 7 t)) (decided (ltb k 7)) }
-  where
-    inside : (k : ℕ) → k < 7 → getD (listTo 7 (λ i. getD numbers i 0)) k 0 < 1000000000
-    inside k l = subst (λ v. v < 1000000000) (sym (at-list-to 7 (λ i. getD numbers i 0) 0 k l)) (small k)
-
-    past : (k : ℕ) → 7 ≤ k → getD (listTo 7 (λ i. getD numbers i 0)) k 0 < 1000000000
-    past k l = let width = length-list-to 7 (λ i. getD numbers i 0) in subst (λ v. v < 1000000000) (sym (List·getD-eq-default (listTo 7 (λ i. getD numbers i 0)) 0 {n = k} (omega arith))) (omega arith)
-
-values-below : (fields : List (List ℕ)) → allNumbers fields ≡ true → (k : ℕ) → getD (map valueOf fields) k 0 < 1000000000
-unfolding allNumbers
-values-below [] e k = omega arith
-values-below (field ∷ fields) e zero = number-below field (and-both (isNumber field) (allNumbers fields) e .0)
-values-below (field ∷ fields) e (suc k) = values-below fields (and-both (isNumber field) (allNumbers fields) e .1) k
-
-unreadable-fits : NumbersFit unreadableRow
-unfolding unreadableRow
-unreadable-fits = row-fits 0 [] (λ k. omega arith)
-
-fields-fit : (fields : List (List ℕ)) → NumbersFit (rowOfFields fields)
-unfolding rowOfFields rowIf
-fields-fit [] = unreadable-fits
-fields-fit (word ∷ fields) = go (allNumbers fields) refl
-  where
-    kind : (t : Bool) → allNumbers fields ≡ true → NumbersFit (cond t unreadableRow (row (kindOf word (length fields)) (map valueOf fields)))
-    kind true e = unreadable-fits
-    kind false e = row-fits _ (map valueOf fields) (values-below fields e)
-
-    go : (t : Bool) → allNumbers fields ≡ t → NumbersFit (cond t (rowIf (kindOf word (length fields)) (map valueOf fields)) unreadableRow)
-    go true e = kind (eqb (kindOf word (length fields)) 0) e
-    go false e = unreadable-fits
-
-pub line-fits : (line : Line) → NumbersFit (rowOf line)
-unfolding rowOf
-line-fits (ended text) = fields-fit (fieldsOf text)
-line-fits (unended text) = unreadable-fits
-
-pub next-row-fits : (rest : List ℕ) → NumbersFit (nextRow rest .row)
-unfolding nextRow firstRow
-next-row-fits rest = go (linesOf rest)
-  where
-    go : (lines : List Line) → NumbersFit (firstRow lines)
-    go [] = unreadable-fits
-    go (line ∷ lines) = line-fits line
-
--- every row of a script, and the unreadable one past the last
-pub rows-fit : (script : List ℕ) (i : ℕ) → NumbersFit (getD (rowsOf script) i unreadableRow)
-unfolding rowsOf
-rows-fit script i = go (linesOf script) i
-  where
-    go : (lines : List Line) (i : ℕ) → NumbersFit (getD (map rowOf lines) i unreadableRow)
-    go [] i = unreadable-fits
-    go (line ∷ lines) zero = line-fits line
-    go (line ∷ lines) (suc i) = go lines i

@@ -1,18 +1,18 @@
 -- Laws of the numbers that fields write: what is a digit, how large a value of digits gets, and which fields are numbers. Assumes nothing.
-use Prim.Native.Nat.{ℕ, suc, _+_, _-_, _*_, _^_, _≤_, _<_}
+use Prim.Native.Nat.{ℕ, _+_, _-_, _*_, _^_, _≤_, _<_}
 use mathlib.Core.Path.{_≡_, refl, sym, ap, _∙_, subst}
 use mathlib.Core.Bool.{Bool, true, false, cond, not, _&&_, _||_, or-true}
-use mathlib.Core.List.{List, [], _∷_}
+use mathlib.Core.List.{List}
 use native.Mathlib.Nat.{pow-suc, pow-le-pow-right, zero-lt-suc}
 use native.Mathlib.Numerals.{add-one}
 use native.Mathlib.Omega.{arith}
-use borrow.Author.Tests.{le-leb, lt-leb, leb-true, eq-eqb, ne-eqb}
+use borrow.Author.Tests.{le-leb, lt-leb, eq-eqb, ne-eqb}
 use lib.ListN.{length, getD}
 use lib.Dec.{eqb, leb}
 use Rattle.tariff.specs.Ranges.{within}
-use Rattle.tariff.proofs.Tests.{and-both, and-join, and-left-false, and-right-false}
+use Rattle.tariff.proofs.Tests.{and-join, and-left-false, and-right-false}
 use Rattle.lines.specs.declared.text.Numeral.the-variants.{No, Value}
-use Rattle.lines.specs.Text.{isDigit, allDigits, isNumber, valueAfter, valueOf}
+use Rattle.lines.specs.Text.{allDigits, isNumber, valueAfter, valueOf}
 use Rattle.lines.specs.Reading.{digitsRead, numeral}
 
 pub in-range : (low high x : ℕ) → low ≤ x → x ≤ high → within low high x ≡ true
@@ -27,32 +27,12 @@ pub above-range : (low high x : ℕ) → high < x → within low high x ≡ fals
 unfolding within
 above-range low high x h = and-right-false (leb low x) (lt-leb x high h)
 
-pub range-end : (low high x : ℕ) → within low high x ≡ true → x ≤ high
-unfolding within
-range-end low high x e = leb-true x high (and-both (leb low x) (leb x high) e .1)
-
 -- one digit more
 pub power-more : (v d i : ℕ) → v < 10 ^ i → d ≤ 9 → v * 10 + d < 10 ^ (i + 1)
 power-more v d i l m = subst (λ p. v * 10 + d < p) (sym (ap (λ k. 10 ^ k) (add-one i) ∙ pow-suc 10 i)) (omega arith)
 
 pub power-most : (v i n : ℕ) → v < 10 ^ i → i ≤ n → v < 10 ^ n
 power-most v i n l m = let p : 10 ^ i ≤ 10 ^ n = pow-le-pow-right (zero-lt-suc 9) m in omega arith
-
--- the value of digits has at most as many digits as stand there
-value-below : (bytes : List ℕ) (v i : ℕ) → v < 10 ^ i → allDigits bytes ≡ true → valueAfter v bytes < 10 ^ (i + length bytes)
-unfolding allDigits valueAfter isDigit
-value-below [] v i l e = subst (λ k. v < 10 ^ k) (let q : i ≡ i + 0 = omega arith in q) l
-value-below (b ∷ bytes) v i l e =
-    let digit = range-end 48 57 b (and-both (isDigit b) (allDigits bytes) e .0) in
-    subst (λ k. valueAfter (v * 10 + (b - 48)) bytes < 10 ^ k) (let q : i + 1 + length bytes ≡ i + suc (length bytes) = omega arith in q)
-    (value-below bytes (v * 10 + (b - 48)) (i + 1) (power-more v (b - 48) i l (omega arith)) (and-both (isDigit b) (allDigits bytes) e .1))
-
-pub number-below : (field : List ℕ) → isNumber field ≡ true → valueOf field < 1000000000
-unfolding isNumber valueOf
-number-below field e =
-    let parts = and-both (within 1 9 (length field)) (allDigits field) (and-both (within 1 9 (length field) && allDigits field) (eqb (length field) 1 || not (eqb (getD field 0 0) 48)) e .0) in
-    let most = range-end 1 9 (length field) (parts .0) in
-    power-most (valueAfter 0 field) (0 + length field) 9 (value-below field 0 0 (omega arith) (parts .1)) (omega arith)
 
 -- the length is refused
 pub length-refused : (field : List ℕ) → within 1 9 (length field) ≡ false → No ≡ numeral field

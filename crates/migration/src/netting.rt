@@ -2,7 +2,7 @@
 use tariff::limit::less;
 ghost use mathlib.Core.Path.{_≡_};
 ghost use mathlib.Core.Bool.{not};
-ghost use Prim.Native.Nat.{ℕ, _+_, _-_, _*_, _^_, _/_, _<_, _≤_};
+ghost use Prim.Native.Nat.{ℕ, _+_, _-_, _*_, _/_, _<_, _≤_};
 ghost use lib.ListN.{length};
 ghost use Rattle.tariff.specs.Sum.{anyOf};
 ghost use Rattle.migration.specs.ClassRanges.{wrongClassFields};

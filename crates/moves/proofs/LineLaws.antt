@@ -1,12 +1,10 @@
 -- Class lines whose fields stand in five slices: a test on each, and the causes behind the tests. Assumes nothing.
 use Prim.Native.Nat.{ℕ, _≤_, _<_}
-use mathlib.Core.Path.{_≡_, sym, ap, _∙_}
-use mathlib.Core.Bool.{Bool, true, false}
+use mathlib.Core.Path.{_≡_}
+use mathlib.Core.Bool.{true, false}
 use native.Mathlib.Omega.{arith}
 use lib.Dec.{ltb}
 use borrow.Author.Tests.{lt-ltb, le-ltb}
-use Rattle.tariff.specs.Sum.{anyBelow}
-use Rattle.tariff.proofs.Tests.{any-at}
 
 -- a loss against a load
 pub loss-above : (load lost sum : ℕ) → lost ≡ sum → load < lost → ltb load sum ≡ true

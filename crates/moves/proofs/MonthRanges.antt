@@ -79,20 +79,13 @@ prior-columns change ends term past cells next a e =
         (λ i. cond (ends p && isFrom 0 (a i) (zz i)) (change (λ n. readAt 1 0 0 cells n p (zz i)) h) (readAt 1 0 0 cells h p (zz i)))
         ∙ ap (λ t. cond (ends p && t) (change (λ n. readAt 1 0 0 cells n p 0) h) (readAt 1 0 0 cells h p 0)) (range (eqb term 0))
 
--- the ranges lie within the array
-pub carried-within : (term first past : ℕ) → term ≤ 3 → first ≡ cond (eqb term 0) 1 term → past ≡ cond (eqb term 0) 4 (term + 1) → (1 ≤ first) × (first ≤ past) × (past ≤ 4)
-carried-within term first past l a b = go (decided (eqb term 0))
+-- the ranges lie within the array, wherever that of the season ends
+pub months-within : (end term first past : ℕ) → 1 ≤ end → end ≤ 4 → term ≤ 3 → first ≡ cond (eqb term 0) 1 term → past ≡ cond (eqb term 0) end (term + 1) → (1 ≤ first) × (first ≤ past) × (past ≤ 4)
+months-within end term first past low high l a b = go (decided (eqb term 0))
   where
     go : (eqb term 0 ≡ true) ⊎ (eqb term 0 ≡ false) → (1 ≤ first) × (first ≤ past) × (past ≤ 4)
-    go (inl t) = let x : first ≡ 1 = a ∙ ap (λ b. cond b 1 term) t in let y : past ≡ 4 = b ∙ ap (λ b. cond b 4 (term + 1)) t in (omega arith, omega arith, omega arith)
-    go (inr t) = let x : first ≡ term = a ∙ ap (λ b. cond b 1 term) t in let y : past ≡ term + 1 = b ∙ ap (λ b. cond b 4 (term + 1)) t in let ne = eqb-false term 0 t in (omega (arith, ne), omega arith, omega arith)
-
-pub awarded-within : (term first past : ℕ) → term ≤ 3 → first ≡ cond (eqb term 0) 1 term → past ≡ cond (eqb term 0) 1 (term + 1) → (1 ≤ first) × (first ≤ past) × (past ≤ 4)
-awarded-within term first past l a b = go (decided (eqb term 0))
-  where
-    go : (eqb term 0 ≡ true) ⊎ (eqb term 0 ≡ false) → (1 ≤ first) × (first ≤ past) × (past ≤ 4)
-    go (inl t) = let x : first ≡ 1 = a ∙ ap (λ b. cond b 1 term) t in let y : past ≡ 1 = b ∙ ap (λ b. cond b 1 (term + 1)) t in (omega arith, omega arith, omega arith)
-    go (inr t) = let x : first ≡ term = a ∙ ap (λ b. cond b 1 term) t in let y : past ≡ term + 1 = b ∙ ap (λ b. cond b 1 (term + 1)) t in let ne = eqb-false term 0 t in (omega (arith, ne), omega arith, omega arith)
+    go (inl t) = let x : first ≡ 1 = a ∙ ap (λ b. cond b 1 term) t in let y : past ≡ end = b ∙ ap (λ b. cond b end (term + 1)) t in (omega arith, omega arith, omega arith)
+    go (inr t) = let x : first ≡ term = a ∙ ap (λ b. cond b 1 term) t in let y : past ≡ term + 1 = b ∙ ap (λ b. cond b end (term + 1)) t in let ne = eqb-false term 0 t in (omega (arith, ne), omega arith, omega arith)
 
 pub prior-within : (term past : ℕ) → past ≡ cond (eqb term 0) 1 0 → past ≤ 1
 prior-within term past a = go (decided (eqb term 0))

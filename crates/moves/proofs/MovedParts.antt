@@ -29,7 +29,7 @@ use Rattle.records.proofs.PartLaws.{Shaped}
 use Rattle.records.proofs.LayoutLaws.{figures-long, mid-carried, mid-awarded, mid-allocated, mid-renewable, put-loads, put-carried, put-awarded, put-allocated, put-renewable}
 use Rattle.moves.proofs.ShiftLaws.{load-shifted}
 use Rattle.moves.proofs.ColumnLaws.{Changed}
-use Rattle.moves.proofs.MonthRanges.{carried-months, awarded-months, prior-columns, carried-within, awarded-within, prior-within}
+use Rattle.moves.proofs.MonthRanges.{carried-months, awarded-months, prior-columns, months-within, prior-within}
 
 -- figures of the right length are those of their parts
 pub whole-figures : (o f : List ℕ) (m : List Bool) (e : List Entry) → length f ≡ 2946 → f ≡ figuresOfParts (partsIn o f m e)
@@ -191,7 +191,7 @@ module _ (o f : List ℕ) (term sink : ℕ) (x : Moved) (ok : Moves f term sink 
 
     module _ (first past : ℕ) (a : first ≡ cond (eqb term 0) 1 term) (c : past ≡ cond (eqb term 0) 4 (term + 1)) where
       pub carried-need : PathsFit x 3 1 first past (take 384 (drop 512 f1))
-      carried-need = paths-need x 3 1 first past C (take 384 (drop 512 f1)) (same-carried stage1) (record { some = omega arith; small = omega arith; sized = stage1 .ofCarried }) (carried-within term first past (ok .inTerm) a c) (ok .movable) (ok .carried)
+      carried-need = paths-need x 3 1 first past C (take 384 (drop 512 f1)) (same-carried stage1) (record { some = omega arith; small = omega arith; sized = stage1 .ofCarried }) (months-within 4 term first past (omega arith) (omega arith) (ok .inTerm) a c) (ok .movable) (ok .carried)
 
       module _ (y2 : List ℕ) (moved2 : Shifted 3 1 first past (take 384 (drop 512 f1)) y2) where
         abbrev f2 : List ℕ
@@ -214,7 +214,7 @@ module _ (o f : List ℕ) (term sink : ℕ) (x : Moved) (ok : Moves f term sink 
 
         module _ (past2 : ℕ) (d : past2 ≡ cond (eqb term 0) 1 (term + 1)) where
           pub awarded-need : PathsFit x 3 1 first past2 (take 384 (drop 896 f2))
-          awarded-need = paths-need x 3 1 first past2 A (take 384 (drop 896 f2)) (same-awarded stage2) (record { some = omega arith; small = omega arith; sized = stage2 .ofAwarded }) (awarded-within term first past2 (ok .inTerm) a d) (ok .movable) (ok .awarded)
+          awarded-need = paths-need x 3 1 first past2 A (take 384 (drop 896 f2)) (same-awarded stage2) (record { some = omega arith; small = omega arith; sized = stage2 .ofAwarded }) (months-within 1 term first past2 (omega arith) (omega arith) (ok .inTerm) a d) (ok .movable) (ok .awarded)
 
           module _ (y3 : List ℕ) (moved3 : Shifted 3 1 first past2 (take 384 (drop 896 f2)) y3) where
             abbrev f3 : List ℕ

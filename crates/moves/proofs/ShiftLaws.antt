@@ -97,9 +97,6 @@ module _ (x : Moved) (ok : Movable x) where
           le-trans (le-of-eq (sum-ext {f = λ j. pairAt parts i j} {g = λ j. shares (pairAt (x .m)) (holderAt (x .load)) (holderAt column) i j} (x .holders) (λ j b. share-at column parts e i j (omega arith) (omega arith))))
           (shares-fit (x .holders) (pairAt (x .m)) (holderAt (x .load)) (holderAt column) i (ok .covered i l))
 
-  pub load-parts-fit : PartsFit (x .holders) (x .load) (x .m)
-  load-parts-fit = let all = ok .loads in record { few = ok .few; given = ok .covered; together = omega arith }
-
   -- the column that the code stores is the one that moved
   pub column-shifted : (width low p k : ℕ) (cells column parts next after : List ℕ) → 1 ≤ width → column ≡ columnAt width low cells p k → parts ≡ shareCells column (x .m) (x .load) → next ≡ shiftedCells (x .holders) column parts → after ≡ cellsOf width low (withColumn p k (holderAt next) (readAt width low 0 cells)) → after ≡ cellsOf width low (movedWhere (λ q j. eqb q p && eqb j k) (columnMoved x) (readAt width low 0 cells))
   unfolding columnMoved

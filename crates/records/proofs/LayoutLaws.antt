@@ -1,18 +1,14 @@
 -- The parts of a book's arrays, and the arrays of parts: out of one comes the other, and a part that is put anew changes that part alone. Assumes nothing.
 use Prim.Native.Nat.{ℕ, _+_}
-use mathlib.Core.Path.{_≡_, refl, sym, ap, _∙_}
-use mathlib.Core.Bool.{Bool}
+use mathlib.Core.Path.{_≡_, refl, _∙_}
 use mathlib.Core.List.{List, [], _∷_, _++_}
 use native.Mathlib.Omega.{arith}
-use lib.ListN.{length, take, drop, getD, set, take-append-drop}
-use lib.Seq.{drop-drop, drop-cons, length-take-le}
+use lib.ListN.{length, take, drop, getD, set}
 use borrow.Rule.Slice.PartMut.{putMid}
-use Rattle.tariff.specs.declared.evidence.Entry.{Entry}
 use Rattle.records.specs.Parts.{Parts}
-use Rattle.records.specs.Opening.{setupIn}
-use Rattle.records.specs.Layout.{partsIn, figuresOfParts, marksOfParts}
+use Rattle.records.specs.Layout.{figuresOfParts}
 use Rattle.records.proofs.PartLaws.{Shaped}
-use Rattle.records.proofs.Behind.{behind, total, mid-behind, put-behind, getD-behind, set-behind, length-behind}
+use Rattle.records.proofs.Behind.{total, mid-behind, put-behind, getD-behind, set-behind, length-behind}
 
 -- parts with one of them anew
 abbrev pub withLoads : Parts → List ℕ → Parts

@@ -8,7 +8,6 @@ use Rattle.tariff.specs.Evidence.{noEntry}
 use Rattle.records.specs.Parts.{Parts}
 use Rattle.records.specs.Cells.{readAt, cellsOf}
 use Rattle.records.specs.Reading.{loadsIn, rightsIn, priorsIn, papersIn, tiersIn, loadsOf, rightsOf, priorsOf, papersOf, tiersOf}
-use Rattle.records.specs.Reading.{ledgerOf, partsOf}
 use Rattle.records.proofs.Narrow.{narrow-read}
 use Rattle.records.proofs.CellLaws.{cells-read}
 
@@ -54,8 +53,3 @@ tiers-back b s =
       lastClosed = b .tiers .lastClosed;
       openNow = b .tiers .openNow;
     }
-
--- the book of what stands in it is the book
-pub book-back : (b : Parts) → Shaped b → partsOf (b .setup) (ledgerOf b) ≡ b
-unfolding partsOf ledgerOf
-book-back b s = λ i. record { setup = b .setup; loads = loads-back b s i; rights = rights-back b s i; priors = priors-back b s i; papers = papers-back b s i; tiers = tiers-back b s i }

@@ -3,7 +3,7 @@ use Prim.Native.Nat.{ℕ}
 use mathlib.Core.Path.{_≡_, refl, sym, ap, _∙_, subst}
 use mathlib.Core.Bool.{Bool}
 use mathlib.Core.List.{List, [], _∷_, _++_}
-use lib.ListN.{length, take, drop}
+use lib.ListN.{length}
 use native.Mathlib.Omega.{arith}
 use Rattle.tariff.specs.declared.evidence.Entry.{Entry}
 use Rattle.tariff.proofs.Lists.{length-list-to}

@@ -3,7 +3,6 @@ use Prim.Native.Nat.{ℕ}
 use mathlib.Core.Path.{_≡_}
 use mathlib.Core.Bool.{Bool, true, false}
 use mathlib.Core.List.{List}
-use lib.ListN.{length}
 use Rattle.tariff.specs.declared.evidence.Entry.{Entry}
 use Rattle.ledger.specs.Call.{Call, Query}
 use Rattle.ledger.specs.Opening.{Opening, legal}

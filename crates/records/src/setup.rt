@@ -5,7 +5,6 @@ ghost use mathlib.Core.Path.{_≡_};
 ghost use Rattle.ledger.specs.Opening.{holderKind, sinkKind, base, pathSource, pathSink, pathBase};
 ghost use Rattle.ledger.specs.Ranges.{noHolder, noSource, noSink, noPath};
 ghost use Rattle.ledger.specs.Causes.{sinkNotFor, isSubLap};
-ghost use lib.ListN.{getD};
 ghost use Rattle.records.specs.Opening.{openingIn};
 
 pub fn holders(o: &[u64]) -> u64

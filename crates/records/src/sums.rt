@@ -5,7 +5,7 @@ use crate::setup::path_base;
 use crate::setup::path_source;
 use crate::setup::paths;
 ghost use mathlib.Core.Path.{_≡_};
-ghost use Prim.Native.Nat.{ℕ, _+_, _*_, _<_, _≤_};
+ghost use Prim.Native.Nat.{_+_, _*_, _<_, _≤_};
 ghost use lib.ListN.{take, drop};
 ghost use Rattle.tariff.specs.Sum.{countIf, listTo};
 ghost use Rattle.ledger.specs.Opening.{pathBase};

@@ -19,9 +19,3 @@ unfolding textOf bytesOf Writable
 text-short done w = omega arith
 text-short (value v) w = simp length-append (let few = decimal-few v w in omega arith)
 text-short (refused number) w = omega arith
-
-pub text-some : (a : Answer) → 1 ≤ length (textOf a)
-unfolding textOf bytesOf
-text-some done = omega arith
-text-some (value v) = omega arith
-text-some (refused number) = omega arith

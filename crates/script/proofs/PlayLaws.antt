@@ -72,10 +72,6 @@ module _ (rest : List ℕ) (some : 1 ≤ length rest) where
       let shorter = drop-shorter (linesCounted (nextRow rest .row)) (rowsOf afterHead) in
       omega arith
 
-  pub group-some : 1 ≤ groupBytes rest
-  unfolding groupBytes
-  group-some = let own = used-some rest some in omega arith
-
   pub group-fits : groupBytes rest ≤ length rest
   unfolding groupBytes headBytes
   group-fits =

@@ -1,7 +1,7 @@
 -- Laws of the formula and the term that a tier's number selects. Assumes nothing.
-use Prim.Native.Nat.{ℕ, _+_, _-_, _/_, _%_, _≤_, _<_}
+use Prim.Native.Nat.{ℕ, _-_, _%_, _≤_, _<_}
 use mathlib.Core.Path.{_≡_, refl, sym, ap}
-use mathlib.Core.Bool.{Bool, false, cond}
+use mathlib.Core.Bool.{false}
 use native.Mathlib.Omega.{arith}
 use lib.ListN.{List·getD-eq-default}
 use lib.Dec.{leb, eqb}
@@ -62,11 +62,3 @@ term-past tier l = List·getD-eq-default termTable 0 {n = tier - 1} (omega arith
 pub term-none : (tier : ℕ) → tier < 1 → termOf tier ≡ 0
 unfolding termOf termTable
 term-none tier l = ap termOf (let e : tier ≡ 0 = omega arith in e)
-
--- the rule of the table, one test over all nine entries: 0 up to tier 3, else half the tier less 1
-right : ℕ → Bool
-right i = eqb (termOf (i + 1)) (cond (leb (i + 1) 3) 0 ((i + 1) / 2 - 1))
-
-pub term-rule : (i : ℕ) → i < 9 → termOf (i + 1) ≡ cond (leb (i + 1) 3) 0 ((i + 1) / 2 - 1)
-unfolding right termOf termTable allBelow
-term-rule i l = eqb-true (termOf (i + 1)) (cond (leb (i + 1) 3) 0 ((i + 1) / 2 - 1)) (all-below 9 right refl i l)

@@ -101,10 +101,6 @@ sum-one v (suc n) k h = go (below-suc h) (sum-one v n k)
         let b = count-true v (eq-eqb n k (sym e)) in
         omega arith
 
--- one term more in one place of a sum
-pub sum-plus : (f : ℕ → ℕ) (v n k : ℕ) → k < n → sumTo n (λ i. f i + countIf (eqb i k) v) ≡ sumTo n f + v
-sum-plus f v n k h = sum-add f (λ i. countIf (eqb i k) v) n ∙ ap (λ x. sumTo n f + x) (sum-one v n k h)
-
 -- a sum that a loop forms: nothing yet, one term more, all
 pub sum-more : (f : ℕ → ℕ) (j s v : ℕ) → s ≡ sumTo j f → v ≡ f j → s + v ≡ sumTo (j + 1) f
 unfolding sumTo

@@ -1,32 +1,25 @@
 -- What a holder draws from a source of what it has verified there: sums and their bounds in a book's lent arrays. Assumes nothing.
 use Prim.Native.Nat.{ℕ, _+_, _*_, _≤_, _<_}
-use mathlib.Core.Path.{_≡_, sym, ap, _∙_, subst}
-use mathlib.Core.Bool.{Bool, true, false, _&&_, _||_}
+use mathlib.Core.Path.{_≡_, sym, _∙_}
+use mathlib.Core.Bool.{Bool, _&&_, _||_}
 use mathlib.Core.List.{List}
-use mathlib.Core.Logic.{_⊎_, inl, inr}
 use native.Mathlib.Nat.{le-trans, le-of-eq, mul-le-mul-right}
 use native.Mathlib.Omega.{arith}
 use lib.ListN.{take, drop, getD}
 use lib.Dec.{leb, eqb}
 use Rattle.tariff.specs.declared.evidence.Entry.{Entry}
-use Rattle.tariff.specs.Evidence.{noEntry, entryKw}
-use Rattle.tariff.specs.Ranges.{mostKw}
 use Rattle.tariff.specs.Sum.{countIf, sumTo}
 use Rattle.tariff.specs.Terms.{termOf}
-use Rattle.tariff.proofs.EvidenceBounds.{InRange, entry-le}
 use Rattle.tariff.proofs.Sums.{count-le, sum-bound, sum-part-le}
-use Rattle.tariff.proofs.Tests.{decided}
 use Rattle.ledger.specs.Opening.{Opening}
 use Rattle.ledger.specs.Ledger.{Ledger}
-use Rattle.ledger.specs.Season.{after}
 use Rattle.ledger.specs.Verification.{sumFromSource, drawsOnSame, drawnBefore, drawn}
-use Rattle.ledger.proofs.Bounds.{mostTogether, figures-fit}
-use Rattle.records.specs.Cells.{hasCell, readAt, cellsOf}
+use Rattle.ledger.proofs.Bounds.{mostTogether}
+use Rattle.records.specs.Cells.{readAt}
 use Rattle.records.specs.Opening.{openingIn}
-use Rattle.records.specs.Reading.{tiersIn, papersOf, ledgerOf, partsOf}
-use Rattle.records.specs.Layout.{partsIn, ledgerIn, entriesOf}
+use Rattle.records.specs.Reading.{tiersIn, ledgerOf}
+use Rattle.records.specs.Layout.{partsIn, ledgerIn}
 use Rattle.records.specs.Handed.{Reached}
-use Rattle.records.proofs.CellLaws.{read-cells, read-none}
 use Rattle.records.proofs.PathSums.{source-sum-fits}
 use Rattle.tiers.proofs.LimitLaws.{nominated-now}
 use Rattle.tiers.proofs.Within.{few-paths, nominated-within, awards-within, open-within}

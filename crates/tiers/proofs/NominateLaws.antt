@@ -12,28 +12,26 @@ use borrow.Author.Tests.{eq-eqb, ne-eqb}
 use Rattle.tariff.specs.Terms.{termOf}
 use Rattle.tariff.proofs.Tests.{and-left-false}
 use Rattle.ledger.specs.Opening.{Opening, holderKind, pathSource, pathSink, pathBase}
-use Rattle.ledger.specs.Ledger.{Ledger, withTiers}
+use Rattle.ledger.specs.Ledger.{Ledger}
 use Rattle.ledger.specs.Call.{nominate}
 use Rattle.ledger.specs.Limits.{nominatedAt, tierLimit}
 use Rattle.ledger.specs.Causes.{sinkNotFor, isSubLap, beyondVerified, beyondRenewable, beyondLimit, refusal}
 use Rattle.ledger.specs.Verification.{verifiedKw, drawn}
-use Rattle.ledger.specs.Effects.{plusAt3, afterNominate, effect}
+use Rattle.ledger.specs.Effects.{plusAt3, effect}
 use Rattle.ledger.proofs.Bounds.{mostTogether}
-use Rattle.records.specs.Parts.{Tiers, Parts}
 use Rattle.records.specs.declared.answers.Answer.the-variants.{Done}
 use Rattle.records.specs.Cells.{readAt, cellsOf}
-use Rattle.records.specs.Opening.{setupIn, openingOf, openingIn}
-use Rattle.records.specs.Reading.{priorsIn, tiersIn, tiersOf, ledgerOf, partsOf}
+use Rattle.records.specs.Opening.{setupIn, openingIn}
+use Rattle.records.specs.Reading.{priorsIn, ledgerOf}
 use Rattle.records.specs.Layout.{partsIn, ledgerIn, marksOfParts}
 use Rattle.records.specs.Handed.{Reached, Handed}
-use Rattle.records.proofs.PartLaws.{Shaped, loads-back, rights-back, priors-back, papers-back}
 use Rattle.records.proofs.InTier.{nominate-tiers}
 use Rattle.records.proofs.LayoutLaws.{withNominated}
 use Rattle.records.proofs.ReachedParts.{shaped-known, marks-known}
 use Rattle.records.proofs.HandedLaws.{handed-accepted}
 use Rattle.records.proofs.PathSums.{base-sum-fits}
 use Rattle.tiers.proofs.LimitLaws.{nominated-now}
-use Rattle.tiers.proofs.PutLaws.{nominated-put}
+use Rattle.tiers.proofs.PutLaws.{with-tiers, nominated-put}
 use Rattle.tiers.proofs.Within.{few-paths, nominated-within}
 
 -- cause 10
@@ -66,18 +64,13 @@ pub nominated-at-fit : (o f : List ℕ) (m : List Bool) (x : List Entry) → Rea
 unfolding nominatedAt
 nominated-at-fit o f m x r h base l = base-sum-fits (openingIn o) base mostTogether (λ p. ledgerIn f m x .tiers .nominated h p (getD f 2945 0)) (few-paths o f m x r) (λ p k. le-trans (le-of-eq (nominated-now f m x h p)) (nominated-within o f m x r h l p k))
 
--- the book after an accepted nomination
-pub nominate-book : (b : Parts) (h p kw : ℕ) (tiers : Tiers) → Shaped b → tiers ≡ tiersOf (afterNominate (tiersIn (b .tiers)) h p kw) → _≡_ {A = Parts} (record { setup = b .setup; loads = b .loads; rights = b .rights; priors = b .priors; papers = b .papers; tiers = tiers }) (partsOf (b .setup) (effect (openingOf (b .setup)) (ledgerOf b) (nominate h p kw)))
-unfolding partsOf effect withTiers ledgerOf
-nominate-book b h p kw tiers s e = λ i. record { setup = b .setup; loads = sym (loads-back b s) i; rights = sym (rights-back b s) i; priors = sym (priors-back b s) i; papers = sym (papers-back b s) i; tiers = e i }
-
 -- what an accepted nomination hands back: the nominations anew
 pub nominate-handed : (o f : List ℕ) (m : List Bool) (x : List Entry) (r : Reached o f m x) (h p kw number : ℕ) (ys : List ℕ) → number ≡ refusal (openingIn o) (ledgerIn f m x) (nominate h p kw) → number ≡ 0 → ys ≡ cellsOf 1 0 (plusAt3 h p 0 kw (readAt 1 0 0 (take 128 (drop 1536 f)))) → Handed o f m x (nominate h p kw) Done (putMid 1536 128 f ys) m x
-unfolding openingIn ledgerIn partsIn ledgerOf marksOfParts
+unfolding openingIn ledgerIn partsIn ledgerOf marksOfParts effect
 nominate-handed o f m x r h p kw number ys found zero e =
     let shaped = shaped-known o f m x r in
     handed-accepted o f m x (nominate h p kw) number found (setupIn o) (withNominated (partsIn o f m x) ys) (putMid 1536 128 f ys) m x zero
-    (nominate-book (partsIn o f m x) h p kw _ shaped (nominate-tiers (partsIn o f m x .tiers) h p kw ys (shaped .awards) e))
+    (with-tiers (partsIn o f m x) shaped _ _ (nominate-tiers (partsIn o f m x .tiers) h p kw ys (shaped .awards) e))
     (nominated-put o f m x r ys)
     (marks-known o f m x r)
     refl

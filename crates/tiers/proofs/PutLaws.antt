@@ -1,15 +1,18 @@
 -- Figures with one or two parts put anew, as the calls of the tiers leave them. Assumes nothing.
 use Prim.Native.Nat.{ℕ}
-use mathlib.Core.Path.{_≡_, ap, _∙_}
+use mathlib.Core.Path.{_≡_, sym, ap, _∙_}
 use mathlib.Core.Bool.{Bool}
 use mathlib.Core.List.{List}
 use lib.ListN.{length, take, drop, set}
 use borrow.Rule.Slice.PartMut.{putMid}
 use Rattle.tariff.specs.declared.evidence.Entry.{Entry}
-use Rattle.records.specs.Parts.{Parts}
+use Rattle.ledger.specs.Ledger as ledger
+use Rattle.ledger.specs.Ledger.{withTiers}
+use Rattle.records.specs.Parts.{Tiers, Parts}
+use Rattle.records.specs.Reading.{tiersOf, ledgerOf, partsOf}
 use Rattle.records.specs.Layout.{partsIn, figuresOfParts}
 use Rattle.records.specs.Handed.{Reached}
-use Rattle.records.proofs.PartLaws.{Shaped}
+use Rattle.records.proofs.PartLaws.{Shaped, loads-back, rights-back, priors-back, papers-back}
 use Rattle.records.proofs.LayoutLaws.{withAwarded, withNominated, withAwards, withTurn, mid-awards, put-awarded, put-nominated, put-awards, set-closed, set-open}
 use Rattle.records.proofs.ReachedParts.{shaped-known, figures-known}
 
@@ -22,6 +25,11 @@ shaped-nominated b s ys e = record { loadKw = s .loadKw; loadPosted = s .loadPos
 
 shaped-turn : (b : Parts) → Shaped b → (closed opened : ℕ) → Shaped (withTurn b closed opened)
 shaped-turn b s closed opened = record { loadKw = s .loadKw; loadPosted = s .loadPosted; carried = s .carried; awarded = s .awarded; carryPosted = s .carryPosted; allocated = s .allocated; renewable = s .renewable; priorPosted = s .priorPosted; entries = s .entries; paperPosted = s .paperPosted; nominated = s .nominated; awards = s .awards }
+
+-- the parts with other tiers are those of the ledger with other tiers
+pub with-tiers : (b : Parts) → Shaped b → (tiers : Tiers) (t : ledger.Tiers) → tiers ≡ tiersOf t → _≡_ {A = Parts} (record { setup = b .setup; loads = b .loads; rights = b .rights; priors = b .priors; papers = b .papers; tiers = tiers }) (partsOf (b .setup) (withTiers (ledgerOf b) t))
+unfolding partsOf withTiers ledgerOf
+with-tiers b s tiers t e = λ i. record { setup = b .setup; loads = sym (loads-back b s) i; rights = sym (rights-back b s) i; priors = sym (priors-back b s) i; papers = sym (papers-back b s) i; tiers = e i }
 
 module _ (o f : List ℕ) (m : List Bool) (x : List Entry) (r : Reached o f m x) where
   abbrev b : Parts

@@ -11,14 +11,13 @@ use borrow.Author.Tests.{ne-eqb}
 use Rattle.tariff.specs.declared.evidence.Entry.{Entry}
 use Rattle.tariff.specs.Sum.{listTo}
 use Rattle.tariff.proofs.Lists.{length-list-to, at-list-to}
-use Rattle.ledger.specs.Ledger.{withTiers}
 use Rattle.ledger.specs.Causes.{refusal}
 use Rattle.ledger.specs.Call.{openTier, closeTier}
 use Rattle.ledger.specs.Effects.{afterOpen, afterClose, effect}
 use Rattle.ledger.specs.Season.{accepted}
 use Rattle.ledger.proofs.TiersSound.{TiersSound, tiers-sound}
 use Rattle.ledger.proofs.TierFacts.{open-facts, close-fact}
-use Rattle.records.specs.Parts.{Parts}
+use Rattle.records.specs.Parts.{Tiers, Parts}
 use Rattle.records.specs.Cells.{cellOf, readAt, cellsOf}
 use Rattle.records.specs.Reading.{tiersIn, tiersOf, ledgerOf, partsOf}
 use Rattle.records.specs.Opening.{setupIn, openingOf, openingIn}
@@ -28,12 +27,12 @@ use Rattle.records.specs.Handed.{Reached, Handed}
 use Rattle.records.proofs.Known.{Known}
 use Rattle.records.proofs.CellLaws.{array-is, cells-read, read-here, cell-below}
 use Rattle.records.proofs.Narrow.{third-zero}
-use Rattle.records.proofs.PartLaws.{Shaped, loads-back, rights-back, priors-back, papers-back}
+use Rattle.records.proofs.PartLaws.{Shaped}
 use Rattle.records.proofs.RoundTrip.{reached-ledger}
 use Rattle.records.proofs.LayoutLaws.{withNominated, withTurn}
 use Rattle.records.proofs.ReachedParts.{known, shaped-known, marks-known}
 use Rattle.records.proofs.HandedLaws.{accepted-test, handed-accepted}
-use Rattle.tiers.proofs.PutLaws.{nominated-sized, opened-put, closed-put}
+use Rattle.tiers.proofs.PutLaws.{with-tiers, nominated-sized, opened-put, closed-put}
 
 -- cells with nothing in them
 no-cells : (ys : List ℕ) (n : ℕ) (f : ℕ → ℕ → ℕ → ℕ) → ys ≡ listTo n (λ k. 0) → n ≡ 128 → ((h p : ℕ) → f h p 0 ≡ 0) → ys ≡ cellsOf 1 0 f
@@ -45,46 +44,23 @@ no-cells ys n f e sized none =
 reached-sound : (b : Parts) → Known b → TiersSound (ledgerOf b .tiers)
 reached-sound b r = subst (λ L. TiersSound (L .tiers)) (sym (reached-ledger b r)) (tiers-sound (r .opening) (r .calls))
 
+-- no nominations, and the awards as they were
+cleared-tiers : (b : Parts) → Shaped b → (n : ℕ) (ys : List ℕ) (last now : ℕ) (f : ℕ → ℕ → ℕ) → ys ≡ listTo n (λ k. 0) → n ≡ 128 → ((h p : ℕ) → f h p ≡ 0) → _≡_ {A = Tiers} (record { nominated = ys; awards = b .tiers .awards; lastClosed = last; openNow = now }) (record { nominated = cellsOf 1 0 (λ h p z. f h p); awards = cellsOf 10 0 (readAt 10 0 0 (b .tiers .awards)); lastClosed = last; openNow = now })
+cleared-tiers b s n ys last now f clear sized none =
+    λ i. record { nominated = no-cells ys n (λ h p z. f h p) clear sized none i; awards = sym (cells-read 10 0 0 (b .tiers .awards) (omega arith) (s .awards)) i; lastClosed = last; openNow = now }
+
 opened-book : (b : Parts) → Known b → Shaped b → (tier n : ℕ) (ys : List ℕ) → ys ≡ listTo n (λ k. 0) → n ≡ 128 → accepted (openingOf (b .setup)) (ledgerOf b) (openTier tier) ≡ true → _≡_ {A = Parts} (record { setup = b .setup; loads = b .loads; rights = b .rights; priors = b .priors; papers = b .papers; tiers = record { nominated = ys; awards = b .tiers .awards; lastClosed = b .tiers .lastClosed; openNow = tier } }) (partsOf (b .setup) (effect (openingOf (b .setup)) (ledgerOf b) (openTier tier)))
-unfolding partsOf effect withTiers ledgerOf tiersOf afterOpen tiersIn
+unfolding effect ledgerOf tiersOf afterOpen tiersIn
 opened-book b r s tier n ys clear sized e =
-    λ i.
-    record {
-      setup = b .setup;
-      loads = sym (loads-back b s) i;
-      rights = sym (rights-back b s) i;
-      priors = sym (priors-back b s) i;
-      papers = sym (papers-back b s) i;
-      tiers =
-          record {
-            nominated = no-cells ys n (λ h p z. cond (eqb tier (b .tiers .openNow)) (readAt 1 0 0 (b .tiers .nominated) h p 0) (readAt 10 0 0 (b .tiers .awards) h p tier)) clear sized (λ h p. fresh h p) i;
-            awards = sym (cells-read 10 0 0 (b .tiers .awards) (omega arith) (s .awards)) i;
-            lastClosed = b .tiers .lastClosed;
-            openNow = tier;
-          };
-    }
+    with-tiers b s _ (afterOpen (tiersIn (b .tiers)) tier) (cleared-tiers b s n ys (b .tiers .lastClosed) tier (λ h p. ledgerOf b .tiers .nominated h p tier) clear sized fresh)
   where
     fresh : (h p : ℕ) → ledgerOf b .tiers .nominated h p tier ≡ 0
     fresh h p = let f = open-facts (openingOf (b .setup)) (ledgerOf b) tier e in reached-sound b r .fresh h p tier (omega arith) (λ q. omega (arith, q))
 
 closed-book : (b : Parts) → Known b → Shaped b → (n : ℕ) (ys : List ℕ) → ys ≡ listTo n (λ k. 0) → n ≡ 128 → accepted (openingOf (b .setup)) (ledgerOf b) closeTier ≡ true → _≡_ {A = Parts} (record { setup = b .setup; loads = b .loads; rights = b .rights; priors = b .priors; papers = b .papers; tiers = record { nominated = ys; awards = b .tiers .awards; lastClosed = b .tiers .openNow; openNow = 0 } }) (partsOf (b .setup) (effect (openingOf (b .setup)) (ledgerOf b) closeTier))
-unfolding partsOf effect withTiers ledgerOf tiersOf afterClose tiersIn
+unfolding effect ledgerOf tiersOf afterClose tiersIn
 closed-book b r s n ys clear sized e =
-    λ i.
-    record {
-      setup = b .setup;
-      loads = sym (loads-back b s) i;
-      rights = sym (rights-back b s) i;
-      priors = sym (priors-back b s) i;
-      papers = sym (papers-back b s) i;
-      tiers =
-          record {
-            nominated = no-cells ys n (λ h p z. cond (eqb 0 (b .tiers .openNow)) (readAt 10 0 0 (b .tiers .awards) h p 0) (cond (eqb 0 (b .tiers .openNow)) (readAt 1 0 0 (b .tiers .nominated) h p 0) (readAt 10 0 0 (b .tiers .awards) h p 0))) clear sized (λ h p. none h p) i;
-            awards = sym (cells-read 10 0 0 (b .tiers .awards) (omega arith) (s .awards)) i;
-            lastClosed = b .tiers .openNow;
-            openNow = 0;
-          };
-    }
+    with-tiers b s _ (afterClose (tiersIn (b .tiers))) (cleared-tiers b s n ys (b .tiers .openNow) 0 (λ h p. cond (eqb 0 (b .tiers .openNow)) (readAt 10 0 0 (b .tiers .awards) h p 0) (ledgerOf b .tiers .nominated h p 0)) clear sized none)
   where
     isOpen : 1 ≤ ledgerOf b .tiers .openNow
     isOpen = close-fact (openingOf (b .setup)) (ledgerOf b) e

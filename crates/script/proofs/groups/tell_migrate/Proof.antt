@@ -1,5 +1,5 @@
 -- `script::groups::tell_migrate` meets its contract: the lines are read, and the migration put to the book if they are whole. Assumes nothing.
-use mathlib.Core.Path.{sym, _∙_}
+use mathlib.Core.Path.{sym}
 use mathlib.Core.List.{[]}
 use native.Mathlib.Nat.{le-trans, le-of-eq}
 use borrow.Author.Tests.{not-true, not-false}

@@ -4,7 +4,6 @@ use mathlib.Core.Path.{sym, ap, _∙_}
 use native.Mathlib.Omega.{arith}
 use borrow.Author.Tests.{not-true, not-false}
 use Rattle.tariff.specs.Evidence.{entryKw}
-use Rattle.tariff.specs.Sum.{countIf}
 use Rattle.tariff.specs.Terms.{termOf}
 use Rattle.tariff.proofs.Sums.{count-true, count-false}
 use borrow.Author.Needs.{needs}
