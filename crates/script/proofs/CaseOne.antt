@@ -22,7 +22,7 @@ use Rattle.ledger.specs.Effects.{same2, same3, plusAt2, plusAt3, plusInTerm, af
 use Rattle.ledger.specs.Season.{accepted, step, held, net, figure, answer, stepAsk}
 use Rattle.lines.specs.Text.{bytesOf, toFirstLine, linesOf, toFirstField, fieldsOf, isDigit, allDigits, isNumber, valueAfter, valueOf, digit, digitsOf, decimal}
 use Rattle.lines.specs.Rows.{forms, sameBytes, kindAmong, kindOf, allNumbers, row, unreadableRow, rowIf, rowOfFields, rowOf, rowsOf, field, allOfKind, counted, holderRows, sinkRows, pathRows}
-use Rattle.script.specs.Groups.{blockOf, classLineOf, lookUp, linesCounted, whole, asksOf, groupsFrom, groupsOf, bookReadable, openingOfRows, callRows}
+use Rattle.groups.specs.Groups.{blockOf, classLineOf, lookUp, linesCounted, whole, asksOf, groupsFrom, groupsOf, bookReadable, openingOfRows, callRows}
 use Rattle.script.specs.Answers.{answersTo, answersAfter, scriptAnswers, textOf, textsOf}
 use Rattle.script.specs.Run.{answersText}
 

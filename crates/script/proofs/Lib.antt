@@ -1,12 +1,7 @@
 pub mod CaseOne
-pub mod RowLists
-pub mod GroupLaws
-pub mod HeadLaws
 pub mod PlayedLaws
-pub mod ToldLaws
 pub mod AnswerLaws
 pub mod WritableLaws
 pub mod PlayLaws
-pub mod StartedLaws
 pub mod RunLaws
 pub mod ScriptLaws

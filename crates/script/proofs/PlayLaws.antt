@@ -30,13 +30,13 @@ use Rattle.lines.proofs.RowSteps.{first-row, used-some, used-within}
 use Rattle.lines.proofs.LineBytes.{bytes-within, rows-after}
 use Rattle.lines.proofs.FieldLaws.{rest-whole}
 use Rattle.lines.proofs.WritingLaws.{written-length, written-again}
-use Rattle.script.specs.Groups.{Asked, nothing, asked, linesCounted, asksOf, groupsFrom, groupsOf}
+use Rattle.groups.specs.Groups.{Asked, nothing, asked, linesCounted, asksOf, groupsFrom, groupsOf}
 use Rattle.script.specs.Answers.{textOf, textsOf}
-use Rattle.script.specs.Played.{answeredTo, answersOf, textFrom}
+use Rattle.script.specs.Played.{answersOf, textFrom}
 use Rattle.script.specs.Writing.{Writable}
-use Rattle.script.specs.Told.{headAsks, headBytes, groupAsked, groupBytes, Answers}
-use Rattle.script.proofs.GroupLaws.{first-group, drop-shorter}
-use Rattle.script.proofs.ToldLaws.{row-bytes, row-told}
+use Rattle.groups.specs.Told.{headAsks, headBytes, groupAsked, groupBytes, Answers, answeredTo}
+use Rattle.groups.proofs.GroupLaws.{first-group, drop-shorter}
+use Rattle.groups.proofs.ToldLaws.{row-bytes, row-told}
 use Rattle.script.proofs.PlayedLaws.{answered-reached}
 use Rattle.script.proofs.AnswerLaws.{text-short}
 use Rattle.script.proofs.WritableLaws.{handed-writable, told-writable}

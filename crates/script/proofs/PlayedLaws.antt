@@ -13,9 +13,10 @@ use Rattle.book.specs.Handed.{refusedWith}
 use Rattle.book.specs.Reached.{Reached}
 use Rattle.book.proofs.ReachedSteps.{bookAt, at-next, handed-reached}
 use Rattle.book.proofs.SeasonAnswers.{call-answered, query-answered}
-use Rattle.script.specs.Groups.{Asked, nothing, asked}
+use Rattle.groups.specs.Told.{answeredTo}
+use Rattle.groups.specs.Groups.{Asked, nothing, asked}
 use Rattle.script.specs.Answers.{answersTo}
-use Rattle.script.specs.Played.{answeredTo, answersOf}
+use Rattle.script.specs.Played.{answersOf}
 
 -- the book handed on is one to go on with
 pub answered-reached : (b : Book) → Reached b → (g : Asked) → Reached (answeredTo b g .book)

@@ -25,13 +25,13 @@ use Rattle.lines.specs.Rows.{rowsOf}
 use Rattle.lines.specs.Reading.{nextRow}
 use Rattle.lines.specs.Writing.{writtenAt}
 use Rattle.lines.proofs.RowSteps.{first-row}
-use Rattle.script.specs.Groups.{groupsOf, bookReadable, openingOfRows, callRows}
+use Rattle.groups.specs.Groups.{groupsOf, bookReadable, openingOfRows, callRows}
 use Rattle.script.specs.Answers.{answersTo, answersAfter, scriptAnswers, textOf, textsOf}
 use Rattle.script.specs.Played.{answersOf, textFrom}
-use Rattle.script.specs.Started.{startedWith, openingLeft, startedOf, openingAfter}
+use Rattle.groups.specs.Started.{startedWith, openingLeft, startedOf, openingAfter}
 use Rattle.script.specs.Run.{tooLong, tooShort, answersText, written, runRefusal, runNumber, outputAfter}
 use Rattle.script.proofs.PlayedLaws.{played}
-use Rattle.script.proofs.StartedLaws.{start-readable}
+use Rattle.groups.proofs.StartedLaws.{start-readable}
 
 -- what the groups after a legal opening are answered
 groups-text : (o : Opening) → legal o ≡ true → (rows : List Row) → textsOf (map answerIn (answersOf (openedAs o .book) (groupsOf rows))) ≡ textsOf (answersTo o emptyLedger (groupsOf rows))

@@ -1,13 +1,17 @@
 -- A script that is answered: its book group first, then what is left of it. Assumes nothing.
-use Prim.Native.Nat.{ℕ, _+_, _*_, _≤_}
+use Prim.Native.Nat.{ℕ, _+_, _*_, _≤_, _<_}
 use mathlib.Core.Path.{_≡_, sym, ap, _∙_, subst}
-use mathlib.Core.Bool.{true, false}
+use mathlib.Core.Bool.{Bool, true, false, cond}
 use mathlib.Core.List.{List, _++_}
 use native.Mathlib.Nat.{le-trans, le-of-eq, zero-add}
 use native.Mathlib.Omega.{arith}
 use lib.ListN.{length, drop, length-append}
 use Rattle.records.specs.Handed.{answerIn}
+use Rattle.ledger.specs.Opening.{legal, openingRefusal}
 use Rattle.ledger.specs.Ledger.{emptyLedger}
+use Rattle.records.specs.declared.answers.Answer.the-variants.{Done, Refused}
+use Rattle.opening.specs.Opened.{openedAnswer}
+use Rattle.lines.specs.declared.rows.Row.{Row}
 use Rattle.book.specs.Reading.{bookOf}
 use Rattle.book.specs.Reached.{Reached}
 use Rattle.lines.specs.Rows.{rowsOf, field}
@@ -15,17 +19,34 @@ use Rattle.lines.specs.Reading.{nextRow}
 use Rattle.lines.specs.Writing.{writtenAt}
 use Rattle.lines.proofs.RowSteps.{first-row}
 use Rattle.lines.proofs.WritingLaws.{written-length, written-again}
-use Rattle.script.specs.declared.opened.Started.{Started}
-use Rattle.script.specs.Groups.{callRows}
+use Rattle.groups.specs.declared.opened.Started.{Started}
+use Rattle.groups.specs.Groups.{bookReadable, openingOfRows, callRows}
 use Rattle.script.specs.Answers.{textOf}
 use Rattle.script.specs.Played.{textFrom}
-use Rattle.script.specs.Started.{startedOf, openingAfter}
+use Rattle.groups.specs.Started.{startedWith, startedOf, openingAfter}
 use Rattle.script.specs.Writing.{Writable}
 use Rattle.script.specs.Run.{answersText}
-use Rattle.script.proofs.GroupLaws.{drop-shorter}
-use Rattle.script.proofs.StartedLaws.{start-readable, start-within, start-reached, start-writable}
+use Rattle.groups.proofs.GroupLaws.{drop-shorter}
+use Rattle.groups.proofs.StartedLaws.{start-readable, start-within, start-reached}
 use Rattle.script.proofs.AnswerLaws.{text-short}
+use Rattle.script.proofs.WritableLaws.{opening-refusal-small}
 use Rattle.script.proofs.RunLaws.{run-stops, run-goes-on}
+
+-- what the book group is answered fits its line
+start-writable : (script : List ℕ) → Writable (answerIn (startedOf script .answer))
+unfolding startedOf startedWith openedAnswer answerIn Writable
+start-writable script = go (bookReadable first left) (legal (openingOfRows first left)) (openingRefusal (openingOfRows first left)) (opening-refusal-small (openingOfRows first left))
+  where
+    first : Row
+    first = nextRow script .row
+
+    left : List Row
+    left = rowsOf (drop (nextRow script .used) script)
+
+    go : (t u : Bool) (n : ℕ) → n < 100 → Writable (answerIn (cond t (cond u Done (Refused n)) (Refused 1)))
+    go true true n l = tt
+    go true false n l = l
+    go false u n l = omega arith
 
 module _ (script out : List ℕ) (some : 1 ≤ length script) (few : length (rowsOf script) ≤ 4096) (room : 16 * length (rowsOf script) ≤ length out) (x : Started) (is : x ≡ startedOf script) (o₀ o : List ℕ) (opening : o ≡ openingAfter script o₀) where
   abbrev text : List ℕ

@@ -7,7 +7,7 @@ use Rattle.ledger.specs.Ledger.{Ledger, emptyLedger}
 use Rattle.ledger.specs.Season.{Answer, done, value, refused, answer, stepAsk}
 use Rattle.lines.specs.declared.rows.Row.{Row}
 use Rattle.lines.specs.Text.{bytesOf, lineFeed, digit, decimal}
-use Rattle.script.specs.Groups.{Asked, nothing, asked, groupsOf, bookReadable, openingOfRows, callRows}
+use Rattle.groups.specs.Groups.{Asked, nothing, asked, groupsOf, bookReadable, openingOfRows, callRows}
 
 -- a group with an unreadable or absent line gets one 1 and is passed over
 unfoldable pub answersTo : Opening → Ledger → List Asked → List Answer

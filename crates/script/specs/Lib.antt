@@ -1,9 +1,5 @@
--- The script's format above its lines: groups, answers, and a run over them.
-pub mod Groups
+-- The script's format above its groups: answers, and a run over them.
 pub mod Answers
 pub mod Run
-pub mod Heads
 pub mod Played
 pub mod Writing
-pub mod Told
-pub mod Started

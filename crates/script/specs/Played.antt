@@ -1,4 +1,4 @@
--- Groups put to a book: what each is answered, and the book that it hands on.
+-- Groups put to a book, one after another, and the text of what it answers.
 use Prim.Native.Nat.{ℕ}
 use mathlib.Core.List.{List, [], _∷_, map}
 use Rattle.ledger.specs.Season.{call, query}
@@ -8,15 +8,11 @@ use Rattle.book.specs.declared.book.Answered.{Answered}
 use Rattle.records.specs.Handed.{answerIn}
 use Rattle.book.specs.Handed.{refusedWith, handed, told}
 use Rattle.lines.specs.Rows.{rowsOf}
-use Rattle.script.specs.Groups.{Asked, nothing, asked, groupsOf}
+use Rattle.groups.specs.Groups.{Asked, groupsOf}
+use Rattle.groups.specs.Told.{answeredTo}
 use Rattle.script.specs.Answers.{textsOf}
 
--- a group that asks nothing is answered 1 and passed over; a query hands on the book that it is put to
-unfoldable pub answeredTo : Book → Asked → Answered
-answeredTo b nothing = refusedWith b 1
-answeredTo b (asked (call c)) = handed b c
-answeredTo b (asked (query q)) = record { answer = told b q; book = b }
-
+-- what a book answers to groups, each put to the book that the one before handed on
 unfoldable pub answersOf : Book → List Asked → List Answer
 answersOf b [] = []
 answersOf b (g ∷ groups) = answeredTo b g .answer ∷ answersOf (answeredTo b g .book) groups

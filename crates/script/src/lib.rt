@@ -1,8 +1,5 @@
-// Scripts: the calls and queries of a season as lines of text, and the answers to them.
+// Scripts: the groups of a season one after another, and the answers to them; `run` over lent bytes.
 
 pub mod answers;
-pub mod groups;
-pub mod heads;
-pub mod opened;
 pub mod play;
 pub mod run;

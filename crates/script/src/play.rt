@@ -1,8 +1,8 @@
 // The groups of a script, answered one after another (01, Script and host).
 use crate::answers::write_answer;
-use crate::groups::tell_head;
-use crate::heads::tell_verify;
 use book::opened::no_entries;
+use groups::groups::tell_head;
+use groups::heads::tell_verify;
 use lines::lines::next_row;
 use lines::rows::VERIFY;
 use tiers::verification::evidence_place;

@@ -1,7 +1,7 @@
 // A run over a lent script and a lent output buffer (01, Script and host).
 use crate::answers::write_answer;
-use crate::opened::start;
 use crate::play::play;
+use groups::opened::start;
 use lines::text::count_lines;
 ghost use mathlib.Core.Path.{_≡_};
 ghost use Prim.Native.Nat.{_*_, _≤_};

@@ -10,7 +10,7 @@ use Rattle.records.proofs.ReachedParts.{figures-sized, marks-sized}
 use Rattle.tiers.proofs.EvidenceLaws.{place-below, place-fits, place-verified}
 use Rattle.book.specs.Reading.{bookIn, bookOf}
 use Rattle.lines.specs.Rows.{field}
-use Rattle.script.proofs.ToldLaws.{verify-counts}
+use Rattle.groups.proofs.ToldLaws.{verify-counts}
 use Rattle.script.proofs.PlayLaws.{PlayedTo, none-played, played-length, played-within, turn-room, head-some, head-within, behind-few, turn-within, turn-writable, played-turn, row-writable, row-turn, played-number, played-bytes}
 use Rattle.script.proofs.play.play.Statement.{statement}
 use Rattle.script.proofs.play.play.Tie as tie

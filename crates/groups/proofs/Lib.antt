@@ -1,0 +1,5 @@
+pub mod RowLists
+pub mod GroupLaws
+pub mod HeadLaws
+pub mod ToldLaws
+pub mod StartedLaws

@@ -1,0 +1,5 @@
+-- Groups of rows: what they ask of a book, and what it answers to one.
+pub mod Groups
+pub mod Heads
+pub mod Told
+pub mod Started

@@ -1,0 +1,133 @@
+// Groups: a head with the lines that it counts, put to a book's lent arrays (01, Script and host).
+use crate::heads::ask_row;
+use lines::counted::read_counted;
+use lines::rows::BLOCK;
+use lines::rows::CLASS;
+use lines::rows::LOAD;
+use lines::rows::MIGRATE;
+use lines::rows::Row;
+use moves::migrate::migrate;
+use posting::load::load;
+use records::answers::Answer;
+ghost use mathlib.Core.Path.{_≡_};
+ghost use mathlib.Core.Bool.{Bool};
+ghost use mathlib.Core.List.{List};
+ghost use Prim.Native.Nat.{_≤_};
+ghost use lib.ListN.{length};
+ghost use Rattle.tariff.specs.declared.evidence.Entry.{Entry};
+ghost use Rattle.records.specs.Handed.{Kept, Posted, Reached};
+ghost use Rattle.book.specs.Reading.{bookIn};
+ghost use Rattle.lines.specs.Rows.{rowsOf, loadLine, verifyLine, migrateLine};
+ghost use Rattle.groups.specs.Told.{headAsks, headBytes, Answers, VerifiedFor};
+
+// What a group is answered, and how many bytes the lines behind its head take.
+pub struct Told {
+    pub answer: Answer,
+    pub used: usize,
+}
+
+// A load and the block lines that it counts, in slices of first hours, lengths and kW. The other two slices are room for what such lines lack.
+fn tell_load(
+    o: &[u64],
+    f: &mut [u64],
+    m: &mut [bool],
+    head: Row,
+    behind: &[u8],
+    a: &mut [u64],
+    b: &mut [u64],
+    c: &mut [u64],
+    d: &mut [u64],
+    e: &mut [u64],
+) -> Told
+    requires { ⌜ (Posted (now o) (now f) (now m) × (head .kind ≡ loadLine)) × (length (rowsOf (now behind)) ≤ 4096) × (length (now a) ≡ 4096) × (length (now b) ≡ 4096) × (length (now c) ≡ 4096) × (length (now d) ≡ 4096) × (length (now e) ≡ 4096) ⌝ }
+    ensures { λ r. ⌜ ((x : List Entry) → Reached (now (o .entry)) (now (f .entry)) (now (m .entry)) x → Answers (bookIn (now (o .entry)) (now (f .entry)) (now (m .entry)) x) (headAsks head (now (behind .entry))) (r .answer) (bookIn (now (o .entry)) (now (f .exit)) (now (m .exit)) x)) × (r .used ≡ headBytes head (now (behind .entry))) × (length (now (a .exit)) ≡ 4096) × (length (now (b .exit)) ≡ 4096) × (length (now (c .exit)) ≡ 4096) × (length (now (d .exit)) ≡ 4096) × (length (now (e .exit)) ≡ 4096) ⌝ }
+{
+    let n = head.fields;
+    let count = n[5];
+    let read = read_counted(behind, BLOCK, count, a, b, c, d, e);
+    let used = read.used;
+    if !read.whole {
+        let answer = Answer::Refused(1);
+        return Told { answer, used };
+    }
+    let k = count as usize;
+    let answer = load(
+        o,
+        f,
+        m,
+        n[0],
+        n[1],
+        n[2],
+        n[3],
+        n[4],
+        &a[..k],
+        &b[..k],
+        &c[..k],
+    );
+    Told { answer, used }
+}
+
+// A migrate and the class lines that it counts, a field to a slice.
+fn tell_migrate(
+    o: &[u64],
+    f: &mut [u64],
+    head: Row,
+    behind: &[u8],
+    a: &mut [u64],
+    b: &mut [u64],
+    c: &mut [u64],
+    d: &mut [u64],
+    e: &mut [u64],
+) -> Told
+    requires { ⌜ (Kept (now o) (now f) × (head .kind ≡ migrateLine)) × (length (rowsOf (now behind)) ≤ 4096) × (length (now a) ≡ 4096) × (length (now b) ≡ 4096) × (length (now c) ≡ 4096) × (length (now d) ≡ 4096) × (length (now e) ≡ 4096) ⌝ }
+    ensures { λ r. ⌜ ((m : List Bool) (x : List Entry) → Reached (now (o .entry)) (now (f .entry)) m x → Answers (bookIn (now (o .entry)) (now (f .entry)) m x) (headAsks head (now (behind .entry))) (r .answer) (bookIn (now (o .entry)) (now (f .exit)) m x)) × (r .used ≡ headBytes head (now (behind .entry))) × (length (now (a .exit)) ≡ 4096) × (length (now (b .exit)) ≡ 4096) × (length (now (c .exit)) ≡ 4096) × (length (now (d .exit)) ≡ 4096) × (length (now (e .exit)) ≡ 4096) ⌝ }
+{
+    let n = head.fields;
+    let count = n[2];
+    let read = read_counted(behind, CLASS, count, a, b, c, d, e);
+    let used = read.used;
+    if !read.whole {
+        let answer = Answer::Refused(1);
+        return Told { answer, used };
+    }
+    let k = count as usize;
+    let answer = migrate(
+        o,
+        f,
+        n[0],
+        n[1],
+        &a[..k],
+        &b[..k],
+        &c[..k],
+        &d[..k],
+        &e[..k],
+    );
+    Told { answer, used }
+}
+
+// A head with the lines that stand behind it. It is no verify, and for a nomination it is told what the holder has verified.
+pub fn tell_head(
+    o: &[u64],
+    f: &mut [u64],
+    m: &mut [bool],
+    verified: u64,
+    head: Row,
+    behind: &[u8],
+    a: &mut [u64],
+    b: &mut [u64],
+    c: &mut [u64],
+    d: &mut [u64],
+    e: &mut [u64],
+) -> Told
+    requires { ⌜ (Posted (now o) (now f) (now m) × (head .kind ≡ verifyLine → ⊥)) × (length (rowsOf (now behind)) ≤ 4096) × (length (now a) ≡ 4096) × (length (now b) ≡ 4096) × (length (now c) ≡ 4096) × (length (now d) ≡ 4096) × (length (now e) ≡ 4096) ⌝ }
+    ensures { λ r. ⌜ ((x : List Entry) → Reached (now (o .entry)) (now (f .entry)) (now (m .entry)) x → VerifiedFor (now (o .entry)) (now (f .entry)) (now (m .entry)) x head verified → Answers (bookIn (now (o .entry)) (now (f .entry)) (now (m .entry)) x) (headAsks head (now (behind .entry))) (r .answer) (bookIn (now (o .entry)) (now (f .exit)) (now (m .exit)) x)) × (r .used ≡ headBytes head (now (behind .entry))) × (length (now (a .exit)) ≡ 4096) × (length (now (b .exit)) ≡ 4096) × (length (now (c .exit)) ≡ 4096) × (length (now (d .exit)) ≡ 4096) × (length (now (e .exit)) ≡ 4096) ⌝ }
+{
+    if head.kind == LOAD {
+        return tell_load(o, f, m, head, behind, a, b, c, d, e);
+    }
+    if head.kind == MIGRATE {
+        return tell_migrate(o, f, head, behind, a, b, c, d, e);
+    }
+    let answer = ask_row(o, f, m, verified, head);
+    Told { answer, used: 0 }
+}

@@ -1,0 +1,5 @@
+// Groups: a head with the lines that it counts, put to a book's lent arrays; the book group first.
+
+pub mod groups;
+pub mod heads;
+pub mod opened;
