@@ -1,5 +1,5 @@
 -- What the book group at the start of a script comes to. Assumes nothing.
-use Prim.Native.Nat.{ℕ, zero, suc, _+_, _-_, _≤_, _<_, zero-le}
+use Prim.Native.Nat.{ℕ, zero, suc, _+_, _-_, _≤_, zero-le}
 use mathlib.Core.Path.{_≡_, refl, sym, ap, _∙_}
 use mathlib.Core.Bool.{Bool, true, false, cond, _&&_, and-assoc, and-comm}
 use mathlib.Core.List.{List, [], _∷_, map}
@@ -15,7 +15,6 @@ use Rattle.ledger.specs.Ledger.{emptyLedger}
 use Rattle.records.specs.Opening.{openingArray, openingFrom}
 use Rattle.records.specs.declared.answers.Answer.{Answer}
 use Rattle.records.specs.declared.answers.Answer.the-variants.{Done, Refused}
-use Rattle.records.specs.Handed.{answerIn}
 use Rattle.opening.specs.Opened.{openedAnswer, openedOpening}
 use Rattle.book.specs.Reading.{bookOf}
 use Rattle.book.specs.Opened.{openedAs}

@@ -1,12 +1,9 @@
 -- Groups put to a book, one after another, and the text of what it answers.
 use Prim.Native.Nat.{ℕ}
 use mathlib.Core.List.{List, [], _∷_, map}
-use Rattle.ledger.specs.Season.{call, query}
 use Rattle.book.specs.declared.book.Book.{Book}
 use Rattle.records.specs.declared.answers.Answer.{Answer}
-use Rattle.book.specs.declared.book.Answered.{Answered}
 use Rattle.records.specs.Handed.{answerIn}
-use Rattle.book.specs.Handed.{refusedWith, handed, told}
 use Rattle.lines.specs.Rows.{rowsOf}
 use Rattle.groups.specs.Groups.{Asked, groupsOf}
 use Rattle.groups.specs.Told.{answeredTo}
