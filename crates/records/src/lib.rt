@@ -5,6 +5,7 @@ pub mod calendar;
 pub mod cells;
 pub mod layout;
 pub mod months;
+pub mod numbers;
 pub mod refusals;
 pub mod setup;
 pub mod sums;

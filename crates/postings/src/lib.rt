@@ -1,0 +1,3 @@
+// Posting: loads, Long Term rights carried in, last year's allocations and evidence. Each changes a book's lent arrays.
+
+pub mod carry;

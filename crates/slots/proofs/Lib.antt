@@ -1,0 +1,17 @@
+pub mod CellLaws
+pub mod ClearLaws
+pub mod GroupLaws
+pub mod StoreLaws
+pub mod RoomLaws
+pub mod MonthLaws
+pub mod Inside
+pub mod MovesInside
+pub mod Confined
+pub mod ReadBack
+pub mod Reachable
+pub mod StepLaws
+pub mod PathSums
+pub mod Figures
+pub mod PostedLaws
+pub mod CalendarLaws
+pub mod Places

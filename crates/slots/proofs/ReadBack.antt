@@ -1,0 +1,101 @@
+-- Out of the arrays of a ledger that calls lead to comes that ledger. Assumes nothing.
+use Prim.Native.Nat.{ℕ, suc, _+_, _-_, _≤_, _<_}
+use mathlib.Core.Path.{_≡_, refl, sym, ap, _∙_}
+use mathlib.Core.Bool.{Bool, true, false, cond}
+use mathlib.Core.List.{List, [], _∷_, _++_}
+use mathlib.Core.Logic.{_⊎_, inl, inr}
+use native.Mathlib.Omega.{arith}
+use lib.ListN.{take, drop}
+use lib.Dec.{leb, eqb}
+use borrow.Author.Tests.{eqb-true, eqb-false, leb-true, leb-false}
+use Rattle.tariff.proofs.Tests.{decided, both-ways}
+use Rattle.tariff.specs.declared.evidence.Entry.{Entry}
+use Rattle.tariff.specs.Evidence.{noEntry, entryKw}
+use Rattle.ledger.specs.Ledger.{Ledger, Tiers}
+use Rattle.ledger.proofs.TiersSound.{TiersSound}
+use Rattle.slots.specs.Cells.{HasCell, readAt, arrayOf, Shows}
+use Rattle.slots.specs.Groups.{Group, group, slotsOf, inSlot, inGroup, figureFrom}
+use Rattle.slots.specs.Layout.{figureSlots, postedSlots, evidenceSlots, figureGroups, postedGroups, evidenceGroups, calendarOf, figuresOf, postedOf, evidenceOf, lastClosedIn, currentTierIn, figureIn, postedIn, ledgerIn}
+use Rattle.slots.proofs.CellLaws.{array-shows}
+use Rattle.slots.proofs.GroupLaws.{group-facts, in-group, group-slot}
+use Rattle.slots.proofs.Inside.{Inside, Inside2}
+use Rattle.slots.proofs.Confined.{Confined}
+
+-- what is read of a group in the array of groups is the group's figure, where that has nothing without a slot
+pub group-back : {A : Type 0} (none : A) (width : ℕ) (rest : List A) (before after : List (Group A)) (from count low : ℕ) (figure : ℕ → ℕ → ℕ → A) → slotsOf before ≡ from → from + count ≤ width → (h p k : ℕ) → (inGroup count low h p k ≡ false → figure h p k ≡ none) → figureFrom width none (arrayOf width (inSlot none (before ++ (group count low figure ∷ after))) rest) from count low h p k ≡ figure h p k
+unfolding figureFrom
+group-back {A} none width rest before after from count low figure at fits h p k inside = go (decided (inGroup count low h p k))
+  where
+    groups : List (Group A)
+    groups = before ++ (group count low figure ∷ after)
+
+    go : (inGroup count low h p k ≡ true) ⊎ (inGroup count low h p k ≡ false) → cond (inGroup count low h p k) (readAt width none (arrayOf width (inSlot none groups) rest) h p (from + (k - low))) none ≡ figure h p k
+    go (inl e) =
+        let f = group-facts count low h p k e in
+        ap (λ t. cond t (readAt width none (arrayOf width (inSlot none groups) rest) h p (from + (k - low))) none) e
+        ∙ array-shows width none (inSlot none groups) rest .each h p (from + (k - low)) (record { holder = f .0; place = f .1; inRow = omega arith })
+        ∙ ap (λ n. inSlot none groups h p (n + (k - low))) (sym at)
+        ∙ group-slot none before after count low figure h p (k - low) (omega arith)
+        ∙ ap (figure h p) (let same : k - low + low ≡ k = omega arith in same)
+    go (inr e) = ap (λ t. cond t (readAt width none (arrayOf width (inSlot none groups) rest) h p (from + (k - low))) none) e ∙ sym (inside e)
+
+-- in a tier that is not open the nominations are the awards
+pub settled-even : (T : Tiers) → TiersSound T → (h p t : ℕ) → (t ≡ T .openNow → ⊥) → T .awards h p t ≡ T .nominated h p t
+settled-even T s h p t ne = go (leb t (T .lastClosed)) refl
+  where
+    go : (b : Bool) → leb t (T .lastClosed) ≡ b → T .awards h p t ≡ T .nominated h p t
+    go true e = sym (s .closedEven h p t (leb-true t (T .lastClosed) e))
+    go false e =
+        let fresh = s .fresh h p t (leb-false t (T .lastClosed) e) ne in
+        let within = s .awardsWithin h p t in
+        omega arith
+
+module _ (L : Ledger) (k : Confined L) where
+  -- group i of the figures, and of what was posted
+  figure-back : (i from count low : ℕ) (figure : ℕ → ℕ → ℕ → ℕ) → slotsOf (take i (figureGroups L)) ≡ from → from + count ≤ figureSlots → figureGroups L ≡ take i (figureGroups L) ++ (group count low figure ∷ drop (suc i) (figureGroups L)) → (h p n : ℕ) → (inGroup count low h p n ≡ false → figure h p n ≡ 0) → figureIn (figuresOf L) from count low h p n ≡ figure h p n
+  unfolding figureIn figuresOf
+  figure-back i from count low figure at fits e h p n inside =
+      ap (λ g. figureFrom figureSlots 0 (arrayOf figureSlots (inSlot 0 g) (calendarOf L)) from count low h p n) e
+      ∙ group-back 0 figureSlots (calendarOf L) (take i (figureGroups L)) (drop (suc i) (figureGroups L)) from count low figure at fits h p n inside
+
+  posted-back : (i from count low : ℕ) (figure : ℕ → ℕ → ℕ → Bool) → slotsOf (take i (postedGroups L)) ≡ from → from + count ≤ postedSlots → postedGroups L ≡ take i (postedGroups L) ++ (group count low figure ∷ drop (suc i) (postedGroups L)) → (h p n : ℕ) → (inGroup count low h p n ≡ false → figure h p n ≡ false) → postedIn (postedOf L) from count low h p n ≡ figure h p n
+  unfolding postedIn postedOf
+  posted-back i from count low figure at fits e h p n inside =
+      ap (λ g. figureFrom postedSlots false (arrayOf postedSlots (inSlot false g) []) from count low h p n) e
+      ∙ group-back false postedSlots [] (take i (postedGroups L)) (drop (suc i) (postedGroups L)) from count low figure at fits h p n inside
+
+  -- the numbers behind the figures
+  pub closed-back : lastClosedIn (figuresOf L) ≡ L .tiers .lastClosed
+  unfolding lastClosedIn figuresOf calendarOf
+  closed-back = array-shows figureSlots 0 (inSlot 0 (figureGroups L)) (calendarOf L) .behind 0
+
+  pub current-back : currentTierIn (figuresOf L) ≡ L .tiers .openNow
+  unfolding currentTierIn figuresOf calendarOf
+  current-back = array-shows figureSlots 0 (inSlot 0 (figureGroups L)) (calendarOf L) .behind 1
+
+  nominated-back : (h p t : ℕ) → cond (eqb t (currentTierIn (figuresOf L))) (figureIn (figuresOf L) 12 1 0 h p 0) (figureIn (figuresOf L) 13 10 0 h p t) ≡ L .tiers .nominated h p t
+  unfolding figureGroups slotsOf
+  nominated-back h p t = ap (λ n. cond (eqb t n) (figureIn (figuresOf L) 12 1 0 h p 0) (figureIn (figuresOf L) 13 10 0 h p t)) current-back ∙ go (eqb t (L .tiers .openNow)) refl
+    where
+      opened : inGroup 1 0 h p 0 ≡ false → L .tiers .nominated h p (L .tiers .openNow) ≡ 0
+      opened none = k .tiers .nominated h p (L .tiers .openNow) (outside (decided (inGroup 10 0 h p (L .tiers .openNow))))
+        where
+          outside : (inGroup 10 0 h p (L .tiers .openNow) ≡ true) ⊎ (inGroup 10 0 h p (L .tiers .openNow) ≡ false) → inGroup 10 0 h p (L .tiers .openNow) ≡ false
+          outside (inl e) = let f = group-facts 10 0 h p (L .tiers .openNow) e in absurd (both-ways (in-group 1 0 h p 0 (f .0) (f .1) (omega arith) (omega arith)) none)
+          outside (inr e) = e
+
+      go : (b : Bool) → eqb t (L .tiers .openNow) ≡ b → cond b (figureIn (figuresOf L) 12 1 0 h p 0) (figureIn (figuresOf L) 13 10 0 h p t) ≡ L .tiers .nominated h p t
+      go true e = figure-back 5 12 1 0 (λ h p n. L .tiers .nominated h p (L .tiers .openNow)) refl (omega arith) refl h p 0 opened ∙ ap (L .tiers .nominated h p) (sym (eqb-true t (L .tiers .openNow) e))
+      go false e = figure-back 6 13 10 0 (L .tiers .awards) refl (omega arith) refl h p t (k .tiers .awards h p t) ∙ settled-even (L .tiers) (k .sound) h p t (eqb-false t (L .tiers .openNow) e)
+
+  pub read-back : ledgerIn (figuresOf L) (postedOf L) (evidenceOf L) ≡ L
+  unfolding ledgerIn figureGroups postedGroups evidenceGroups evidenceOf slotsOf
+  read-back =
+      λ i.
+      record {
+        loads = record { kw = λ h s t. figure-back 0 0 4 0 (L .loads .kw) refl (omega arith) refl h s t (k .loads .kw h s t) i; posted = λ h s t. posted-back 0 0 4 0 (L .loads .posted) refl (omega arith) refl h s t (k .loads .posted h s t) i };
+        rights = record { carried = λ h p m. figure-back 3 6 3 1 (L .rights .carried) refl (omega arith) refl h p m (k .rights .carried h p m) i; awarded = λ h p m. figure-back 4 9 3 1 (L .rights .awarded) refl (omega arith) refl h p m (k .rights .awarded h p m) i; posted = λ h p. posted-back 1 4 1 0 (λ h p n. L .rights .posted h p) refl (omega arith) refl h p 0 (k .rights .posted h p) i };
+        priors = record { allocated = λ h p. figure-back 1 4 1 0 (λ h p n. L .priors .allocated h p) refl (omega arith) refl h p 0 (k .priors .allocated h p) i; renewable = λ h p. figure-back 2 5 1 0 (λ h p n. L .priors .renewable h p) refl (omega arith) refl h p 0 (k .priors .renewable h p) i; posted = λ h p. posted-back 2 5 1 0 (λ h p n. L .priors .posted h p) refl (omega arith) refl h p 0 (k .priors .posted h p) i };
+        papers = record { entry = λ h s n. group-back noEntry evidenceSlots [] [] [] 0 2 1 (L .papers .entry) refl (omega arith) h s n (k .papers .entry h s n) i; posted = λ h s n. posted-back 3 6 2 1 (L .papers .posted) refl (omega arith) refl h s n (k .papers .posted h s n) i };
+        tiers = record { nominated = λ h p t. nominated-back h p t i; awards = λ h p t. figure-back 6 13 10 0 (L .tiers .awards) refl (omega arith) refl h p t (k .tiers .awards h p t) i; lastClosed = closed-back i; openNow = current-back i };
+      }

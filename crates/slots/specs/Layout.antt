@@ -1,0 +1,104 @@
+-- The arrays of a ledger, and the ledger that stands in them. Each list below says which slots a holder has at a place, in their order.
+use Prim.Native.Nat.{ℕ}
+use mathlib.Core.Bool.{Bool, false, cond}
+use mathlib.Core.List.{List, [], _∷_}
+use lib.ListN.{getD}
+use lib.Dec.{eqb}
+use Rattle.tariff.specs.declared.evidence.Entry.{Entry}
+use Rattle.tariff.specs.Evidence.{noEntry, entryKw}
+use Rattle.ledger.specs.Ledger.{Ledger}
+use Rattle.slots.specs.Cells.{arrayOf}
+use Rattle.slots.specs.Groups.{Group, group, inSlot, figureFrom}
+
+-- how many slots a row of each array has, and how many numbers the arrays have
+abbrev pub figureSlots : ℕ
+figureSlots = 31
+
+abbrev pub figureCount : ℕ
+figureCount = 3970
+
+abbrev pub postedSlots : ℕ
+postedSlots = 8
+
+abbrev pub postedCount : ℕ
+postedCount = 1024
+
+abbrev pub evidenceSlots : ℕ
+evidenceSlots = 2
+
+abbrev pub evidenceCount : ℕ
+evidenceCount = 256
+
+module _ (L : Ledger) where
+  -- load by term, at a sink; prior's a, and its a − l; carried and awarded holdings by month; what the open tier has nominated, and awards by
+  -- tier, all at a path; and at a source what evidence gives for a term, ownership and contract apart.
+  -- In a closed tier the nominations are the awards, so they are kept once
+  unfoldable pub figureGroups : List (Group ℕ)
+  figureGroups =
+      group 4 0 (L .loads .kw)
+      ∷ group 1 0 (λ h p k. L .priors .allocated h p)
+      ∷ group 1 0 (λ h p k. L .priors .renewable h p)
+      ∷ group 3 1 (L .rights .carried)
+      ∷ group 3 1 (L .rights .awarded)
+      ∷ group 1 0 (λ h p k. L .tiers .nominated h p (L .tiers .openNow))
+      ∷ group 10 0 (L .tiers .awards)
+      ∷ group 4 0 (λ h s term. entryKw term (L .papers .entry h s 1))
+      ∷ group 4 0 (λ h s term. entryKw term (L .papers .entry h s 2))
+      ∷ []
+
+  -- whether a load was posted, by term; a carry; a prior; evidence, by kind
+  unfoldable pub postedGroups : List (Group Bool)
+  postedGroups =
+      group 4 0 (L .loads .posted)
+      ∷ group 1 0 (λ h p k. L .rights .posted h p)
+      ∷ group 1 0 (λ h p k. L .priors .posted h p)
+      ∷ group 2 1 (L .papers .posted)
+      ∷ []
+
+  -- evidence, by kind
+  unfoldable pub evidenceGroups : List (Group Entry)
+  evidenceGroups = group 2 1 (L .papers .entry) ∷ []
+
+  -- behind the figures stand the tier last closed and the open one, 0 for none
+  unfoldable pub calendarOf : List ℕ
+  calendarOf = L .tiers .lastClosed ∷ L .tiers .openNow ∷ []
+
+  unfoldable pub figuresOf : List ℕ
+  figuresOf = arrayOf figureSlots (inSlot 0 figureGroups) calendarOf
+
+  unfoldable pub postedOf : List Bool
+  postedOf = arrayOf postedSlots (inSlot false postedGroups) []
+
+  unfoldable pub evidenceOf : List Entry
+  evidenceOf = arrayOf evidenceSlots (inSlot noEntry evidenceGroups) []
+
+-- the tier last closed and the open one
+unfoldable pub lastClosedIn : List ℕ → ℕ
+lastClosedIn f = getD f 3968 0
+
+unfoldable pub currentTierIn : List ℕ → ℕ
+currentTierIn f = getD f 3969 0
+
+-- the figures of a group that begins at a slot, with so many numbers from the lowest on
+unfoldable pub figureIn : List ℕ → (from count low : ℕ) → ℕ → ℕ → ℕ → ℕ
+figureIn f from count low h p k = figureFrom figureSlots 0 f from count low h p k
+
+unfoldable pub postedIn : List Bool → (from count low : ℕ) → ℕ → ℕ → ℕ → Bool
+postedIn m from count low h p k = figureFrom postedSlots false m from count low h p k
+
+-- the ledger that stands in the arrays
+unfoldable pub ledgerIn : List ℕ → List Bool → List Entry → Ledger
+ledgerIn f m x =
+    record {
+      loads = record { kw = figureIn f 0 4 0; posted = postedIn m 0 4 0 };
+      rights = record { carried = figureIn f 6 3 1; awarded = figureIn f 9 3 1; posted = λ h p. postedIn m 4 1 0 h p 0 };
+      priors = record { allocated = λ h p. figureIn f 4 1 0 h p 0; renewable = λ h p. figureIn f 5 1 0 h p 0; posted = λ h p. postedIn m 5 1 0 h p 0 };
+      papers = record { entry = figureFrom evidenceSlots noEntry x 0 2 1; posted = postedIn m 6 2 1 };
+      tiers =
+          record {
+            nominated = λ h p t. cond (eqb t (currentTierIn f)) (figureIn f 12 1 0 h p 0) (figureIn f 13 10 0 h p t);
+            awards = figureIn f 13 10 0;
+            lastClosed = lastClosedIn f;
+            openNow = currentTierIn f;
+          };
+    }

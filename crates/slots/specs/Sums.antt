@@ -1,0 +1,24 @@
+-- What a sum over the paths needs to be of its figures: each is small, and there are few paths.
+use Prim.Native.Nat.{ℕ, _*_, _≤_, _<_}
+use mathlib.Core.Path.{_≡_}
+use mathlib.Core.List.{List}
+use lib.ListN.{length}
+use Rattle.tariff.specs.Ranges.{mostKw}
+use Rattle.records.specs.Opening.{openingIn}
+use Rattle.slots.specs.Cells.{maxHolders, maxPlaces, readAt}
+use Rattle.slots.specs.Layout.{figureSlots, figureCount}
+
+-- a holder's figures in a slot
+abbrev pub onPath : List ℕ → (h slot : ℕ) → ℕ → ℕ
+onPath f h slot p = readAt figureSlots 0 f h p slot
+
+-- no figure that is summed is above this
+abbrev pub maxFigure : ℕ
+maxFigure = 10 * (8 * mostKw)
+
+pub record Summable (o f : List ℕ) (h slot : ℕ) : Type 0 where
+  pub few : openingIn o .paths ≤ maxPlaces
+  pub long : length f ≡ figureCount
+  pub holder : h < maxHolders
+  pub inRow : slot < figureSlots
+  pub each : (p : ℕ) → p < openingIn o .paths → onPath f h slot p ≤ maxFigure

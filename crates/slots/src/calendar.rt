@@ -1,0 +1,20 @@
+// The tier last closed and the open one, which stand behind a book's figures.
+use crate::layout::CURRENT_TIER;
+use crate::layout::LAST_CLOSED;
+use records::cells::number_at;
+ghost use mathlib.Core.Path.{_≡_};
+ghost use Rattle.slots.specs.Layout.{lastClosedIn, currentTierIn};
+
+// The tier last closed, 0 for none.
+pub fn last_closed(f: &[u64]) -> u64
+    ensures { λ r. ⌜ r ≡ lastClosedIn (now (f .entry)) ⌝ }
+{
+    number_at(f, LAST_CLOSED)
+}
+
+// The open tier, 0 for none.
+pub fn current_tier(f: &[u64]) -> u64
+    ensures { λ r. ⌜ r ≡ currentTierIn (now (f .entry)) ⌝ }
+{
+    number_at(f, CURRENT_TIER)
+}
