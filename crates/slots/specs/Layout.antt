@@ -29,6 +29,47 @@ evidenceSlots = 2
 abbrev pub evidenceCount : ℕ
 evidenceCount = 256
 
+-- the first slot of each figure, in the order of the list below; by month the slot of month 1 comes first
+abbrev pub loadSlot : ℕ
+loadSlot = 0
+
+abbrev pub priorSlot : ℕ
+priorSlot = 4
+
+abbrev pub priorRemainingSlot : ℕ
+priorRemainingSlot = 5
+
+abbrev pub carriedSlot : ℕ
+carriedSlot = 6
+
+abbrev pub awardedSlot : ℕ
+awardedSlot = 9
+
+abbrev pub nominatedSlot : ℕ
+nominatedSlot = 12
+
+abbrev pub awardsSlot : ℕ
+awardsSlot = 13
+
+abbrev pub ownershipSlot : ℕ
+ownershipSlot = 23
+
+abbrev pub contractSlot : ℕ
+contractSlot = 27
+
+-- and of what was posted
+abbrev pub loadPostedSlot : ℕ
+loadPostedSlot = 0
+
+abbrev pub carryPostedSlot : ℕ
+carryPostedSlot = 4
+
+abbrev pub priorPostedSlot : ℕ
+priorPostedSlot = 5
+
+abbrev pub evidencePostedSlot : ℕ
+evidencePostedSlot = 6
+
 module _ (L : Ledger) where
   -- load by term, at a sink; prior's a, and its a − l; carried and awarded holdings by month; what the open tier has nominated, and awards by
   -- tier, all at a path; and at a source what evidence gives for a term, ownership and contract apart.
@@ -90,14 +131,14 @@ postedIn m from count low h p k = figureFrom postedSlots false m from count low 
 unfoldable pub ledgerIn : List ℕ → List Bool → List Entry → Ledger
 ledgerIn f m x =
     record {
-      loads = record { kw = figureIn f 0 4 0; posted = postedIn m 0 4 0 };
-      rights = record { carried = figureIn f 6 3 1; awarded = figureIn f 9 3 1; posted = λ h p. postedIn m 4 1 0 h p 0 };
-      priors = record { allocated = λ h p. figureIn f 4 1 0 h p 0; renewable = λ h p. figureIn f 5 1 0 h p 0; posted = λ h p. postedIn m 5 1 0 h p 0 };
-      papers = record { entry = figureFrom evidenceSlots noEntry x 0 2 1; posted = postedIn m 6 2 1 };
+      loads = record { kw = figureIn f loadSlot 4 0; posted = postedIn m loadPostedSlot 4 0 };
+      rights = record { carried = figureIn f carriedSlot 3 1; awarded = figureIn f awardedSlot 3 1; posted = λ h p. postedIn m carryPostedSlot 1 0 h p 0 };
+      priors = record { allocated = λ h p. figureIn f priorSlot 1 0 h p 0; renewable = λ h p. figureIn f priorRemainingSlot 1 0 h p 0; posted = λ h p. postedIn m priorPostedSlot 1 0 h p 0 };
+      papers = record { entry = figureFrom evidenceSlots noEntry x 0 2 1; posted = postedIn m evidencePostedSlot 2 1 };
       tiers =
           record {
-            nominated = λ h p t. cond (eqb t (currentTierIn f)) (figureIn f 12 1 0 h p 0) (figureIn f 13 10 0 h p t);
-            awards = figureIn f 13 10 0;
+            nominated = λ h p t. cond (eqb t (currentTierIn f)) (figureIn f nominatedSlot 1 0 h p 0) (figureIn f awardsSlot 10 0 h p t);
+            awards = figureIn f awardsSlot 10 0;
             lastClosed = lastClosedIn f;
             openNow = currentTierIn f;
           };

@@ -1,0 +1,12 @@
+pub mod ColumnLaws
+pub mod EmptyLaws
+pub mod ShareLaws
+pub mod WhereLaws
+pub mod MovingLaws
+pub mod LineLaws
+pub mod LineCauses
+pub mod GroupMoves
+pub mod SlotTests
+pub mod CoveredLaws
+pub mod MigratedFigures
+pub mod MigrateSteps

@@ -1,0 +1,58 @@
+-- What a migration transfers, and which columns of the figures take part (01, Migration).
+use Prim.Native.Nat.{ℕ, _+_, _-_, _*_, _≤_, _<_}
+use mathlib.Core.Path.{_≡_}
+use mathlib.Core.Bool.{Bool, true, cond, _&&_, _||_}
+use mathlib.Core.List.{List}
+use mathlib.Core.Logic.{_⊎_}
+use lib.ListN.{length}
+use lib.Dec.{leb, ltb, eqb}
+use Rattle.tariff.specs.Sum.{sumTo}
+use Rattle.tariff.specs.Ranges.{mostKw}
+use Rattle.migration.specs.Migration.{shares, shifted}
+use Rattle.migration.specs.Netting.{pairAt, holderAt}
+use Rattle.ledger.specs.Opening.{Opening, endsAt}
+use Rattle.slots.specs.Layout.{figureCount, loadSlot, priorSlot, carriedSlot, awardedSlot, nominatedSlot}
+use Rattle.migrate.specs.declared.transfers.Transfer.{Transfer}
+use Rattle.migrate.specs.Columns.{inColumn}
+
+-- a column after m has gone over, and after its shares have
+unfoldable pub loadColumn : Transfer → (ℕ → ℕ) → ℕ → ℕ
+loadColumn x v = shifted (x .holders) (pairAt (x .m)) v
+
+unfoldable pub shareColumn : Transfer → (ℕ → ℕ) → ℕ → ℕ
+shareColumn x v = shifted (x .holders) (shares (pairAt (x .m)) (holderAt (x .load)) v) v
+
+-- the slots of a path that a migration moves: the season's are prior's a and a − l and the carried holdings, side by side; a month's are its carried
+-- and its awarded holding
+unfoldable pub slotMoves : (term slot : ℕ) → Bool
+slotMoves term slot = cond (eqb term 0) (leb priorSlot slot && ltb slot awardedSlot) (eqb slot (carriedSlot + term - 1) || eqb slot (awardedSlot + term - 1))
+
+-- on the paths whose sink has the base
+unfoldable pub movesAt : Opening → (term sink : ℕ) → (p slot : ℕ) → Bool
+movesAt o term sink p slot = endsAt o sink p && slotMoves term slot
+
+-- one column where a test passes, any other as it is
+unfoldable pub columnWhere : (ℕ → ℕ → Bool) → ((ℕ → ℕ) → ℕ → ℕ) → ℕ → ℕ → (ℕ → ℕ) → ℕ → ℕ
+columnWhere takesPart column p slot v h = cond (takesPart p slot) (column v h) (v h)
+
+-- the load of the sink and term
+unfoldable pub loadAt : (term sink : ℕ) → (p slot : ℕ) → Bool
+loadAt term sink p slot = eqb p sink && eqb slot (loadSlot + term)
+
+-- what is known of an accepted migration: at most eight holders, each loses no more than its load, and nobody else moves anything
+pub record Covered (x : Transfer) : Type 0 where
+  pub few : x .holders ≤ 8
+  pub covered : (i : ℕ) → i < x .holders → sumTo (x .holders) (λ j. pairAt (x .m) i j) ≤ holderAt (x .load) i
+  pub loads : sumTo (x .holders) (holderAt (x .load)) ≤ 8 * mostKw
+  pub others : (i j : ℕ) → i < 8 → j < 8 → (x .holders ≤ i) ⊎ (x .holders ≤ j) → pairAt (x .m) i j ≡ 0
+
+-- the most kW that a column has together
+abbrev pub ColumnFits : Transfer → (ℕ → ℕ) → Type 0
+ColumnFits x v = sumTo (x .holders) v ≤ 80 * mostKw
+
+-- figures of which the rights and allocations can move
+pub record RightsFit (o : Opening) (f : List ℕ) (term sink : ℕ) (x : Transfer) : Type 0 where
+  pub long : length f ≡ figureCount
+  pub inTerm : term ≤ 3
+  pub covered : Covered x
+  pub fits : (p slot : ℕ) → p < 16 → slot < nominatedSlot → movesAt o term sink p slot ≡ true → ColumnFits x (inColumn f p slot)

@@ -1,0 +1,74 @@
+// Tests on the lines of a migration, whose fields stand in slices (01, Refusals by cause; causes 2, 3 and 8).
+use migration::netting::wrong_class_fields;
+use records::setup::holder_kind;
+use records::setup::no_holder;
+ghost use mathlib.Core.Path.{_≡_};
+ghost use mathlib.Core.Bool.{_||_};
+ghost use lib.ListN.{length};
+ghost use lib.Dec.{eqb};
+ghost use Rattle.tariff.specs.Sum.{anyBelow};
+ghost use Rattle.ledger.specs.Opening.{holderKind};
+ghost use Rattle.ledger.specs.Ranges.{noHolder};
+ghost use Rattle.records.specs.Opening.{openingIn};
+ghost use Rattle.migrate.specs.Lines.{unknownAt, outOfRangeAt, notBetweenAt};
+
+// A line that names a holder who is not in the book.
+fn names_unknown(o: &[u64], from: u64, to: u64) -> bool
+    ensures { λ r. ⌜ r ≡ (noHolder (openingIn (now (o .entry))) from || noHolder (openingIn (now (o .entry))) to) ⌝ }
+{
+    no_holder(o, from) | no_holder(o, to)
+}
+
+// Whether some line names a holder who is not in the book.
+pub fn any_unknown(o: &[u64], froms: &[u64], tos: &[u64]) -> bool
+    requires { ⌜ length (now tos) ≡ length (now froms) ⌝ }
+    ensures { λ r. ⌜ r ≡ anyBelow (length (now (froms .entry))) (unknownAt (openingIn (now (o .entry))) (now (froms .entry)) (now (tos .entry))) ⌝ }
+{
+    let mut k = 0;
+    while k < froms.len() {
+        if names_unknown(o, froms[k], tos[k]) {
+            return true;
+        }
+        k += 1;
+    }
+    false
+}
+
+// Whether some line has a field outside its range.
+pub fn any_out_of_range(classes: &[u64], customers: &[u64], watts: &[u64]) -> bool
+    requires { ⌜ (length (now customers) ≡ length (now classes)) × (length (now watts) ≡ length (now classes)) ⌝ }
+    ensures { λ r. ⌜ r ≡ anyBelow (length (now (classes .entry))) (outOfRangeAt (now (classes .entry)) (now (customers .entry)) (now (watts .entry))) ⌝ }
+{
+    let mut k = 0;
+    while k < classes.len() {
+        if wrong_class_fields(classes[k], customers[k], watts[k]) {
+            return true;
+        }
+        k += 1;
+    }
+    false
+}
+
+// A line from a holder to itself, or with a holder outside the balancing area.
+fn not_between(o: &[u64], from: u64, to: u64) -> bool
+    ensures { λ r. ⌜ r ≡ (eqb from to || eqb (holderKind (openingIn (now (o .entry))) from) 2 || eqb (holderKind (openingIn (now (o .entry))) to) 2) ⌝ }
+{
+    let from_kind = holder_kind(o, from);
+    let to_kind = holder_kind(o, to);
+    (from == to) | (from_kind == 2) | (to_kind == 2)
+}
+
+// Whether some line is not between two different load-serving entities.
+pub fn any_not_between(o: &[u64], froms: &[u64], tos: &[u64]) -> bool
+    requires { ⌜ length (now tos) ≡ length (now froms) ⌝ }
+    ensures { λ r. ⌜ r ≡ anyBelow (length (now (froms .entry))) (notBetweenAt (openingIn (now (o .entry))) (now (froms .entry)) (now (tos .entry))) ⌝ }
+{
+    let mut k = 0;
+    while k < froms.len() {
+        if not_between(o, froms[k], tos[k]) {
+            return true;
+        }
+        k += 1;
+    }
+    false
+}

@@ -1,0 +1,140 @@
+// What a migration does to a book's figures, column by column (01, Migration).
+use migration::shares::shares_of;
+use migration::shares::shifted_column;
+use records::setup::path_base;
+use slots::cells::read;
+use slots::cells::store;
+use slots::layout::AWARDED;
+use slots::layout::CARRIED;
+use slots::layout::LOAD;
+use slots::layout::PRIOR;
+ghost use mathlib.Core.Path.{_≡_};
+ghost use mathlib.Core.Bool.{true, false, _&&_};
+ghost use Prim.Native.Nat.{_+_, _≤_};
+ghost use Rattle.tariff.specs.Sum.{allBelow};
+ghost use lib.Dec.{eqb};
+ghost use Rattle.migration.specs.Netting.{holderAt};
+ghost use Rattle.records.specs.Opening.{openingIn};
+ghost use Rattle.slots.specs.Layout.{loadSlot};
+ghost use Rattle.migrate.specs.Columns.{HasColumn, inColumn, columnAt, columnStored, Transferred};
+ghost use Rattle.migrate.specs.Transfers.{loadColumn, shareColumn, slotMoves, movesAt, columnWhere, loadAt, Covered, ColumnFits, RightsFit};
+
+// What a migration transfers: the kW from holder i to holder j at i * 8 + j, each holder's load at the sink and term before it,
+// and how many holders there are.
+pub struct Transfer {
+    pub m: [u64; 64],
+    pub load: [u64; 8],
+    pub holders: u64,
+}
+
+// What the eight holders have in a slot at a place.
+pub fn column_at(f: &[u64], p: u64, slot: u64) -> [u64; 8]
+    requires { ⌜ HasColumn (now f) p slot ⌝ }
+    ensures { λ r. ⌜ r ≡ columnAt (now (f .entry)) p slot ⌝ }
+{
+    let mut column = [0u64; 8];
+    let mut h = 0;
+    while h < 8 {
+        column[h] = read(f, h as u64, p, slot);
+        h += 1;
+    }
+    column
+}
+
+// A column stored in a slot at a place.
+fn store_column(f: &mut [u64], p: u64, slot: u64, column: [u64; 8])
+    requires { ⌜ HasColumn (now f) p slot ⌝ }
+    ensures { λ r. ⌜ now (f .exit) ≡ columnStored (now (f .entry)) p slot column 8 ⌝ }
+{
+    let mut h = 0;
+    while h < 8 {
+        store(f, h as u64, p, slot, column[h]);
+        h += 1;
+    }
+}
+
+// Whether a column holds nothing.
+fn is_empty(column: [u64; 8]) -> bool
+    ensures { λ r. ⌜ r ≡ allBelow 8 (λ i. eqb (holderAt column i) 0) ⌝ }
+{
+    let mut h = 0;
+    while h < 8 {
+        if column[h] != 0 {
+            return false;
+        }
+        h += 1;
+    }
+    true
+}
+
+// The shares of one column gone over. Of a column that holds nothing, nothing goes.
+fn transfer_column(f: &mut [u64], p: u64, slot: u64, x: Transfer)
+    requires { ⌜ HasColumn (now f) p slot × Covered x × ColumnFits x (inColumn (now f) p slot) ⌝ }
+    ensures { λ r. ⌜ Transferred (columnWhere (λ q j. eqb q p && eqb j slot) (shareColumn x)) (now (f .entry)) (now (f .exit)) ⌝ }
+{
+    let column = column_at(f, p, slot);
+    if is_empty(column) {
+        return;
+    }
+    let m = x.m;
+    let load = x.load;
+    let parts = shares_of(column, m, load);
+    let next = shifted_column(column, &parts, x.holders as usize);
+    store_column(f, p, slot, next);
+}
+
+// Whether a migration moves a slot of a path.
+fn slot_moves(term: u64, slot: u64) -> bool
+    requires { ⌜ term ≤ 3 ⌝ }
+    ensures { λ r. ⌜ r ≡ slotMoves term slot ⌝ }
+{
+    if term == 0 {
+        return (PRIOR <= slot) & (slot < AWARDED);
+    }
+    (slot == CARRIED + term - 1) | (slot == AWARDED + term - 1)
+}
+
+// The shares of one column gone over, if it is one that moves.
+fn transfer_if_moving(
+    f: &mut [u64],
+    o: &[u64],
+    term: u64,
+    sink: u64,
+    p: u64,
+    slot: u64,
+    x: Transfer,
+)
+    requires { ⌜ HasColumn (now f) p slot × (term ≤ 3) × Covered x × (movesAt (openingIn (now o)) term sink p slot ≡ true → ColumnFits x (inColumn (now f) p slot)) ⌝ }
+    ensures { λ r. ⌜ Transferred (columnWhere (λ q j. (eqb q p && eqb j slot) && movesAt (openingIn (now (o .entry))) term sink q j) (shareColumn x)) (now (f .entry)) (now (f .exit)) ⌝ }
+{
+    if path_base(o, p) != sink {
+        return;
+    }
+    if !slot_moves(term, slot) {
+        return;
+    }
+    transfer_column(f, p, slot, x);
+}
+
+// The shares of every column that moves gone over. Eight slots of each of 16 paths can move: prior's, and the carried and awarded holdings.
+pub fn transfer_rights(f: &mut [u64], o: &[u64], term: u64, sink: u64, x: Transfer)
+    requires { ⌜ RightsFit (openingIn (now o)) (now f) term sink x ⌝ }
+    ensures { λ r. ⌜ Transferred (columnWhere (movesAt (openingIn (now (o .entry))) term sink) (shareColumn x)) (now (f .entry)) (now (f .exit)) ⌝ }
+{
+    let mut n: u64 = 0;
+    while n < 128 {
+        transfer_if_moving(f, o, term, sink, n / 8, PRIOR + n % 8, x);
+        n += 1;
+    }
+}
+
+// Load m gone over at the sink and term.
+pub fn transfer_load(f: &mut [u64], term: u64, sink: u64, x: Transfer)
+    requires { ⌜ HasColumn (now f) sink (loadSlot + term) × Covered x × (x .load ≡ columnAt (now f) sink (loadSlot + term)) ⌝ }
+    ensures { λ r. ⌜ Transferred (columnWhere (loadAt term sink) (loadColumn x)) (now (f .entry)) (now (f .exit)) ⌝ }
+{
+    let load = x.load;
+    let m = x.m;
+    let next = shifted_column(load, &m, x.holders as usize);
+    store_column(f, sink, LOAD + term, next);
+}
