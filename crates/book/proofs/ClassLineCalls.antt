@@ -27,7 +27,7 @@ use Rattle.migration.proofs.netting.ClassLine.Laws as L′
 use Rattle.book.specs.declared.book.Book.{Book}
 use Rattle.book.specs.declared.book.Answered.{Answered}
 use Rattle.book.specs.declared.class_lines.Columns.{Columns}
-use Rattle.book.specs.Reached.{Reached}
+use Rattle.book.specs.Reachable.{Reachable}
 use Rattle.book.specs.ClassLines.{noColumns, withLine, FullColumns, handedColumns}
 use Rattle.book.proofs.book.Book as B
 use Rattle.book.proofs.book.Book.Laws as B′
@@ -76,7 +76,7 @@ module _ {M : Type 1} (𝓤 : URA M) (H : Heap 𝓤) (A : Atoms 𝓤) (W : Given
     abbrev pub to-last : Last 𝓤 H A mem run .Ghost
     to-last = ((tt, tt, tt, (b, (term, (sink, (k, (c, tt))))), (u ∷ [], (vint w64 term ∷ [], (vint w64 sink ∷ [], (vint w64 k ∷ [], (w ∷ [], tt)))))), tt)
 
-    pub asks-last : Reached b × FullColumns c → Is B.the-row b (u ∷ []) → term < 2 ^ 64 → sink < 2 ^ 64 → k < 2 ^ 64 → Is K.the-row c (w ∷ []) → ent 𝓤 (emp 𝓤) (Last 𝓤 H A mem run .pre to-last)
+    pub asks-last : Reachable b × FullColumns c → Is B.the-row b (u ∷ []) → term < 2 ^ 64 → sink < 2 ^ 64 → k < 2 ^ 64 → Is K.the-row c (w ∷ []) → ent 𝓤 (emp 𝓤) (Last 𝓤 H A mem run .pre to-last)
     asks-last reached ib gt gs gk ic =
         qed W [] ∵ says ! reached $ nothing ! $ owned ! K.the-row (Is K.the-row) (LL.makes K.the-type K′.the-plain 𝓤 H A) c (w ∷ []) ic $ fjoin ! $
         owned ! usize (Is usize) (uint-makes 𝓤 H A W w64) k (vint w64 k ∷ []) (refl, gk) $ fjoin ! $

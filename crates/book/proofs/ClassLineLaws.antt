@@ -27,9 +27,9 @@ use Rattle.book.specs.declared.book.Answered.{Answered}
 use Rattle.book.specs.declared.class_lines.Columns.{Columns}
 use Rattle.book.specs.Reading.{ledgerOf, openedWith, bookIn}
 use Rattle.book.specs.Handed.{handed, refusedWith, handedLines}
-use Rattle.book.specs.Reached.{Reached}
+use Rattle.book.specs.Reachable.{Reachable}
 use Rattle.book.specs.ClassLines.{placed, noLine, noColumns, withLine, columnsTo, FullColumns, handedColumns}
-use Rattle.records.proofs.HandedLaws.{handed-refused}
+use Rattle.slots.proofs.StepLaws.{steps-refused}
 use Rattle.book.proofs.HandedBooks.{handed-book}
 
 -- no line as yet, and one more
@@ -156,7 +156,7 @@ module _ (b : Book) (term sink n : ℕ) (c : Columns) where
   unfolding handedColumns
   few-handed l = sym (ap answered (le-ltb 64 n l))
 
-module _ (b : Book) (r : Reached b) (term sink : ℕ) (lines : List ClassLine) where
+module _ (b : Book) (r : Reachable b) (term sink : ℕ) (lines : List ClassLine) where
   abbrev n : ℕ
   n = length lines
 
@@ -181,7 +181,7 @@ module _ (b : Book) (r : Reached b) (term sink : ℕ) (lines : List ClassLine) w
 
     too-many : refusedWith b number ≡ handed b (migrate term sink lines)
     unfolding refusedWith bookIn openedWith ledgerOf
-    too-many = handed-book _ _ _ _ _ _ _ _ _ (handed-refused (b .opening) (b .figures) (b .marks) (b .entries) (migrate term sink lines) number number-found r (some-number (noSink (openedWith b) sink || noHolder (openedWith b) (c .top))))
+    too-many = handed-book _ _ _ _ _ _ _ _ _ (steps-refused (b .opening) (b .figures) (b .posted) (b .evidence) (migrate term sink lines) number number-found r (some-number (noSink (openedWith b) sink || noHolder (openedWith b) (c .top))))
       where
         some-number : (t : Bool) → _≡_ {A = ℕ} (cond t 2 3) 0 → ⊥
         some-number true e = omega (arith, e)

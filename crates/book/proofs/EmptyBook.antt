@@ -1,34 +1,76 @@
--- Arrays filled with 0, with no mark and with no evidence are those of a ledger with nothing in it. Assumes nothing.
-use mathlib.Core.Path.{_≡_, sym, ap, _∙_}
-use mathlib.Core.Bool.{false}
-use mathlib.Core.List.{[], _∷_, _++_}
-use lib.ListN.{replicate, replicate-append-replicate}
-use Rattle.tariff.specs.Evidence.{noEntry}
+-- Arrays filled with 0, with nothing posted and with no evidence are those of a ledger with nothing in it. Assumes nothing.
+use Prim.Native.Nat.{ℕ, _+_, _-_, _*_}
+use mathlib.Core.Path.{_≡_, refl, sym, ap, _∙_}
+use mathlib.Core.Bool.{Bool, true, false, cond}
+use mathlib.Core.List.{List, [], _∷_}
+use mathlib.Core.Logic.{_⊎_, inl, inr}
+use native.Mathlib.Omega.{arith}
+use lib.Dec.{ltb}
+use borrow.Author.Tests.{ltb-true, ltb-false}
+use lib.ListN.{length, getD, replicate, length-replicate, getD-replicate, List·getD-eq-default}
+use Rattle.tariff.specs.Evidence.{noEntry, evidenceKw, entryKw}
+use Rattle.tariff.proofs.Sums.{count-zero}
+use Rattle.tariff.proofs.Tests.{decided}
 use Rattle.ledger.specs.Ledger.{emptyLedger}
-use Rattle.records.specs.Reading.{partsOf, loadsOf, rightsOf, priorsOf, papersOf, tiersOf}
-use Rattle.records.specs.Layout.{figuresOfParts, marksOfParts, figuresOf, marksOf, entriesOf}
-use Rattle.book.proofs.Filled.{same-cells}
+use Rattle.slots.specs.Cells.{rows, readAt, Shows}
+use Rattle.slots.specs.Groups.{Group, group, inSlot}
+use Rattle.slots.specs.Layout.{figureSlots, figureCount, postedSlots, postedCount, evidenceSlots, evidenceCount, figureGroups, postedGroups, evidenceGroups, calendarOf, figuresOf, postedOf, evidenceOf}
+use Rattle.slots.proofs.CellLaws.{cell-below, shown-is}
 
-pub empty-figures : replicate 2946 0 ≡ figuresOf emptyLedger
-unfolding figuresOf figuresOfParts partsOf loadsOf rightsOf priorsOf tiersOf emptyLedger
+module _ {A : Type 0} (none : A) where
+  -- an array filled with one value reads so everywhere
+  filled-read : (n k : ℕ) → getD (replicate n none) k none ≡ none
+  filled-read n k = go (decided (ltb k n))
+    where
+      go : (ltb k n ≡ true) ⊎ (ltb k n ≡ false) → getD (replicate n none) k none ≡ none
+      go (inl t) = getD-replicate n k none none (ltb-true k n t)
+      go (inr t) = List·getD-eq-default (replicate n none) none {n = k} (let long = length-replicate n none in let past = ltb-false k n t in omega arith)
+
+  -- groups whose figures have nothing have nothing in any slot
+  abbrev AllNone : List (Group A) → Type 0
+  AllNone [] = Unit {0}
+  AllNone (group count low figure ∷ later) = ((h p k : ℕ) → figure h p k ≡ none) × AllNone later
+
+  slot-none : (gs : List (Group A)) (h p slot : ℕ) → AllNone gs → inSlot none gs h p slot ≡ none
+  unfolding inSlot
+  slot-none [] h p slot all = refl
+  slot-none (group count low figure ∷ later) h p slot all = ap (λ v. cond (ltb slot count) v (inSlot none later h p (slot - count))) (all .0 h p (slot + low)) ∙ either (ltb slot count) (slot-none later h p (slot - count) (all .1))
+    where
+      either : (t : Bool) → inSlot none later h p (slot - count) ≡ none → cond t none (inSlot none later h p (slot - count)) ≡ none
+      either true e = refl
+      either false e = e
+
+  -- a filled array shows such groups, with some of the same behind
+  filled-shows : (width n k : ℕ) (gs : List (Group A)) → n ≡ rows * width + k → AllNone gs → Shows width none (replicate n none) (inSlot none gs) (replicate k none)
+  unfolding readAt
+  filled-shows width n k gs long all =
+      record {
+        sized = length-replicate n none ∙ long ∙ ap (λ j. rows * width + j) (sym (length-replicate k none));
+        each = λ h p slot c. filled-read n _ ∙ sym (slot-none gs h p slot all);
+        behind = λ j. filled-read n (rows * width + j) ∙ sym (filled-read k j);
+      }
+
+-- evidence that was not filed gives nothing
+nothing-filed : (term : ℕ) → entryKw term noEntry ≡ 0
+unfolding entryKw noEntry evidenceKw
+nothing-filed term = count-zero _
+
+pub empty-figures : replicate figureCount 0 ≡ figuresOf emptyLedger
+unfolding figuresOf figureGroups calendarOf emptyLedger
 empty-figures =
-    sym (replicate-append-replicate 512 2434 0)
-    ∙ ap (λ z. replicate 512 0 ++ z) (sym (replicate-append-replicate 384 2050 0)
-    ∙ ap (λ z. replicate 384 0 ++ z) (sym (replicate-append-replicate 384 1666 0)
-    ∙ ap (λ z. replicate 384 0 ++ z) (sym (replicate-append-replicate 128 1538 0)
-    ∙ ap (λ z. replicate 128 0 ++ z) (sym (replicate-append-replicate 128 1410 0)
-    ∙ ap (λ z. replicate 128 0 ++ z) (sym (replicate-append-replicate 128 1282 0)
-    ∙ ap (λ z. replicate 128 0 ++ z) (sym (replicate-append-replicate 1280 2 0)))))))
-    ∙ (λ i. same-cells 4 0 0 i ++ (same-cells 3 1 0 i ++ (same-cells 3 1 0 i ++ (same-cells 1 0 0 i ++ (same-cells 1 0 0 i ++ (same-cells 1 0 0 i ++ (same-cells 10 0 0 i ++ (0 ∷ 0 ∷ []))))))))
+    shown-is figureSlots 0 (inSlot 0 (figureGroups emptyLedger)) (replicate figureCount 0) (0 ∷ 0 ∷ []) (omega arith)
+    (filled-shows 0 figureSlots figureCount 2 (figureGroups emptyLedger) refl
+    (λ h p k. refl, (λ h p k. refl, (λ h p k. refl, (λ h p k. refl, (λ h p k. refl, (λ h p k. refl, (λ h p k. refl, (λ h s k. nothing-filed k, (λ h s k. nothing-filed k, tt))))))))))
 
-pub empty-marks : replicate 1024 false ≡ marksOf emptyLedger
-unfolding marksOf marksOfParts partsOf loadsOf rightsOf priorsOf papersOf emptyLedger
-empty-marks =
-    sym (replicate-append-replicate 512 512 false)
-    ∙ ap (λ z. replicate 512 false ++ z) (sym (replicate-append-replicate 128 384 false)
-    ∙ ap (λ z. replicate 128 false ++ z) (sym (replicate-append-replicate 128 256 false)))
-    ∙ (λ i. same-cells 4 0 false i ++ (same-cells 1 0 false i ++ (same-cells 1 0 false i ++ same-cells 2 1 false i)))
+pub empty-posted : replicate postedCount false ≡ postedOf emptyLedger
+unfolding postedOf postedGroups emptyLedger
+empty-posted =
+    shown-is postedSlots false (inSlot false (postedGroups emptyLedger)) (replicate postedCount false) [] (omega arith)
+    (filled-shows false postedSlots postedCount 0 (postedGroups emptyLedger) refl
+    (λ h p k. refl, (λ h p k. refl, (λ h p k. refl, (λ h p k. refl, tt)))))
 
-pub empty-entries : replicate 256 noEntry ≡ entriesOf emptyLedger
-unfolding entriesOf partsOf papersOf emptyLedger
-empty-entries = same-cells 2 1 noEntry
+pub empty-evidence : replicate evidenceCount noEntry ≡ evidenceOf emptyLedger
+unfolding evidenceOf evidenceGroups emptyLedger
+empty-evidence =
+    shown-is evidenceSlots noEntry (inSlot noEntry (evidenceGroups emptyLedger)) (replicate evidenceCount noEntry) [] (omega arith)
+    (filled-shows noEntry evidenceSlots evidenceCount 0 (evidenceGroups emptyLedger) refl (λ h p k. refl, tt))

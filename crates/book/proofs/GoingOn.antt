@@ -10,32 +10,32 @@ use Rattle.ledger.specs.Call.{Call, load, migrate}
 use Rattle.book.specs.declared.book.Book.{Book}
 use Rattle.book.specs.declared.book.Answered.{Answered}
 use Rattle.book.specs.Handed.{refusedWith, handed, handedBlocks, handedLines}
-use Rattle.book.specs.Reached.{Reached}
+use Rattle.book.specs.Reachable.{Reachable}
 use Rattle.book.specs.Opened.{openedAs}
-use Rattle.book.proofs.ReachedSteps.{handed-reached}
+use Rattle.book.proofs.ReachableSteps.{handed-reached}
 use Rattle.book.proofs.OpenedLaws.{opened-reached}
 
 -- equal answers have one book beside them
-beside : (a x : Answered) → a ≡ x → Reached (x .book) → Reached (a .book)
-beside a x e r = subst (λ y. Reached (y .book)) (sym e) r
+beside : (a x : Answered) → a ≡ x → Reachable (x .book) → Reachable (a .book)
+beside a x e r = subst (λ y. Reachable (y .book)) (sym e) r
 
-pub after-opening : (o : Opening) (a : Answered) → a ≡ openedAs o → Reached (a .book)
+pub after-opening : (o : Opening) (a : Answered) → a ≡ openedAs o → Reachable (a .book)
 after-opening o a e = beside a (openedAs o) e (opened-reached o)
 
-module _ (b : Book) (r : Reached b) where
-  pub after-call : (c : Call) (a : Answered) → a ≡ handed b c → Reached (a .book)
+module _ (b : Book) (r : Reachable b) where
+  pub after-call : (c : Call) (a : Answered) → a ≡ handed b c → Reachable (a .book)
   after-call c a e = beside a (handed b c) e (handed-reached b r c)
 
   -- a call whose lines stand in slices, or slices that do not fit each other
-  either : (even : Bool) (c : Call) → Reached (cond even (handed b c) (refusedWith b 1) .book)
+  either : (even : Bool) (c : Call) → Reachable (cond even (handed b c) (refusedWith b 1) .book)
   unfolding refusedWith
   either true c = handed-reached b r c
   either false c = r
 
-  pub after-load : (h s term contract n : ℕ) (fs hs ks : List ℕ) (a : Answered) → a ≡ handedBlocks b h s term contract n fs hs ks → Reached (a .book)
+  pub after-load : (h s term contract n : ℕ) (fs hs ks : List ℕ) (a : Answered) → a ≡ handedBlocks b h s term contract n fs hs ks → Reachable (a .book)
   unfolding handedBlocks
   after-load h s term contract n fs hs ks a e = beside a (handedBlocks b h s term contract n fs hs ks) e (either (sameLengths fs hs ks) (load h s term contract n (blocksOf fs hs ks)))
 
-  pub after-migrate : (term sink : ℕ) (froms tos classes customers watts : List ℕ) (a : Answered) → a ≡ handedLines b term sink froms tos classes customers watts → Reached (a .book)
+  pub after-migrate : (term sink : ℕ) (froms tos classes customers watts : List ℕ) (a : Answered) → a ≡ handedLines b term sink froms tos classes customers watts → Reachable (a .book)
   unfolding handedLines
   after-migrate term sink froms tos classes customers watts a e = beside a (handedLines b term sink froms tos classes customers watts) e (either (sameCounts froms tos classes customers watts) (migrate term sink (classLinesOf froms tos classes customers watts)))

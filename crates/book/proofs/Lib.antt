@@ -1,7 +1,6 @@
 pub mod HandedBooks
-pub mod Filled
 pub mod EmptyBook
-pub mod ReachedSteps
+pub mod ReachableSteps
 pub mod OpenedLaws
 pub mod SeasonAnswers
 pub mod SeasonTheorem

@@ -8,7 +8,7 @@ use Rattle.records.specs.Opening.{emptyOpening}
 use Rattle.records.proofs.OpeningLaws.{empty-legal}
 use Rattle.opening.specs.Opened.{openedOpening}
 use Rattle.book.specs.Reading.{bookIn, bookOf}
-use Rattle.book.specs.Reached.{Reached}
+use Rattle.book.specs.Reachable.{Reachable}
 use Rattle.book.specs.Opened.{openedAs}
 
 -- the opening that is in force: the one asked for, or the empty one
@@ -21,6 +21,6 @@ in-force-legal o = go (legal o) refl
     go false e = empty-legal
 
 -- every book that opening hands back is one that opening and no call lead to
-pub opened-reached : (o : Opening) → Reached (openedAs o .book)
+pub opened-reached : (o : Opening) → Reachable (openedAs o .book)
 unfolding openedAs bookOf bookIn after afterFrom
-opened-reached o = record { opening = openedOpening o; calls = []; isLegal = in-force-legal o; ofOpening = refl; ofFigures = refl; ofMarks = refl; ofEntries = refl }
+opened-reached o = record { opening = openedOpening o; calls = []; isLegal = in-force-legal o; ofOpening = refl; ofFigures = refl; ofPosted = refl; ofEvidence = refl }

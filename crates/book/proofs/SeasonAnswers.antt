@@ -15,7 +15,7 @@ use Rattle.book.specs.Reading.{bookOf}
 use Rattle.book.specs.Handed.{handed, told}
 use Rattle.book.specs.Opened.{openedAs}
 use Rattle.book.specs.SeasonTheorem.{callsOf, bookAfter, answersOf, seasonAnswers}
-use Rattle.book.proofs.ReachedSteps.{bookAt, at-answer, at-told, at-next}
+use Rattle.book.proofs.ReachableSteps.{bookAt, at-answer, at-told, at-next}
 
 -- an answer read back is the ledger's
 answer-back : (a : ledger.Answer) → answerIn (answerOf a) ≡ a

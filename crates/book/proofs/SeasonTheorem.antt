@@ -20,7 +20,7 @@ use Rattle.ledger.proofs.Nominations.{nominations-within-limit}
 use Rattle.records.specs.declared.answers.Answer.the-variants.{Value}
 use Rattle.records.specs.Handed.{answerOf}
 use Rattle.book.specs.SeasonTheorem.{callsOf, SeasonHolds, SeasonTheorem}
-use Rattle.book.proofs.ReachedSteps.{bookAt, at-ledger, at-told}
+use Rattle.book.proofs.ReachableSteps.{bookAt, at-ledger, at-told}
 use Rattle.book.proofs.SeasonAnswers.{last-book, season-answered}
 
 -- a query that meets no cause is answered with its figure

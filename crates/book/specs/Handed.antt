@@ -28,12 +28,12 @@ handed b c =
 unfoldable pub told : Book → Query → Answer
 told b q = answerOf (season.answer (openedWith b) (ledgerOf b) (season.query q))
 
--- an answer beside a book with these figures, and with these marks too
+-- an answer beside a book with these figures, and with these postings too
 unfoldable pub besidePostings : Book → Answer → List ℕ → List Bool → Answered
-besidePostings b answer figures marks = record { answer = answer; book = bookIn (b .opening) figures marks (b .entries) }
+besidePostings b answer figures posted = record { answer = answer; book = bookIn (b .opening) figures posted (b .evidence) }
 
 unfoldable pub besideFigures : Book → Answer → List ℕ → Answered
-besideFigures b answer figures = besidePostings b answer figures (b .marks)
+besideFigures b answer figures = besidePostings b answer figures (b .posted)
 
 -- slices of unequal length are no blocks and no class lines: the call is refused as unreadable, and the book stays as it was
 unfoldable pub handedBlocks : Book → ℕ → ℕ → ℕ → ℕ → ℕ → List ℕ → List ℕ → List ℕ → Answered

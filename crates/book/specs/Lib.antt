@@ -1,7 +1,7 @@
 -- The book as the ledger sees it, and the ledger as a book.
 pub mod Reading
 pub mod Handed
-pub mod Reached
+pub mod Reachable
 pub mod Opened
 pub mod SeasonTheorem
 pub mod ClassLines

@@ -6,19 +6,19 @@ use Rattle.tariff.specs.declared.evidence.Entry.{Entry}
 use Rattle.ledger.specs.Opening.{Opening}
 use Rattle.ledger.specs.Ledger.{Ledger}
 use Rattle.records.specs.Opening.{openingIn}
-use Rattle.records.specs.Layout.{ledgerIn, figuresOf, marksOf, entriesOf}
+use Rattle.slots.specs.Layout.{ledgerIn, figuresOf, postedOf, evidenceOf}
 use Rattle.book.specs.declared.book.Book.{Book}
 
--- an opening's array, figures, marks and evidence together
+-- an opening's array, figures, postings and evidence together
 unfoldable pub bookIn : List ℕ → List ℕ → List Bool → List Entry → Book
-bookIn o f m x = record { opening = o; figures = f; marks = m; entries = x }
+bookIn o f m x = record { opening = o; figures = f; posted = m; evidence = x }
 
 unfoldable pub ledgerOf : Book → Ledger
-ledgerOf b = ledgerIn (b .figures) (b .marks) (b .entries)
+ledgerOf b = ledgerIn (b .figures) (b .posted) (b .evidence)
 
 unfoldable pub openedWith : Book → Opening
 openedWith b = openingIn (b .opening)
 
 -- the book that keeps an opening and has a ledger's figures
 unfoldable pub bookOf : List ℕ → Ledger → Book
-bookOf o L = bookIn o (figuresOf L) (marksOf L) (entriesOf L)
+bookOf o L = bookIn o (figuresOf L) (postedOf L) (evidenceOf L)

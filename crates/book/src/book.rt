@@ -1,14 +1,17 @@
-// The book: its opening, its figures, the marks of what was posted, and the evidence filed, in flat arrays.
+// The book: its opening, its figures, what was posted, and the evidence filed, in flat arrays.
 use records::answers::Answer;
+use slots::layout::EVIDENCE;
+use slots::layout::FIGURES;
+use slots::layout::POSTED;
 use tariff::evidence::Entry;
 ghost use mathlib.Core.Path.{_≡_};
 ghost use Rattle.book.specs.Handed.{refusedWith, besideFigures, besidePostings};
 
 pub struct Book {
     pub opening: [u64; 76],
-    pub figures: [u64; 2946],
-    pub marks: [bool; 1024],
-    pub entries: [Entry; 256],
+    pub figures: [u64; FIGURES],
+    pub posted: [bool; POSTED],
+    pub evidence: [Entry; EVIDENCE],
 }
 
 // An answer beside the next book.
@@ -26,26 +29,31 @@ pub fn refused(b: Book, number: u64) -> Answered
 }
 
 // The book with other figures, beside an answer.
-pub fn with_figures(b: Book, answer: Answer, figures: [u64; 2946]) -> Answered
+pub fn with_figures(b: Book, answer: Answer, figures: [u64; FIGURES]) -> Answered
     ensures { λ r. ⌜ r ≡ besideFigures b answer figures ⌝ }
 {
-    let marks = b.marks;
-    with_postings(b, answer, figures, marks)
+    let posted = b.posted;
+    with_postings(b, answer, figures, posted)
 }
 
-// The book with other figures and marks, beside an answer.
-pub fn with_postings(b: Book, answer: Answer, figures: [u64; 2946], marks: [bool; 1024]) -> Answered
-    ensures { λ r. ⌜ r ≡ besidePostings b answer figures marks ⌝ }
+// The book with other figures and postings, beside an answer.
+pub fn with_postings(
+    b: Book,
+    answer: Answer,
+    figures: [u64; FIGURES],
+    posted: [bool; POSTED],
+) -> Answered
+    ensures { λ r. ⌜ r ≡ besidePostings b answer figures posted ⌝ }
 {
     let opening = b.opening;
-    let entries = b.entries;
+    let evidence = b.evidence;
     Answered {
         answer,
         book: Book {
             opening,
             figures,
-            marks,
-            entries,
+            posted,
+            evidence,
         },
     }
 }

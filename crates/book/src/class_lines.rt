@@ -10,7 +10,7 @@ use tariff::load::larger;
 ghost use mathlib.Core.Path.{_≡_};
 ghost use Rattle.ledger.specs.Call.{migrate};
 ghost use Rattle.book.specs.Handed.{handed};
-ghost use Rattle.book.specs.Reached.{Reached};
+ghost use Rattle.book.specs.Reachable.{Reachable};
 ghost use Rattle.book.specs.ClassLines.{placed, noColumns, withLine, FullColumns, handedColumns};
 
 // The fields of the first 64 lines, a column to a field, and the largest holder number in any line.
@@ -71,7 +71,7 @@ fn with_line(c: Columns, k: usize, line: ClassLine) -> Columns
 
 // Migrates n lines that stand in columns. Of more than 64 lines all that matters is whether one names a stranger.
 fn migrate_columns(b: Book, term: u64, sink: u64, n: usize, c: Columns) -> Answered
-    requires { ⌜ Reached b × FullColumns c ⌝ }
+    requires { ⌜ Reachable b × FullColumns c ⌝ }
     ensures { λ r. ⌜ r ≡ handedColumns b term sink n c ⌝ }
 {
     if 64 < n {
@@ -98,7 +98,7 @@ fn migrate_columns(b: Book, term: u64, sink: u64, n: usize, c: Columns) -> Answe
 impl Book {
     // Moves loads, rights and last year's allocations with the customers of the class lines lent.
     pub fn migrate_lines(self, term: u64, sink: u64, lines: &[ClassLine]) -> Answered
-        requires { ⌜ Reached self ⌝ }
+        requires { ⌜ Reachable self ⌝ }
         ensures { λ r. ⌜ r ≡ handed self (migrate term sink (now (lines .entry))) ⌝ }
     {
         let mut columns = no_columns();

@@ -3,6 +3,6 @@
 pub mod book;
 pub mod class_lines;
 pub mod opened;
-pub mod postings;
+pub mod posting_calls;
 pub mod queries;
 pub mod tier_calls;

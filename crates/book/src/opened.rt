@@ -2,24 +2,27 @@
 use crate::book::Answered;
 use crate::book::Book;
 use opening::opening::open;
+use slots::layout::EVIDENCE;
+use slots::layout::FIGURES;
+use slots::layout::POSTED;
 use tariff::evidence::Entry;
 use tariff::evidence::Evidence;
 ghost use mathlib.Core.Path.{_≡_};
 ghost use Rattle.ledger.specs.Ledger.{emptyLedger};
 ghost use Rattle.records.specs.Opening.{openingFrom};
-ghost use Rattle.records.specs.Layout.{entriesOf};
+ghost use Rattle.slots.specs.Layout.{evidenceOf};
 ghost use Rattle.book.specs.Opened.{openedAs};
 
 // No evidence filed.
-pub fn no_entries() -> [Entry; 256]
-    ensures { λ r. ⌜ r ≡ entriesOf emptyLedger ⌝ }
+pub fn no_evidence() -> [Entry; EVIDENCE]
+    ensures { λ r. ⌜ r ≡ evidenceOf emptyLedger ⌝ }
 {
     let none = Entry {
         evidence: Evidence::Empty,
         first: 0,
         last: 0,
     };
-    [none; 256]
+    [none; EVIDENCE]
 }
 
 // Opens a book, for any counts and slices.
@@ -49,14 +52,14 @@ pub fn open_book(
         path_sources,
         path_sinks,
     );
-    let entries = no_entries();
+    let evidence = no_evidence();
     Answered {
         answer,
         book: Book {
             opening: kept,
-            figures: [0u64; 2946],
-            marks: [false; 1024],
-            entries,
+            figures: [0u64; FIGURES],
+            posted: [false; POSTED],
+            evidence,
         },
     }
 }

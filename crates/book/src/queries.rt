@@ -1,18 +1,18 @@
 // The queries (01, Queries): the book's opening and figures are lent, and nothing is changed.
 use crate::book::Book;
+use awards::holdings::held;
+use awards::holdings::net;
+use nominations::limits::limit;
 use records::answers::Answer;
-use tiers::holdings::held;
-use tiers::holdings::net;
-use tiers::limits::limit;
 ghost use mathlib.Core.Path.{_≡_};
 ghost use Rattle.ledger.specs.Call.{limitOf, heldOn, netOn};
 ghost use Rattle.book.specs.Handed.{told};
-ghost use Rattle.book.specs.Reached.{Reached};
+ghost use Rattle.book.specs.Reachable.{Reachable};
 
 impl Book {
     // A holder's limit at a sink's base in the open tier.
     pub fn limit(self, h: u64, s: u64) -> Answer
-        requires { ⌜ Reached self ⌝ }
+        requires { ⌜ Reachable self ⌝ }
         ensures { λ r. ⌜ r ≡ told self (limitOf h s) ⌝ }
     {
         let opening = self.opening;
@@ -22,7 +22,7 @@ impl Book {
 
     // What a holder holds on a path in a month.
     pub fn held(self, h: u64, p: u64, month: u64) -> Answer
-        requires { ⌜ Reached self ⌝ }
+        requires { ⌜ Reachable self ⌝ }
         ensures { λ r. ⌜ r ≡ told self (heldOn h p month) ⌝ }
     {
         let opening = self.opening;
@@ -32,7 +32,7 @@ impl Book {
 
     // What all holders hold on a path in a month.
     pub fn net(self, p: u64, month: u64) -> Answer
-        requires { ⌜ Reached self ⌝ }
+        requires { ⌜ Reachable self ⌝ }
         ensures { λ r. ⌜ r ≡ told self (netOn p month) ⌝ }
     {
         let opening = self.opening;

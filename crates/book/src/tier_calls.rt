@@ -2,21 +2,19 @@
 use crate::book::Answered;
 use crate::book::Book;
 use crate::book::with_figures;
-use tiers::award::award;
-use tiers::nominate::nominate;
-use tiers::turns::close_tier;
-use tiers::turns::open_tier;
-use tiers::verification::evidence_place;
-use tiers::verification::verified_kw;
+use awards::award::award;
+use awards::open_close::close_tier;
+use awards::open_close::open_tier;
+use nominations::nominate::nominate;
 ghost use mathlib.Core.Path.{_≡_};
 ghost use Rattle.ledger.specs.Call.{openTier, nominate, award, closeTier};
 ghost use Rattle.book.specs.Handed.{handed};
-ghost use Rattle.book.specs.Reached.{Reached};
+ghost use Rattle.book.specs.Reachable.{Reachable};
 
 impl Book {
     // Opens a tier.
     pub fn open_tier(self, tier: u64) -> Answered
-        requires { ⌜ Reached self ⌝ }
+        requires { ⌜ Reachable self ⌝ }
         ensures { λ r. ⌜ r ≡ handed self (openTier tier) ⌝ }
     {
         let mut figures = self.figures;
@@ -26,24 +24,18 @@ impl Book {
 
     // Nominates kw for a holder on a path in the open tier.
     pub fn nominate(self, h: u64, p: u64, kw: u64) -> Answered
-        requires { ⌜ Reached self ⌝ }
+        requires { ⌜ Reachable self ⌝ }
         ensures { λ r. ⌜ r ≡ handed self (nominate h p kw) ⌝ }
     {
         let opening = self.opening;
         let mut figures = self.figures;
-        let entries = self.entries;
-        let place = evidence_place(&opening, h, p);
-        let at = place.at;
-        let owned = entries[at];
-        let contract = entries[at + 1];
-        let verified = verified_kw(&figures, place.there, owned, contract);
-        let answer = nominate(&opening, &mut figures, verified, h, p, kw);
+        let answer = nominate(&opening, &mut figures, h, p, kw);
         with_figures(self, answer, figures)
     }
 
     // Awards kw to a holder on a path in the open tier.
     pub fn award(self, h: u64, p: u64, kw: u64) -> Answered
-        requires { ⌜ Reached self ⌝ }
+        requires { ⌜ Reachable self ⌝ }
         ensures { λ r. ⌜ r ≡ handed self (award h p kw) ⌝ }
     {
         let opening = self.opening;
@@ -54,7 +46,7 @@ impl Book {
 
     // Closes the open tier: what was not awarded is dropped.
     pub fn close_tier(self) -> Answered
-        requires { ⌜ Reached self ⌝ }
+        requires { ⌜ Reachable self ⌝ }
         ensures { λ r. ⌜ r ≡ handed self closeTier ⌝ }
     {
         let mut figures = self.figures;

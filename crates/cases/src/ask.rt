@@ -3,12 +3,12 @@ use crate::write::answer;
 use book::book::Answered;
 use book::book::Book;
 use book::opened::open_book;
-ghost use Rattle.book.specs.Reached.{Reached};
+ghost use Rattle.book.specs.Reachable.{Reachable};
 
 // The answer written, and the book to go on with.
 fn told(answered: Answered) -> Book
-    requires { ⌜ Reached (answered .book) ⌝ }
-    ensures { λ r. ⌜ Reached r ⌝ }
+    requires { ⌜ Reachable (answered .book) ⌝ }
+    ensures { λ r. ⌜ Reachable r ⌝ }
 {
     let said = answered.answer;
     answer(said);
@@ -17,7 +17,7 @@ fn told(answered: Answered) -> Book
 
 // A book with holders of these kinds, one sink, and a path to it from each of so many sources.
 pub fn open(kinds: &[u64], sink_kind: u64, path_sources: &[u64], path_sinks: &[u64]) -> Book
-    ensures { λ r. ⌜ Reached r ⌝ }
+    ensures { λ r. ⌜ Reachable r ⌝ }
 {
     let sink_kinds = [sink_kind];
     let sink_parents = [0u64];
@@ -47,22 +47,22 @@ pub fn load(
     hours: &[u64],
     kws: &[u64],
 ) -> Book
-    requires { ⌜ Reached b ⌝ }
-    ensures { λ r. ⌜ Reached r ⌝ }
+    requires { ⌜ Reachable b ⌝ }
+    ensures { λ r. ⌜ Reachable r ⌝ }
 {
     told(b.load(h, s, term, contract, n, firsts, hours, kws))
 }
 
 pub fn carry(b: Book, h: u64, p: u64, kw: u64) -> Book
-    requires { ⌜ Reached b ⌝ }
-    ensures { λ r. ⌜ Reached r ⌝ }
+    requires { ⌜ Reachable b ⌝ }
+    ensures { λ r. ⌜ Reachable r ⌝ }
 {
     told(b.carry(h, p, kw))
 }
 
 pub fn prior(b: Book, h: u64, p: u64, allocated: u64, long_term: u64) -> Book
-    requires { ⌜ Reached b ⌝ }
-    ensures { λ r. ⌜ Reached r ⌝ }
+    requires { ⌜ Reachable b ⌝ }
+    ensures { λ r. ⌜ Reachable r ⌝ }
 {
     told(b.prior(h, p, allocated, long_term))
 }
@@ -77,8 +77,8 @@ pub fn verify(
     first: u64,
     last: u64,
 ) -> Book
-    requires { ⌜ Reached b ⌝ }
-    ensures { λ r. ⌜ Reached r ⌝ }
+    requires { ⌜ Reachable b ⌝ }
+    ensures { λ r. ⌜ Reachable r ⌝ }
 {
     told(b.verify(h, s, kind, capacity, right, first, last))
 }
@@ -93,54 +93,54 @@ pub fn migrate(
     customers: &[u64],
     watts: &[u64],
 ) -> Book
-    requires { ⌜ Reached b ⌝ }
-    ensures { λ r. ⌜ Reached r ⌝ }
+    requires { ⌜ Reachable b ⌝ }
+    ensures { λ r. ⌜ Reachable r ⌝ }
 {
     told(b.migrate(term, sink, froms, tos, classes, customers, watts))
 }
 
 pub fn open_tier(b: Book, tier: u64) -> Book
-    requires { ⌜ Reached b ⌝ }
-    ensures { λ r. ⌜ Reached r ⌝ }
+    requires { ⌜ Reachable b ⌝ }
+    ensures { λ r. ⌜ Reachable r ⌝ }
 {
     told(b.open_tier(tier))
 }
 
 pub fn nominate(b: Book, h: u64, p: u64, kw: u64) -> Book
-    requires { ⌜ Reached b ⌝ }
-    ensures { λ r. ⌜ Reached r ⌝ }
+    requires { ⌜ Reachable b ⌝ }
+    ensures { λ r. ⌜ Reachable r ⌝ }
 {
     told(b.nominate(h, p, kw))
 }
 
 pub fn award(b: Book, h: u64, p: u64, kw: u64) -> Book
-    requires { ⌜ Reached b ⌝ }
-    ensures { λ r. ⌜ Reached r ⌝ }
+    requires { ⌜ Reachable b ⌝ }
+    ensures { λ r. ⌜ Reachable r ⌝ }
 {
     told(b.award(h, p, kw))
 }
 
 pub fn close_tier(b: Book) -> Book
-    requires { ⌜ Reached b ⌝ }
-    ensures { λ r. ⌜ Reached r ⌝ }
+    requires { ⌜ Reachable b ⌝ }
+    ensures { λ r. ⌜ Reachable r ⌝ }
 {
     told(b.close_tier())
 }
 
 pub fn limit(b: Book, h: u64, s: u64)
-    requires { ⌜ Reached b ⌝ }
+    requires { ⌜ Reachable b ⌝ }
 {
     answer(b.limit(h, s));
 }
 
 pub fn held(b: Book, h: u64, p: u64, month: u64)
-    requires { ⌜ Reached b ⌝ }
+    requires { ⌜ Reachable b ⌝ }
 {
     answer(b.held(h, p, month));
 }
 
 pub fn net(b: Book, p: u64, month: u64)
-    requires { ⌜ Reached b ⌝ }
+    requires { ⌜ Reachable b ⌝ }
 {
     answer(b.net(p, month));
 }

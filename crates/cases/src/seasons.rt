@@ -14,11 +14,11 @@ use crate::ask::prior;
 use crate::ask::verify;
 use crate::write::case;
 use book::book::Book;
-ghost use Rattle.book.specs.Reached.{Reached};
+ghost use Rattle.book.specs.Reachable.{Reachable};
 
 // Load-serving entities at a Default LAP that no path ends at.
 fn without_paths(kinds: &[u64]) -> Book
-    ensures { λ r. ⌜ Reached r ⌝ }
+    ensures { λ r. ⌜ Reachable r ⌝ }
 {
     let none = [0u64; 0];
     open(kinds, 1, &none, &none)
@@ -26,7 +26,7 @@ fn without_paths(kinds: &[u64]) -> Book
 
 // Holders of these kinds at a sink with one path.
 fn with_path(kinds: &[u64], sink_kind: u64) -> Book
-    ensures { λ r. ⌜ Reached r ⌝ }
+    ensures { λ r. ⌜ Reachable r ⌝ }
 {
     let zero = [0u64];
     open(kinds, sink_kind, &zero, &zero)
@@ -34,8 +34,8 @@ fn with_path(kinds: &[u64], sink_kind: u64) -> Book
 
 // A load of kw in each of 100 hours, at sink 0.
 fn steady_load(b: Book, h: u64, term: u64, kw: u64) -> Book
-    requires { ⌜ Reached b ⌝ }
-    ensures { λ r. ⌜ Reached r ⌝ }
+    requires { ⌜ Reachable b ⌝ }
+    ensures { λ r. ⌜ Reachable r ⌝ }
 {
     let firsts = [0u64];
     let hours = [100u64];
@@ -45,8 +45,8 @@ fn steady_load(b: Book, h: u64, term: u64, kw: u64) -> Book
 
 // A tier that opens and closes with nothing nominated.
 fn pass_tier(b: Book, tier: u64) -> Book
-    requires { ⌜ Reached b ⌝ }
-    ensures { λ r. ⌜ Reached r ⌝ }
+    requires { ⌜ Reachable b ⌝ }
+    ensures { λ r. ⌜ Reachable r ⌝ }
 {
     let b = open_tier(b, tier);
     close_tier(b)
@@ -54,8 +54,8 @@ fn pass_tier(b: Book, tier: u64) -> Book
 
 // A tier in which holder 0 nominates kw on path 0 and is awarded it.
 fn full_tier(b: Book, tier: u64, kw: u64) -> Book
-    requires { ⌜ Reached b ⌝ }
-    ensures { λ r. ⌜ Reached r ⌝ }
+    requires { ⌜ Reachable b ⌝ }
+    ensures { λ r. ⌜ Reachable r ⌝ }
 {
     let b = open_tier(b, tier);
     let b = nominate(b, 0, 0, kw);
@@ -65,7 +65,7 @@ fn full_tier(b: Book, tier: u64, kw: u64) -> Book
 
 // Case 1 up to its tier 1.
 fn first_tier_1() -> Book
-    ensures { λ r. ⌜ Reached r ⌝ }
+    ensures { λ r. ⌜ Reachable r ⌝ }
 {
     let kinds = [1u64];
     let sources = [0u64, 1];
@@ -82,7 +82,7 @@ fn first_tier_1() -> Book
 
 // The rest of case 1.
 fn first_season() -> Book
-    ensures { λ r. ⌜ Reached r ⌝ }
+    ensures { λ r. ⌜ Reachable r ⌝ }
 {
     let b = first_tier_1();
     limit(b, 0, 0);

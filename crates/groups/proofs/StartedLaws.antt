@@ -18,7 +18,7 @@ use Rattle.records.specs.declared.answers.Answer.the-variants.{Done, Refused}
 use Rattle.opening.specs.Opened.{openedAnswer, openedOpening}
 use Rattle.book.specs.Reading.{bookOf}
 use Rattle.book.specs.Opened.{openedAs}
-use Rattle.book.specs.Reached.{Reached}
+use Rattle.book.specs.Reachable.{Reachable}
 use Rattle.book.proofs.OpenedLaws.{opened-reached}
 use Rattle.lines.specs.declared.rows.Row.{Row}
 use Rattle.lines.specs.declared.counted.Counted.{Counted}
@@ -206,7 +206,7 @@ module _ (script : List ℕ) where
   start-readable = ap (λ u. rowsOf (drop u script)) (start-used script) ∙ ap rowsOf (sym (drop-drop (bytesOfLines counted-lines left) (nextRow script .used) script)) ∙ rows-after counted-lines left
 
   -- the book of a run that goes on
-  pub start-reached : (o : List ℕ) → startedOf script .«goes_on» ≡ true → Reached (bookOf (openingAfter script o) emptyLedger)
+  pub start-reached : (o : List ℕ) → startedOf script .«goes_on» ≡ true → Reachable (bookOf (openingAfter script o) emptyLedger)
   unfolding startedOf startedWith openingAfter openingLeft openedAs
   start-reached o e =
       let readable = and-both (bookReadable first (rowsOf left)) (legal (openingOfRows first (rowsOf left))) e .0 in

@@ -1,18 +1,14 @@
 -- The first group of a script's rest: what it asks, the bytes that it takes, and what it leads to.
 use Prim.Native.Nat.{ℕ, _+_}
 use mathlib.Core.Path.{_≡_}
-use mathlib.Core.Bool.{Bool}
 use mathlib.Core.List.{List}
 use lib.ListN.{drop}
-use Rattle.tariff.specs.declared.evidence.Entry.{Entry}
 use Rattle.ledger.specs.Season.{call, query}
 use Rattle.records.specs.declared.answers.Answer.{Answer}
-use Rattle.tiers.specs.Verified.{Verified}
 use Rattle.book.specs.declared.book.Book.{Book}
 use Rattle.book.specs.declared.book.Answered.{Answered}
 use Rattle.book.specs.Handed.{refusedWith, handed, told}
 use Rattle.lines.specs.declared.rows.Row.{Row}
-use Rattle.lines.specs.Rows.{field, nominateLine}
 use Rattle.lines.specs.Reading.{nextRow}
 use Rattle.lines.specs.Counted.{bytesOfLines, rowsCounted}
 use Rattle.groups.specs.Groups.{Asked, nothing, asked, linesCounted, asksOf}
@@ -40,7 +36,3 @@ answeredTo b (asked (query q)) = record { answer = told b q; book = b }
 -- an answer and the book beside it are those that a group, put to a book, leads to
 abbrev pub Answers : Book → Asked → Answer → Book → Type 0
 Answers b g answer next = _≡_ {A = Answered} (record { answer = answer; book = next }) (answeredTo b g)
-
--- what a head needs to be told of the book's evidence: a nomination, what its holder has verified; any other, nothing
-abbrev pub VerifiedFor : List ℕ → List ℕ → List Bool → List Entry → Row → ℕ → Type 0
-VerifiedFor o f m x r kw = r .kind ≡ nominateLine → Verified o f m x (field 0 r) (field 1 r) kw

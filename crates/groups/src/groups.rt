@@ -6,8 +6,8 @@ use lines::rows::CLASS;
 use lines::rows::LOAD;
 use lines::rows::MIGRATE;
 use lines::rows::Row;
-use moves::migrate::migrate;
-use posting::load::load;
+use migrate::migrate::migrate;
+use postings::load::load;
 use records::answers::Answer;
 ghost use mathlib.Core.Path.{_≡_};
 ghost use mathlib.Core.Bool.{Bool};
@@ -15,10 +15,10 @@ ghost use mathlib.Core.List.{List};
 ghost use Prim.Native.Nat.{_≤_};
 ghost use lib.ListN.{length};
 ghost use Rattle.tariff.specs.declared.evidence.Entry.{Entry};
-ghost use Rattle.records.specs.Handed.{Kept, Posted, Reached};
+ghost use Rattle.slots.specs.Steps.{Reachable, ReachableFigures, ReachablePostings};
 ghost use Rattle.book.specs.Reading.{bookIn};
 ghost use Rattle.lines.specs.Rows.{rowsOf, loadLine, verifyLine, migrateLine};
-ghost use Rattle.groups.specs.Told.{headAsks, headBytes, Answers, VerifiedFor};
+ghost use Rattle.groups.specs.Told.{headAsks, headBytes, Answers};
 
 // What a group is answered, and how many bytes the lines behind its head take.
 pub struct Told {
@@ -39,8 +39,8 @@ fn tell_load(
     d: &mut [u64],
     e: &mut [u64],
 ) -> Told
-    requires { ⌜ (Posted (now o) (now f) (now m) × (head .kind ≡ loadLine)) × (length (rowsOf (now behind)) ≤ 4096) × (length (now a) ≡ 4096) × (length (now b) ≡ 4096) × (length (now c) ≡ 4096) × (length (now d) ≡ 4096) × (length (now e) ≡ 4096) ⌝ }
-    ensures { λ r. ⌜ ((x : List Entry) → Reached (now (o .entry)) (now (f .entry)) (now (m .entry)) x → Answers (bookIn (now (o .entry)) (now (f .entry)) (now (m .entry)) x) (headAsks head (now (behind .entry))) (r .answer) (bookIn (now (o .entry)) (now (f .exit)) (now (m .exit)) x)) × (r .used ≡ headBytes head (now (behind .entry))) × (length (now (a .exit)) ≡ 4096) × (length (now (b .exit)) ≡ 4096) × (length (now (c .exit)) ≡ 4096) × (length (now (d .exit)) ≡ 4096) × (length (now (e .exit)) ≡ 4096) ⌝ }
+    requires { ⌜ (ReachablePostings (now o) (now f) (now m) × (head .kind ≡ loadLine)) × (length (rowsOf (now behind)) ≤ 4096) × (length (now a) ≡ 4096) × (length (now b) ≡ 4096) × (length (now c) ≡ 4096) × (length (now d) ≡ 4096) × (length (now e) ≡ 4096) ⌝ }
+    ensures { λ r. ⌜ ((x : List Entry) → Reachable (now (o .entry)) (now (f .entry)) (now (m .entry)) x → Answers (bookIn (now (o .entry)) (now (f .entry)) (now (m .entry)) x) (headAsks head (now (behind .entry))) (r .answer) (bookIn (now (o .entry)) (now (f .exit)) (now (m .exit)) x)) × (r .used ≡ headBytes head (now (behind .entry))) × (length (now (a .exit)) ≡ 4096) × (length (now (b .exit)) ≡ 4096) × (length (now (c .exit)) ≡ 4096) × (length (now (d .exit)) ≡ 4096) × (length (now (e .exit)) ≡ 4096) ⌝ }
 {
     let n = head.fields;
     let count = n[5];
@@ -79,8 +79,8 @@ fn tell_migrate(
     d: &mut [u64],
     e: &mut [u64],
 ) -> Told
-    requires { ⌜ (Kept (now o) (now f) × (head .kind ≡ migrateLine)) × (length (rowsOf (now behind)) ≤ 4096) × (length (now a) ≡ 4096) × (length (now b) ≡ 4096) × (length (now c) ≡ 4096) × (length (now d) ≡ 4096) × (length (now e) ≡ 4096) ⌝ }
-    ensures { λ r. ⌜ ((m : List Bool) (x : List Entry) → Reached (now (o .entry)) (now (f .entry)) m x → Answers (bookIn (now (o .entry)) (now (f .entry)) m x) (headAsks head (now (behind .entry))) (r .answer) (bookIn (now (o .entry)) (now (f .exit)) m x)) × (r .used ≡ headBytes head (now (behind .entry))) × (length (now (a .exit)) ≡ 4096) × (length (now (b .exit)) ≡ 4096) × (length (now (c .exit)) ≡ 4096) × (length (now (d .exit)) ≡ 4096) × (length (now (e .exit)) ≡ 4096) ⌝ }
+    requires { ⌜ (ReachableFigures (now o) (now f) × (head .kind ≡ migrateLine)) × (length (rowsOf (now behind)) ≤ 4096) × (length (now a) ≡ 4096) × (length (now b) ≡ 4096) × (length (now c) ≡ 4096) × (length (now d) ≡ 4096) × (length (now e) ≡ 4096) ⌝ }
+    ensures { λ r. ⌜ ((m : List Bool) (x : List Entry) → Reachable (now (o .entry)) (now (f .entry)) m x → Answers (bookIn (now (o .entry)) (now (f .entry)) m x) (headAsks head (now (behind .entry))) (r .answer) (bookIn (now (o .entry)) (now (f .exit)) m x)) × (r .used ≡ headBytes head (now (behind .entry))) × (length (now (a .exit)) ≡ 4096) × (length (now (b .exit)) ≡ 4096) × (length (now (c .exit)) ≡ 4096) × (length (now (d .exit)) ≡ 4096) × (length (now (e .exit)) ≡ 4096) ⌝ }
 {
     let n = head.fields;
     let count = n[2];
@@ -105,12 +105,11 @@ fn tell_migrate(
     Told { answer, used }
 }
 
-// A head with the lines that stand behind it. It is no verify, and for a nomination it is told what the holder has verified.
+// A head with the lines that stand behind it. It is no verify.
 pub fn tell_head(
     o: &[u64],
     f: &mut [u64],
     m: &mut [bool],
-    verified: u64,
     head: Row,
     behind: &[u8],
     a: &mut [u64],
@@ -119,8 +118,8 @@ pub fn tell_head(
     d: &mut [u64],
     e: &mut [u64],
 ) -> Told
-    requires { ⌜ (Posted (now o) (now f) (now m) × (head .kind ≡ verifyLine → ⊥)) × (length (rowsOf (now behind)) ≤ 4096) × (length (now a) ≡ 4096) × (length (now b) ≡ 4096) × (length (now c) ≡ 4096) × (length (now d) ≡ 4096) × (length (now e) ≡ 4096) ⌝ }
-    ensures { λ r. ⌜ ((x : List Entry) → Reached (now (o .entry)) (now (f .entry)) (now (m .entry)) x → VerifiedFor (now (o .entry)) (now (f .entry)) (now (m .entry)) x head verified → Answers (bookIn (now (o .entry)) (now (f .entry)) (now (m .entry)) x) (headAsks head (now (behind .entry))) (r .answer) (bookIn (now (o .entry)) (now (f .exit)) (now (m .exit)) x)) × (r .used ≡ headBytes head (now (behind .entry))) × (length (now (a .exit)) ≡ 4096) × (length (now (b .exit)) ≡ 4096) × (length (now (c .exit)) ≡ 4096) × (length (now (d .exit)) ≡ 4096) × (length (now (e .exit)) ≡ 4096) ⌝ }
+    requires { ⌜ (ReachablePostings (now o) (now f) (now m) × (head .kind ≡ verifyLine → ⊥)) × (length (rowsOf (now behind)) ≤ 4096) × (length (now a) ≡ 4096) × (length (now b) ≡ 4096) × (length (now c) ≡ 4096) × (length (now d) ≡ 4096) × (length (now e) ≡ 4096) ⌝ }
+    ensures { λ r. ⌜ ((x : List Entry) → Reachable (now (o .entry)) (now (f .entry)) (now (m .entry)) x → Answers (bookIn (now (o .entry)) (now (f .entry)) (now (m .entry)) x) (headAsks head (now (behind .entry))) (r .answer) (bookIn (now (o .entry)) (now (f .exit)) (now (m .exit)) x)) × (r .used ≡ headBytes head (now (behind .entry))) × (length (now (a .exit)) ≡ 4096) × (length (now (b .exit)) ≡ 4096) × (length (now (c .exit)) ≡ 4096) × (length (now (d .exit)) ≡ 4096) × (length (now (e .exit)) ≡ 4096) ⌝ }
 {
     if head.kind == LOAD {
         return tell_load(o, f, m, head, behind, a, b, c, d, e);
@@ -128,6 +127,6 @@ pub fn tell_head(
     if head.kind == MIGRATE {
         return tell_migrate(o, f, head, behind, a, b, c, d, e);
     }
-    let answer = ask_row(o, f, m, verified, head);
+    let answer = ask_row(o, f, m, head);
     Told { answer, used: 0 }
 }

@@ -1,5 +1,6 @@
 pub mod Marked
 pub mod Unmet
+pub mod QueryFacts
 pub mod PostingFacts
 pub mod TierFacts
 pub mod Steps

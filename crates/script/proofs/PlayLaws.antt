@@ -11,16 +11,16 @@ use lib.Seq.{drop-drop}
 use Rattle.tariff.specs.declared.evidence.Entry.{Entry}
 use Rattle.ledger.specs.Ledger.{emptyLedger}
 use Rattle.ledger.specs.Season.{call, query}
-use Rattle.records.specs.Layout.{entriesOf}
+use Rattle.slots.specs.Layout.{figureCount, postedCount, evidenceOf}
 use Rattle.records.specs.declared.answers.Answer.{Answer}
 use Rattle.book.specs.declared.book.Book.{Book}
 use Rattle.book.specs.declared.book.Answered.{Answered}
 use Rattle.records.specs.Handed.{answerIn}
 use Rattle.book.specs.Reading.{bookIn, bookOf}
 use Rattle.book.specs.Handed.{refusedWith}
-use Rattle.book.specs.Reached.{Reached}
+use Rattle.book.specs.Reachable.{Reachable}
 use Rattle.lines.specs.declared.lines.NextRow.{NextRow}
-use Rattle.book.proofs.EmptyBook.{empty-figures, empty-marks}
+use Rattle.book.proofs.EmptyBook.{empty-figures, empty-posted}
 use Rattle.lines.specs.Rows.{rowsOf}
 use Rattle.lines.specs.Text.{linesOf}
 use Rattle.lines.specs.Reading.{nextRow}
@@ -42,7 +42,7 @@ use Rattle.script.proofs.AnswerLaws.{text-short}
 use Rattle.script.proofs.WritableLaws.{handed-writable, told-writable}
 
 -- what a group is answered fits its line
-pub group-writable : (b : Book) → Reached b → (g : Asked) → Writable (answerIn (answeredTo b g .answer))
+pub group-writable : (b : Book) → Reachable b → (g : Asked) → Writable (answerIn (answeredTo b g .answer))
 unfolding answeredTo refusedWith answerIn Writable
 group-writable b r nothing = omega arith
 group-writable b r (asked (call c)) = handed-writable b r c
@@ -94,7 +94,7 @@ text-none b = refl
 
 -- what is known when some groups have been answered
 pub record PlayedTo (script : List ℕ) (first : Book) (from start : ℕ) (out₀ out : List ℕ) (b : Book) (at written : ℕ) : Type 0 where
-  pub reached : Reached b
+  pub reached : Reachable b
   pub inScript : at ≤ length script
   pub few : length (rowsOf (drop at script)) ≤ 4096
   pub room : written + 16 * length (rowsOf (drop at script)) ≤ length out₀
@@ -103,17 +103,17 @@ pub record PlayedTo (script : List ℕ) (first : Book) (from start : ℕ) (out�
   pub bytes : out ≡ writtenAt out₀ start done
   pub left : done ++ textFrom b (drop at script) ≡ textFrom first (drop from script)
 
--- arrays at 0, with no mark and no evidence, are those of the book that was opened
-opened-book : (o : List ℕ) (x : List Entry) → x ≡ entriesOf emptyLedger → bookOf o emptyLedger ≡ bookIn o (replicate 2946 0) (replicate 1024 false) x
+-- arrays at 0, with nothing posted and no evidence, are those of the book that was opened
+opened-book : (o : List ℕ) (x : List Entry) → x ≡ evidenceOf emptyLedger → bookOf o emptyLedger ≡ bookIn o (replicate figureCount 0) (replicate postedCount false) x
 unfolding bookOf
-opened-book o x e = λ i. bookIn o (sym empty-figures i) (sym empty-marks i) (sym e i)
+opened-book o x e = λ i. bookIn o (sym empty-figures i) (sym empty-posted i) (sym e i)
 
 -- and nothing is answered yet
 module _ (script o : List ℕ) (x : List Entry) (from start : ℕ) (out : List ℕ) where
   abbrev opened : Book
   opened = bookOf o emptyLedger
 
-  none-answered : Reached opened → from ≤ length script → length (rowsOf (drop from script)) ≤ 4096 → start + 16 * length (rowsOf (drop from script)) ≤ length out → PlayedTo script opened from start out out opened from start
+  none-answered : Reachable opened → from ≤ length script → length (rowsOf (drop from script)) ≤ 4096 → start + 16 * length (rowsOf (drop from script)) ≤ length out → PlayedTo script opened from start out out opened from start
   unfolding writtenAt
   none-answered r l few room =
       record {
@@ -130,7 +130,7 @@ module _ (script o : List ℕ) (x : List Entry) (from start : ℕ) (out : List �
       nothing-written : (at : ℕ) (out : List ℕ) → take at out ++ [] ++ drop (at + 0) out ≡ out
       nothing-written at out = ap (λ front. front ++ drop (at + 0) out) (append-nil (take at out)) ∙ ap (λ n. take at out ++ drop n out) (add-zero at) ∙ take-append-drop at out
 
-  pub none-played : x ≡ entriesOf emptyLedger → Reached opened → from ≤ length script → length (rowsOf (drop from script)) ≤ 4096 → start + 16 * length (rowsOf (drop from script)) ≤ length out → PlayedTo script opened from start out out (bookIn o (replicate 2946 0) (replicate 1024 false) x) from start
+  pub none-played : x ≡ evidenceOf emptyLedger → Reachable opened → from ≤ length script → length (rowsOf (drop from script)) ≤ 4096 → start + 16 * length (rowsOf (drop from script)) ≤ length out → PlayedTo script opened from start out out (bookIn o (replicate figureCount 0) (replicate postedCount false) x) from start
   none-played e r l few room = subst (λ b. PlayedTo script opened from start out out b from start) (opened-book o x e) (none-answered r l few room)
 
 module _ (script : List ℕ) (first : Book) (from start : ℕ) (out₀ out : List ℕ) (b : Book) (at written : ℕ) (f : PlayedTo script first from start out₀ out b at written) where
@@ -218,7 +218,7 @@ module _ (script : List ℕ) (first : Book) (from start : ℕ) (out₀ out : Lis
             let sum = length-append (f .done) text in
             let few = f .few in
             record {
-              reached = subst (λ y. Reached (y .book)) (sym as-group) (answered-reached b (f .reached) (groupAsked rest));
+              reached = subst (λ y. Reachable (y .book)) (sym as-group) (answered-reached b (f .reached) (groupAsked rest));
               inScript = turn-within;
               few = omega arith;
               room = omega arith;

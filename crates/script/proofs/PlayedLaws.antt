@@ -10,8 +10,8 @@ use Rattle.ledger.proofs.Steps.{after-more}
 use Rattle.book.specs.declared.book.Book.{Book}
 use Rattle.records.specs.Handed.{answerIn}
 use Rattle.book.specs.Handed.{refusedWith}
-use Rattle.book.specs.Reached.{Reached}
-use Rattle.book.proofs.ReachedSteps.{bookAt, at-next, handed-reached}
+use Rattle.book.specs.Reachable.{Reachable}
+use Rattle.book.proofs.ReachableSteps.{bookAt, at-next, handed-reached}
 use Rattle.book.proofs.SeasonAnswers.{call-answered, query-answered}
 use Rattle.groups.specs.Told.{answeredTo}
 use Rattle.groups.specs.Groups.{Asked, nothing, asked}
@@ -19,7 +19,7 @@ use Rattle.script.specs.Answers.{answersTo}
 use Rattle.script.specs.Played.{answersOf}
 
 -- the book handed on is one to go on with
-pub answered-reached : (b : Book) → Reached b → (g : Asked) → Reached (answeredTo b g .book)
+pub answered-reached : (b : Book) → Reachable b → (g : Asked) → Reachable (answeredTo b g .book)
 unfolding answeredTo refusedWith
 answered-reached b r nothing = r
 answered-reached b r (asked (call c)) = handed-reached b r c

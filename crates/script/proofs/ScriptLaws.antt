@@ -13,7 +13,7 @@ use Rattle.records.specs.declared.answers.Answer.the-variants.{Done, Refused}
 use Rattle.opening.specs.Opened.{openedAnswer}
 use Rattle.lines.specs.declared.rows.Row.{Row}
 use Rattle.book.specs.Reading.{bookOf}
-use Rattle.book.specs.Reached.{Reached}
+use Rattle.book.specs.Reachable.{Reachable}
 use Rattle.lines.specs.Rows.{rowsOf, field}
 use Rattle.lines.specs.Reading.{nextRow}
 use Rattle.lines.specs.Writing.{writtenAt}
@@ -81,8 +81,8 @@ module _ (script out : List ℕ) (some : 1 ≤ length script) (few : length (row
         let all = run-stops script some (sym (ap (λ y. y .«goes_on») is) ∙ e) ∙ ap (λ y. textOf (answerIn (y .answer))) (sym is) in
         (place ∙ zero-add (length text) ∙ ap length (sym all), bytes ∙ ap (writtenAt out 0) (sym all))
 
-    pub left-reached : x .«goes_on» ≡ true → Reached (bookOf o emptyLedger)
-    left-reached e = subst (λ z. Reached (bookOf z emptyLedger)) (sym opening) (start-reached script o₀ (sym (ap (λ y. y .«goes_on») is) ∙ e))
+    pub left-reached : x .«goes_on» ≡ true → Reachable (bookOf o emptyLedger)
+    left-reached e = subst (λ z. Reachable (bookOf z emptyLedger)) (sym opening) (start-reached script o₀ (sym (ap (λ y. y .«goes_on») is) ∙ e))
 
     pub left-within : x .used ≤ length script
     left-within = le-trans (le-of-eq (ap (λ y. y .used) is)) (start-within script)

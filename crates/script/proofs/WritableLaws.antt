@@ -21,13 +21,12 @@ use Rattle.ledger.proofs.Bounds.{mostTogether, figures-fit, one-fits}
 use Rattle.ledger.proofs.Conserved.{loadSum}
 use Rattle.ledger.proofs.SumBounds.{net-fits}
 use Rattle.ledger.proofs.Unmet.{unmet, open-number}
+use Rattle.ledger.proofs.QueryFacts.{limit-holder, held-names, net-names}
 use Rattle.book.specs.declared.book.Book.{Book}
 use Rattle.records.specs.Handed.{answerIn}
 use Rattle.book.specs.Handed.{handed, told}
-use Rattle.book.specs.Reached.{Reached}
-use Rattle.tiers.proofs.HeldLaws.{held-names, net-names}
-use Rattle.tiers.proofs.LimitLaws.{limit-holder}
-use Rattle.book.proofs.ReachedSteps.{reached-book}
+use Rattle.book.specs.Reachable.{Reachable}
+use Rattle.book.proofs.ReachableSteps.{reached-book}
 use Rattle.book.proofs.SeasonAnswers.{call-answered, query-answered}
 use Rattle.lines.specs.Writing.{leastOfThirteenDigits}
 use Rattle.script.specs.Writing.{Writable}
@@ -118,7 +117,7 @@ module _ (o : Opening) (ok : legal o ≡ true) (cs : List Call) where
       go false e = query-refusal-small o (after o cs) q
 
 -- and of a book that opening or a call handed back
-module _ (b : Book) (r : Reached b) where
+module _ (b : Book) (r : Reachable b) where
   pub handed-writable : (c : Call) → Writable (answerIn (handed b c .answer))
   handed-writable c =
       subst Writable (sym (ap (λ x. answerIn (handed x c .answer)) (reached-book b r) ∙ call-answered (r .opening) (r .isLegal) (r .calls) c))

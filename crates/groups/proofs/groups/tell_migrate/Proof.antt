@@ -149,7 +149,7 @@ returns-2 c =
     let all = not-false _ (c .before .before .before .before .before .before .before .before .before .if1 .left) in
     let counts = migrate-counts _ (s .pre .0 .1) in
     let asks = migrate-asks _ _ (s .pre .0 .1) in
-    (λ m x k. whole-told _ _ _ _ _ _ _ (r .0) counts asks all _ _ (migrate-is _ (s .args .head) (rowsCounted (field 2 (s .args .head)) (s .args .behind .now)) _ _ _ _ _ _ (handed-if _ _ _ _ _ _ _ _ _ _ (c .before .before .migrate .ensures m x k)) (part-is _ _ _ _ (r .0) all 0 _ _ (r .1)) (part-is _ _ _ _ (r .0) all 1 _ _ (r .2)) (part-is _ _ _ _ (r .0) all 2 _ _ (r .3)) (part-is _ _ _ _ (r .0) all 3 _ _ (r .4)) (part-is _ _ _ _ (r .0) all 4 _ _ (r .5))), told-bytes (bookIn (s .args .o .now) (s .args .f .now) [] []) _ _ _ _ _ _ (r .0) counts asks, kept-size 0 _ _ _ _ (s .pre .1) (s .pre .2) (r .1), kept-size 1 _ _ _ _ (s .pre .1) (s .pre .3) (r .2), kept-size 2 _ _ _ _ (s .pre .1) (s .pre .4) (r .3), kept-size 3 _ _ _ _ (s .pre .1) (s .pre .5) (r .4), kept-size 4 _ _ _ _ (s .pre .1) (s .pre .6) (r .5))
+    (λ m x k. whole-told _ _ _ _ _ _ _ (r .0) counts asks all _ _ (migrate-is _ (s .args .head) (rowsCounted (field 2 (s .args .head)) (s .args .behind .now)) _ _ _ _ _ _ (handed-if _ _ _ _ _ _ _ _ _ _ k (c .before .before .migrate .ensures m x k)) (part-is _ _ _ _ (r .0) all 0 _ _ (r .1)) (part-is _ _ _ _ (r .0) all 1 _ _ (r .2)) (part-is _ _ _ _ (r .0) all 2 _ _ (r .3)) (part-is _ _ _ _ (r .0) all 3 _ _ (r .4)) (part-is _ _ _ _ (r .0) all 4 _ _ (r .5))), told-bytes (bookIn (s .args .o .now) (s .args .f .now) [] []) _ _ _ _ _ _ (r .0) counts asks, kept-size 0 _ _ _ _ (s .pre .1) (s .pre .2) (r .1), kept-size 1 _ _ _ _ (s .pre .1) (s .pre .3) (r .2), kept-size 2 _ _ _ _ (s .pre .1) (s .pre .4) (r .3), kept-size 3 _ _ _ _ (s .pre .1) (s .pre .5) (r .4), kept-size 4 _ _ _ _ (s .pre .1) (s .pre .6) (r .5))
 
 pub tell-migrate-spec : {M : Type 1} → statement M
 tell-migrate-spec =

@@ -1,5 +1,5 @@
 -- `groups::heads::ask_row` meets its contract: each arm is the call that its kind asks. Assumes nothing.
-use Rattle.records.proofs.ReachedParts.{figures-sized}
+use Rattle.slots.proofs.Reachable.{figures-long}
 use Rattle.book.proofs.HandedBooks.{handed-book}
 use Rattle.lines.specs.Rows.{field}
 use Rattle.groups.proofs.HeadLaws.{carry-asks, prior-asks, open-asks, nominate-asks, award-asks, close-asks, by-call}
@@ -38,7 +38,7 @@ array-read-open-tier : tie.Need-array-read-open-tier
 array-read-open-tier c = search needs
 
 open-tier-requires : tie.Need-open-tier-requires
-open-tier-requires c κs = figures-sized _ _ _ _ (c .before .before .before .before .before .before .pre .0 .reached)
+open-tier-requires c κs = figures-long _ _ _ _ (c .before .before .before .before .before .before .pre .0 .reachable)
 
 array-read-nominate : tie.Need-array-read-nominate
 array-read-nominate c = search needs
@@ -65,7 +65,7 @@ award-requires : tie.Need-award-requires
 award-requires c κs = search needs
 
 close-tier-requires : tie.Need-close-tier-requires
-close-tier-requires c κs = figures-sized _ _ _ _ (c .before .before .before .before .before .before .pre .0 .reached)
+close-tier-requires c κs = figures-long _ _ _ _ (c .before .before .before .before .before .before .pre .0 .reachable)
 
 query-answer-requires : tie.Need-query-answer-requires
 query-answer-requires c κs = search needs
@@ -78,7 +78,7 @@ same-length-2 c = search needs
 
 returns : tie.Need-returns
 unfolding field
-returns c = λ x k v. by-call _ _ _ _ _ (handed-book _ _ _ _ _ _ _ _ _ (c .before .before .before .before .carry .ensures x k)) (carry-asks _ _ (c .before .before .before .before .before .before .before .match .keys1))
+returns c = λ x k. by-call _ _ _ _ _ (handed-book _ _ _ _ _ _ _ _ _ (c .before .before .before .before .carry .ensures x k)) (carry-asks _ _ (c .before .before .before .before .before .before .before .match .keys1))
 
 same-length-3 : tie.Need-same-length-3
 same-length-3 c = search needs
@@ -88,41 +88,41 @@ same-length-4 c = search needs
 
 returns-2 : tie.Need-returns-2
 unfolding field
-returns-2 c = λ x k v. by-call _ _ _ _ _ (handed-book _ _ _ _ _ _ _ _ _ (c .before .before .before .before .prior .ensures x k)) (prior-asks _ _ (c .before .before .before .before .before .before .before .match .keys2))
+returns-2 c = λ x k. by-call _ _ _ _ _ (handed-book _ _ _ _ _ _ _ _ _ (c .before .before .before .before .prior .ensures x k)) (prior-asks _ _ (c .before .before .before .before .before .before .before .match .keys2))
 
 same-length-5 : tie.Need-same-length-5
 same-length-5 c = search needs
 
 returns-3 : tie.Need-returns-3
 unfolding field
-returns-3 c = λ x k v. by-call _ _ _ _ _ (handed-book _ _ _ _ _ _ _ _ _ (c .before .before .open-tier .ensures _ _ x k)) (open-asks _ _ (c .before .before .before .before .match .keys3))
+returns-3 c = λ x k. by-call _ _ _ _ _ (handed-book _ _ _ _ _ _ _ _ _ (c .before .before .open-tier .ensures _ _ x k)) (open-asks _ _ (c .before .before .before .before .match .keys3))
 
 same-length-6 : tie.Need-same-length-6
 same-length-6 c = search needs
 
 returns-4 : tie.Need-returns-4
 unfolding field
-returns-4 c = λ x k v. by-call _ _ _ _ _ (handed-book _ _ _ _ _ _ _ _ _ (c .before .before .nominate .ensures _ x k (v (c .before .before .before .before .match .keys4)))) (nominate-asks _ _ (c .before .before .before .before .match .keys4))
+returns-4 c = λ x k. by-call _ _ _ _ _ (handed-book _ _ _ _ _ _ _ _ _ (c .before .before .nominate .ensures _ x k)) (nominate-asks _ _ (c .before .before .before .before .match .keys4))
 
 same-length-7 : tie.Need-same-length-7
 same-length-7 c = search needs
 
 returns-5 : tie.Need-returns-5
 unfolding field
-returns-5 c = λ x k v. by-call _ _ _ _ _ (handed-book _ _ _ _ _ _ _ _ _ (c .before .before .award .ensures _ x k)) (award-asks _ _ (c .before .before .before .before .match .keys5))
+returns-5 c = λ x k. by-call _ _ _ _ _ (handed-book _ _ _ _ _ _ _ _ _ (c .before .before .award .ensures _ x k)) (award-asks _ _ (c .before .before .before .before .match .keys5))
 
 same-length-8 : tie.Need-same-length-8
 same-length-8 c = search needs
 
 returns-6 : tie.Need-returns-6
 unfolding field
-returns-6 c = λ x k v. by-call _ _ _ _ _ (handed-book _ _ _ _ _ _ _ _ _ (c .before .before .close-tier .ensures _ _ x k)) (close-asks _ _ (c .before .before .before .before .match .keys6))
+returns-6 c = λ x k. by-call _ _ _ _ _ (handed-book _ _ _ _ _ _ _ _ _ (c .before .before .close-tier .ensures _ _ x k)) (close-asks _ _ (c .before .before .before .before .match .keys6))
 
 same-length-9 : tie.Need-same-length-9
 same-length-9 c = search needs
 
 returns-7 : tie.Need-returns-7
-returns-7 c = λ x k v. c .query-answer .ensures _ x
+returns-7 c = λ x k. c .query-answer .ensures _ x k
 
 pub ask-row-spec : {M : Type 1} → statement M
 ask-row-spec =

@@ -1,5 +1,5 @@
 -- `groups::heads::query_answer` meets its contract: each arm is the query that its kind asks. Assumes nothing.
-use Rattle.records.specs.Handed.{toldBy}
+use Rattle.slots.specs.Steps.{queryAnswer}
 use Rattle.book.specs.Reading.{bookIn, ledgerOf, openedWith}
 use Rattle.book.specs.Handed.{told}
 use Rattle.lines.specs.Rows.{field}
@@ -39,19 +39,19 @@ net-requires : tie.Need-net-requires
 net-requires c κs = search needs
 
 returns : tie.Need-returns
-unfolding field told toldBy bookIn ledgerOf openedWith
-returns c = λ m x. by-query _ _ _ _ (c .limit .ensures m x) (limit-asks _ _ (c .before .match .keys1))
+unfolding field told queryAnswer bookIn ledgerOf openedWith
+returns c = λ m x k. by-query _ _ _ _ (c .limit .ensures m x k) (limit-asks _ _ (c .before .match .keys1))
 
 returns-2 : tie.Need-returns-2
-unfolding field told toldBy bookIn ledgerOf openedWith
-returns-2 c = λ m x. by-query _ _ _ _ (c .held .ensures m x) (held-asks _ _ (c .before .match .keys2))
+unfolding field told queryAnswer bookIn ledgerOf openedWith
+returns-2 c = λ m x k. by-query _ _ _ _ (c .held .ensures m x k) (held-asks _ _ (c .before .match .keys2))
 
 returns-3 : tie.Need-returns-3
-unfolding field told toldBy bookIn ledgerOf openedWith
-returns-3 c = λ m x. by-query _ _ _ _ (c .net .ensures m x) (net-asks _ _ (c .before .match .keys3))
+unfolding field told queryAnswer bookIn ledgerOf openedWith
+returns-3 c = λ m x k. by-query _ _ _ _ (c .net .ensures m x k) (net-asks _ _ (c .before .match .keys3))
 
 returns-4 : tie.Need-returns-4
-returns-4 c = let no = c .match .rest in λ m x. by-nothing _ _ (no-head _ _ (c .before .before .before .before .pre .1) (no .0 .0 .1) (no .0 .1) (no .1))
+returns-4 c = let no = c .match .rest in λ m x k. by-nothing _ _ (no-head _ _ (c .before .before .before .before .pre .1) (no .0 .0 .1) (no .0 .1) (no .1))
 
 pub query-answer-spec : {M : Type 1} → statement M
 query-answer-spec =

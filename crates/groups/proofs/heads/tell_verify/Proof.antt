@@ -33,9 +33,12 @@ verify-requires c κs = search needs
 same-length : tie.Need-same-length
 same-length c = search needs
 
+same-length-2 : tie.Need-same-length-2
+same-length-2 c = search needs
+
 returns : tie.Need-returns
 unfolding field
-returns c = by-call _ _ _ _ _ (handed-book _ _ _ _ _ _ _ _ _ (c .before .before .verify .ensures)) (verify-asks _ _ (c .before .before .before .before .before .before .before .before .pre .1))
+returns c = by-call _ _ _ _ _ (handed-book _ _ _ _ _ _ _ _ _ (c .before .before .before .before .verify .ensures)) (verify-asks _ _ (c .before .before .before .before .before .before .before .before .before .before .before .pre .1))
 
 pub tell-verify-spec : {M : Type 1} → statement M
 tell-verify-spec =
@@ -50,4 +53,5 @@ tell-verify-spec =
     array-read-verify-7
     verify-requires
     same-length
+    same-length-2
     returns)

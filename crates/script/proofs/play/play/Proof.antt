@@ -4,30 +4,27 @@ use mathlib.Core.Path.{_≡_, sym, _∙_}
 use native.Mathlib.Omega.{arith}
 use lib.ListN.{length}
 use borrow.Author.Needs.{needs}
-use Rattle.tariff.specs.Evidence.{noEntry}
 use Rattle.ledger.specs.Ledger.{emptyLedger}
-use Rattle.records.proofs.ReachedParts.{figures-sized, marks-sized}
-use Rattle.tiers.proofs.EvidenceLaws.{place-below, place-fits, place-verified}
+use Rattle.slots.proofs.Reachable.{figures-long, posted-long}
 use Rattle.book.specs.Reading.{bookIn, bookOf}
-use Rattle.lines.specs.Rows.{field}
 use Rattle.groups.proofs.ToldLaws.{verify-counts}
 use Rattle.script.proofs.PlayLaws.{PlayedTo, none-played, played-length, played-within, turn-room, head-some, head-within, behind-few, turn-within, turn-writable, played-turn, row-writable, row-turn, played-number, played-bytes}
 use Rattle.script.proofs.play.play.Statement.{statement}
 use Rattle.script.proofs.play.play.Tie as tie
 
 abbrev Inv-loop : tie.InvT-loop
-Inv-loop script from o out₀ start a₀ b₀ c₀ d₀ e₀ f₀ m₀ entries₀ at₀ written₀ out a b c d e f m entries at written =
-    PlayedTo script (bookOf o emptyLedger) from start out₀ out (bookIn o f m entries) at written × (length a ≡ 4096) × (length b ≡ 4096) × (length c ≡ 4096) × (length d ≡ 4096) × (length e ≡ 4096)
+Inv-loop script from o out₀ start a₀ b₀ c₀ d₀ e₀ f₀ m₀ evidence₀ at₀ written₀ out a b c d e f m evidence at written =
+    PlayedTo script (bookOf o emptyLedger) from start out₀ out (bookIn o f m evidence) at written × (length a ≡ 4096) × (length b ≡ 4096) × (length c ≡ 4096) × (length d ≡ 4096) × (length e ≡ 4096)
 
 abbrev μ-loop : tie.MeasureT-loop
-μ-loop script from o out₀ start a₀ b₀ c₀ d₀ e₀ f₀ m₀ entries₀ at₀ written₀ out a b c d e f m entries at written =
+μ-loop script from o out₀ start a₀ b₀ c₀ d₀ e₀ f₀ m₀ evidence₀ at₀ written₀ out a b c d e f m evidence at written =
     length script - at
 
-no-entries-requires : tie.Need-no-entries-requires Inv-loop μ-loop
-no-entries-requires c κs = tt
+no-evidence-requires : tie.Need-no-evidence-requires Inv-loop μ-loop
+no-evidence-requires c κs = tt
 
 loop-holds : tie.Need-loop-holds Inv-loop μ-loop
-loop-holds c = let k = c .before .before .before .before .before .before .before .before .before .pre in (none-played _ _ _ _ _ _ (c .no-entries .ensures) (k .0 .0) (k .0 .1) (k .0 .3) (k .0 .4), k .1, k .2, k .3, k .4, k .5)
+loop-holds c = let k = c .before .before .before .before .before .before .before .before .before .pre in (none-played _ _ _ _ _ _ (c .no-evidence .ensures) (k .0 .0) (k .0 .1) (k .0 .3) (k .0 .4), k .1, k .2, k .3, k .4, k .5)
 
 sub-next-row : tie.Need-sub-next-row Inv-loop μ-loop
 sub-next-row c = c .before .loop .inv .0 .inScript
@@ -52,11 +49,11 @@ add-at c =
 
 slice-aggregate-tell-verify : tie.Need-slice-aggregate-tell-verify Inv-loop μ-loop
 unfolding bookIn
-slice-aggregate-tell-verify c = sym (figures-sized _ _ _ _ (c .before .before .before .before .before .before .before .before .loop .inv .0 .reached))
+slice-aggregate-tell-verify c = sym (figures-long _ _ _ _ (c .before .before .before .before .before .before .before .before .loop .inv .0 .reached))
 
 slice-aggregate-tell-verify-2 : tie.Need-slice-aggregate-tell-verify-2 Inv-loop μ-loop
 unfolding bookIn
-slice-aggregate-tell-verify-2 c = sym (marks-sized _ _ _ _ (c .before .before .before .before .before .before .before .before .before .loop .inv .0 .reached))
+slice-aggregate-tell-verify-2 c = sym (posted-long _ _ _ _ (c .before .before .before .before .before .before .before .before .before .loop .inv .0 .reached))
 
 tell-verify-requires : tie.Need-tell-verify-requires Inv-loop μ-loop
 unfolding bookIn
@@ -65,16 +62,16 @@ tell-verify-requires c κs = (c .before .before .before .before .before .before 
 write-answer-requires : tie.Need-write-answer-requires Inv-loop μ-loop
 unfolding bookIn
 write-answer-requires c κs =
-    let inv = c .before .before .before .before .before .before .before .before .before .before .before .before .before .loop .inv in
-    let some = c .before .before .before .before .before .before .before .before .before .before .before .before .loop-test .taken in
-    let read = c .before .before .before .before .before .before .before .before .before .before .next-row .ensures in
-    (turn-room _ _ _ _ _ _ _ _ _ (inv .0) some, row-writable _ _ _ _ _ _ _ _ _ (inv .0) some _ read (verify-counts _ (c .before .before .before .before .before .before .if1 .taken)) _ _ (c .before .before .before .tell-verify .ensures))
+    let inv = c .before .before .before .before .before .before .before .before .before .before .before .before .before .before .loop .inv in
+    let some = c .before .before .before .before .before .before .before .before .before .before .before .before .before .loop-test .taken in
+    let read = c .before .before .before .before .before .before .before .before .before .before .before .next-row .ensures in
+    (turn-room _ _ _ _ _ _ _ _ _ (inv .0) some, row-writable _ _ _ _ _ _ _ _ _ (inv .0) some _ read (verify-counts _ (c .before .before .before .before .before .before .before .if1 .taken)) _ _ (c .before .before .before .before .tell-verify .ensures))
 
 loop-less : tie.Need-loop-less Inv-loop μ-loop
 loop-less c =
-    let inv = c .before .before .before .before .before .before .before .before .before .before .before .before .before .before .before .before .loop .inv in
-    let some = c .before .before .before .before .before .before .before .before .before .before .before .before .before .before .before .loop-test .taken in
-    let read = c .before .before .before .before .before .before .before .before .before .before .before .before .before .next-row .ensures in
+    let inv = c .before .before .before .before .before .before .before .before .before .before .before .before .before .before .before .before .before .loop .inv in
+    let some = c .before .before .before .before .before .before .before .before .before .before .before .before .before .before .before .before .loop-test .taken in
+    let read = c .before .before .before .before .before .before .before .before .before .before .before .before .before .before .next-row .ensures in
     let within = head-within _ _ _ _ _ _ _ _ _ (inv .0) some _ read in
     let more = head-some _ _ _ _ _ _ _ _ _ (inv .0) some _ read in
     omega arith
@@ -82,64 +79,32 @@ loop-less c =
 loop-again : tie.Need-loop-again Inv-loop μ-loop
 unfolding bookIn
 loop-again c =
-    let inv = c .before .before .before .before .before .before .before .before .before .before .before .before .before .before .before .before .loop .inv in
-    let some = c .before .before .before .before .before .before .before .before .before .before .before .before .before .before .before .loop-test .taken in
-    let read = c .before .before .before .before .before .before .before .before .before .before .before .before .before .next-row .ensures in
+    let inv = c .before .before .before .before .before .before .before .before .before .before .before .before .before .before .before .before .before .loop .inv in
+    let some = c .before .before .before .before .before .before .before .before .before .before .before .before .before .before .before .before .loop-test .taken in
+    let read = c .before .before .before .before .before .before .before .before .before .before .before .before .before .before .next-row .ensures in
     let wrote = c .before .before .write-answer .ensures in
-    (row-turn _ _ _ _ _ _ _ _ _ (inv .0) some _ read (verify-counts _ (c .before .before .before .before .before .before .before .before .before .if1 .taken)) _ _ (c .before .before .before .before .before .before .tell-verify .ensures) _ _ (wrote .0) (wrote .1), inv .1, inv .2, inv .3, inv .4, inv .5)
-
-array-read-evidence-place : tie.Need-array-read-evidence-place Inv-loop μ-loop
-array-read-evidence-place c = search needs
-
-array-read-evidence-place-2 : tie.Need-array-read-evidence-place-2 Inv-loop μ-loop
-array-read-evidence-place-2 c = search needs
-
-evidence-place-requires : tie.Need-evidence-place-requires Inv-loop μ-loop
-evidence-place-requires c κs = tt
-
-mul-owned : tie.Need-mul-owned Inv-loop μ-loop
-mul-owned c = let below = place-below _ _ _ _ (c .evidence-place .ensures) in omega arith
-
-array-copy-out-owned : tie.Need-array-copy-out-owned Inv-loop μ-loop
-array-copy-out-owned c = let below = place-below _ _ _ _ (c .evidence-place .ensures) in omega arith
-
-add-contract : tie.Need-add-contract Inv-loop μ-loop
-add-contract c = let below = place-below _ _ _ _ (c .before .evidence-place .ensures) in omega arith
-
-mul-contract : tie.Need-mul-contract Inv-loop μ-loop
-mul-contract c = let below = place-below _ _ _ _ (c .before .evidence-place .ensures) in omega arith
-
-array-copy-out-contract : tie.Need-array-copy-out-contract Inv-loop μ-loop
-array-copy-out-contract c = place-below _ _ _ _ (c .before .evidence-place .ensures)
-
-slice-aggregate-verified-kw : tie.Need-slice-aggregate-verified-kw Inv-loop μ-loop
-unfolding bookIn
-slice-aggregate-verified-kw c = sym (figures-sized _ _ _ _ (c .before .before .before .before .before .before .before .before .before .before .before .before .loop .inv .0 .reached))
-
-verified-kw-requires : tie.Need-verified-kw-requires Inv-loop μ-loop
-unfolding bookIn noEntry
-verified-kw-requires c κs = place-fits _ _ _ _ (c .before .before .before .before .before .before .before .before .before .before .before .before .loop .inv .0 .reached) _ _ _ (c .before .before .before .evidence-place .ensures)
+    (row-turn _ _ _ _ _ _ _ _ _ (inv .0) some _ read (verify-counts _ (c .before .before .before .before .before .before .before .before .before .before .if1 .taken)) _ _ (c .before .before .before .before .before .before .before .tell-verify .ensures) _ _ (wrote .0) (wrote .1), inv .1, inv .2, inv .3, inv .4, inv .5)
 
 slice-aggregate-tell-head : tie.Need-slice-aggregate-tell-head Inv-loop μ-loop
 unfolding bookIn
-slice-aggregate-tell-head c = sym (figures-sized _ _ _ _ (c .before .before .before .before .before .before .before .before .before .before .before .before .before .before .loop .inv .0 .reached))
+slice-aggregate-tell-head c = sym (figures-long _ _ _ _ (c .before .before .before .before .before .before .before .before .loop .inv .0 .reached))
 
 slice-aggregate-tell-head-2 : tie.Need-slice-aggregate-tell-head-2 Inv-loop μ-loop
 unfolding bookIn
-slice-aggregate-tell-head-2 c = sym (marks-sized _ _ _ _ (c .before .before .before .before .before .before .before .before .before .before .before .before .before .before .before .loop .inv .0 .reached))
+slice-aggregate-tell-head-2 c = sym (posted-long _ _ _ _ (c .before .before .before .before .before .before .before .before .before .loop .inv .0 .reached))
 
 sub-tell-head : tie.Need-sub-tell-head Inv-loop μ-loop
 sub-tell-head c =
-    let inv = c .before .before .before .before .before .before .before .before .before .before .before .before .before .before .before .loop .inv in
-    let some = c .before .before .before .before .before .before .before .before .before .before .before .before .before .before .loop-test .taken in
-    let read = c .before .before .before .before .before .before .before .before .before .before .before .before .next-row .ensures in
+    let inv = c .before .before .before .before .before .before .before .before .before .loop .inv in
+    let some = c .before .before .before .before .before .before .before .before .loop-test .taken in
+    let read = c .before .before .before .before .before .before .next-row .ensures in
     head-within _ _ _ _ _ _ _ _ _ (inv .0) some _ read
 
 part-tell-head-start : tie.Need-part-tell-head-start Inv-loop μ-loop
 part-tell-head-start c =
-    let inv = c .before .before .before .before .before .before .before .before .before .before .before .before .before .before .before .loop .inv in
-    let some = c .before .before .before .before .before .before .before .before .before .before .before .before .before .before .loop-test .taken in
-    let read = c .before .before .before .before .before .before .before .before .before .before .before .before .next-row .ensures in
+    let inv = c .before .before .before .before .before .before .before .before .before .loop .inv in
+    let some = c .before .before .before .before .before .before .before .before .loop-test .taken in
+    let read = c .before .before .before .before .before .before .next-row .ensures in
     let within = head-within _ _ _ _ _ _ _ _ _ (inv .0) some _ read in
     search needs
 
@@ -149,53 +114,53 @@ part-tell-head-end c = search needs
 tell-head-requires : tie.Need-tell-head-requires Inv-loop μ-loop
 unfolding bookIn
 tell-head-requires c κs =
-    let inv = c .before .before .before .before .before .before .before .before .before .before .before .before .before .before .before .before .before .before .before .before .before .loop .inv in
-    let some = c .before .before .before .before .before .before .before .before .before .before .before .before .before .before .before .before .before .before .before .before .loop-test .taken in
-    let read = c .before .before .before .before .before .before .before .before .before .before .before .before .before .before .before .before .before .before .next-row .ensures in
-    ((record { entries = _; reached = inv .0 .reached }, c .before .before .before .before .before .before .before .before .before .before .before .before .before .before .if1 .left), behind-few _ _ _ _ _ _ _ _ _ (inv .0) some _ read, inv .1, inv .2, inv .3, inv .4, inv .5)
+    let inv = c .before .before .before .before .before .before .before .before .before .before .before .before .before .before .before .loop .inv in
+    let some = c .before .before .before .before .before .before .before .before .before .before .before .before .before .before .loop-test .taken in
+    let read = c .before .before .before .before .before .before .before .before .before .before .before .before .next-row .ensures in
+    ((record { evidence = _; reachable = inv .0 .reached }, c .before .before .before .before .before .before .before .before .if1 .left), behind-few _ _ _ _ _ _ _ _ _ (inv .0) some _ read, inv .1, inv .2, inv .3, inv .4, inv .5)
 
 write-answer-requires-2 : tie.Need-write-answer-requires-2 Inv-loop μ-loop
-unfolding bookIn field noEntry
+unfolding bookIn
 write-answer-requires-2 c κs =
-    let inv = c .before .before .before .before .before .before .before .before .before .before .before .before .before .before .before .before .before .before .before .before .before .before .before .before .before .before .before .before .before .before .before .before .before .before .before .loop .inv in
-    let some = c .before .before .before .before .before .before .before .before .before .before .before .before .before .before .before .before .before .before .before .before .before .before .before .before .before .before .before .before .before .before .before .before .before .before .loop-test .taken in
-    let read = c .before .before .before .before .before .before .before .before .before .before .before .before .before .before .before .before .before .before .before .before .before .before .before .before .before .before .before .before .before .before .before .before .next-row .ensures in
+    let inv = c .before .before .before .before .before .before .before .before .before .before .before .before .before .before .before .before .before .before .before .before .before .before .before .before .before .before .before .before .before .loop .inv in
+    let some = c .before .before .before .before .before .before .before .before .before .before .before .before .before .before .before .before .before .before .before .before .before .before .before .before .before .before .before .before .loop-test .taken in
+    let read = c .before .before .before .before .before .before .before .before .before .before .before .before .before .before .before .before .before .before .before .before .before .before .before .before .before .before .next-row .ensures in
     let told = c .before .before .before .before .before .before .before .before .before .before .before .before .before .tell-head .ensures in
-    let answered = told .0 _ (inv .0 .reached) (λ k e. place-verified _ _ _ _ (c .before .before .before .before .before .before .before .before .before .before .before .before .before .before .before .before .before .before .before .before .before .before .before .before .before .before .evidence-place .ensures) _ _ _ _ _ (c .before .before .before .before .before .before .before .before .before .before .before .before .before .before .before .before .before .before .before .before .before .before .verified-kw .ensures)) in
+    let answered = told .0 _ (inv .0 .reached) in
     (turn-room _ _ _ _ _ _ _ _ _ (inv .0) some, turn-writable _ _ _ _ _ _ _ _ _ (inv .0) some _ read _ _ _ answered (told .1))
 
 add-at-2 : tie.Need-add-at-2 Inv-loop μ-loop
-unfolding bookIn field noEntry
+unfolding bookIn
 add-at-2 c =
-    let inv = c .before .before .before .before .before .before .before .before .before .before .before .before .before .before .before .before .before .before .before .before .before .before .before .before .before .before .before .before .before .before .before .before .before .before .before .before .before .before .before .loop .inv in
-    let some = c .before .before .before .before .before .before .before .before .before .before .before .before .before .before .before .before .before .before .before .before .before .before .before .before .before .before .before .before .before .before .before .before .before .before .before .before .before .before .loop-test .taken in
-    let read = c .before .before .before .before .before .before .before .before .before .before .before .before .before .before .before .before .before .before .before .before .before .before .before .before .before .before .before .before .before .before .before .before .before .before .before .before .next-row .ensures in
+    let inv = c .before .before .before .before .before .before .before .before .before .before .before .before .before .before .before .before .before .before .before .before .before .before .before .before .before .before .before .before .before .before .before .before .before .loop .inv in
+    let some = c .before .before .before .before .before .before .before .before .before .before .before .before .before .before .before .before .before .before .before .before .before .before .before .before .before .before .before .before .before .before .before .before .loop-test .taken in
+    let read = c .before .before .before .before .before .before .before .before .before .before .before .before .before .before .before .before .before .before .before .before .before .before .before .before .before .before .before .before .before .before .next-row .ensures in
     let told = c .before .before .before .before .before .before .before .before .before .before .before .before .before .before .before .before .before .tell-head .ensures in
-    let answered = told .0 _ (inv .0 .reached) (λ k e. place-verified _ _ _ _ (c .before .before .before .before .before .before .before .before .before .before .before .before .before .before .before .before .before .before .before .before .before .before .before .before .before .before .before .before .before .before .evidence-place .ensures) _ _ _ _ _ (c .before .before .before .before .before .before .before .before .before .before .before .before .before .before .before .before .before .before .before .before .before .before .before .before .before .before .verified-kw .ensures)) in
+    let answered = told .0 _ (inv .0 .reached) in
     let within = turn-within _ _ _ _ _ _ _ _ _ (inv .0) some _ read _ _ _ answered (told .1) in
-    let short = c .before .before .before .before .before .before .before .before .before .before .before .before .before .before .before .before .before .before .before .before .before .before .before .before .before .before .before .before .before .before .before .before .before .before .before .before .before .before .before .before .before .before .before .before .before .before .before .before .before .pre .0 .2 in
+    let short = c .before .before .before .before .before .before .before .before .before .before .before .before .before .before .before .before .before .before .before .before .before .before .before .before .before .before .before .before .before .before .before .before .before .before .before .before .before .before .before .before .before .before .before .pre .0 .2 in
     omega arith
 
 loop-less-2 : tie.Need-loop-less-2 Inv-loop μ-loop
-unfolding bookIn field noEntry
+unfolding bookIn
 loop-less-2 c =
-    let inv = c .before .before .before .before .before .before .before .before .before .before .before .before .before .before .before .before .before .before .before .before .before .before .before .before .before .before .before .before .before .before .before .before .before .before .before .before .before .before .before .loop .inv in
-    let some = c .before .before .before .before .before .before .before .before .before .before .before .before .before .before .before .before .before .before .before .before .before .before .before .before .before .before .before .before .before .before .before .before .before .before .before .before .before .before .loop-test .taken in
-    let read = c .before .before .before .before .before .before .before .before .before .before .before .before .before .before .before .before .before .before .before .before .before .before .before .before .before .before .before .before .before .before .before .before .before .before .before .before .next-row .ensures in
+    let inv = c .before .before .before .before .before .before .before .before .before .before .before .before .before .before .before .before .before .before .before .before .before .before .before .before .before .before .before .before .before .before .before .before .before .loop .inv in
+    let some = c .before .before .before .before .before .before .before .before .before .before .before .before .before .before .before .before .before .before .before .before .before .before .before .before .before .before .before .before .before .before .before .before .loop-test .taken in
+    let read = c .before .before .before .before .before .before .before .before .before .before .before .before .before .before .before .before .before .before .before .before .before .before .before .before .before .before .before .before .before .before .next-row .ensures in
     let told = c .before .before .before .before .before .before .before .before .before .before .before .before .before .before .before .before .before .tell-head .ensures in
-    let answered = told .0 _ (inv .0 .reached) (λ k e. place-verified _ _ _ _ (c .before .before .before .before .before .before .before .before .before .before .before .before .before .before .before .before .before .before .before .before .before .before .before .before .before .before .before .before .before .before .evidence-place .ensures) _ _ _ _ _ (c .before .before .before .before .before .before .before .before .before .before .before .before .before .before .before .before .before .before .before .before .before .before .before .before .before .before .verified-kw .ensures)) in
+    let answered = told .0 _ (inv .0 .reached) in
     let within = turn-within _ _ _ _ _ _ _ _ _ (inv .0) some _ read _ _ _ answered (told .1) in
     let more = head-some _ _ _ _ _ _ _ _ _ (inv .0) some _ read in
     omega arith
 
 loop-again-2 : tie.Need-loop-again-2 Inv-loop μ-loop
-unfolding bookIn field noEntry
+unfolding bookIn
 loop-again-2 c =
-    let inv = c .before .before .before .before .before .before .before .before .before .before .before .before .before .before .before .before .before .before .before .before .before .before .before .before .before .before .before .before .before .before .before .before .before .before .before .before .before .before .before .loop .inv in
-    let some = c .before .before .before .before .before .before .before .before .before .before .before .before .before .before .before .before .before .before .before .before .before .before .before .before .before .before .before .before .before .before .before .before .before .before .before .before .before .before .loop-test .taken in
-    let read = c .before .before .before .before .before .before .before .before .before .before .before .before .before .before .before .before .before .before .before .before .before .before .before .before .before .before .before .before .before .before .before .before .before .before .before .before .next-row .ensures in
+    let inv = c .before .before .before .before .before .before .before .before .before .before .before .before .before .before .before .before .before .before .before .before .before .before .before .before .before .before .before .before .before .before .before .before .before .loop .inv in
+    let some = c .before .before .before .before .before .before .before .before .before .before .before .before .before .before .before .before .before .before .before .before .before .before .before .before .before .before .before .before .before .before .before .before .loop-test .taken in
+    let read = c .before .before .before .before .before .before .before .before .before .before .before .before .before .before .before .before .before .before .before .before .before .before .before .before .before .before .before .before .before .before .next-row .ensures in
     let told = c .before .before .before .before .before .before .before .before .before .before .before .before .before .before .before .before .before .tell-head .ensures in
-    let answered = told .0 _ (inv .0 .reached) (λ k e. place-verified _ _ _ _ (c .before .before .before .before .before .before .before .before .before .before .before .before .before .before .before .before .before .before .before .before .before .before .before .before .before .before .before .before .before .before .evidence-place .ensures) _ _ _ _ _ (c .before .before .before .before .before .before .before .before .before .before .before .before .before .before .before .before .before .before .before .before .before .before .before .before .before .before .verified-kw .ensures)) in
+    let answered = told .0 _ (inv .0 .reached) in
     let wrote = c .before .before .before .write-answer2 .ensures in
     (played-turn _ _ _ _ _ _ _ _ _ (inv .0) some _ read _ _ _ answered (told .1) _ _ (wrote .0) (wrote .1), told .2, told .3, told .4, told .5, told .6)
 
@@ -229,7 +194,7 @@ play-spec =
     (tie.spec
     Inv-loop
     μ-loop
-    no-entries-requires
+    no-evidence-requires
     loop-holds
     sub-next-row
     part-next-row-start
@@ -242,16 +207,6 @@ play-spec =
     write-answer-requires
     loop-less
     loop-again
-    array-read-evidence-place
-    array-read-evidence-place-2
-    evidence-place-requires
-    mul-owned
-    array-copy-out-owned
-    add-contract
-    mul-contract
-    array-copy-out-contract
-    slice-aggregate-verified-kw
-    verified-kw-requires
     slice-aggregate-tell-head
     slice-aggregate-tell-head-2
     sub-tell-head

@@ -14,7 +14,7 @@ slice-aggregate-award-2 : tie.Need-slice-aggregate-award-2
 slice-aggregate-award-2 c = search needs
 
 award-requires : tie.Need-award-requires
-award-requires c κs = record { marks = _; entries = _; reached = c .before .before .before .before .pre }
+award-requires c κs = record { posted = _; evidence = _; reachable = c .before .before .before .before .pre }
 
 with-figures-requires : tie.Need-with-figures-requires
 with-figures-requires c κs = search needs

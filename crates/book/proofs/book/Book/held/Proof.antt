@@ -1,5 +1,5 @@
 -- `book::Book::held` meets its contract: the answer is that of the arrays that were lent. Assumes nothing.
-use Rattle.records.specs.Handed.{toldBy}
+use Rattle.slots.specs.Steps.{queryAnswer}
 use Rattle.book.specs.Reading.{ledgerOf, openedWith}
 use Rattle.book.specs.Handed.{told}
 use borrow.Author.Needs.{needs}
@@ -13,11 +13,11 @@ slice-aggregate-held-2 : tie.Need-slice-aggregate-held-2
 slice-aggregate-held-2 c = search needs
 
 held-requires : tie.Need-held-requires
-held-requires c κs = record { marks = _; entries = _; reached = c .before .before .before .before .pre }
+held-requires c κs = record { posted = _; evidence = _; reachable = c .before .before .before .before .pre }
 
 returns : tie.Need-returns
-unfolding told toldBy openedWith ledgerOf
-returns c = c .held .ensures _ _
+unfolding told queryAnswer openedWith ledgerOf
+returns c = c .held .ensures _ _ (c .before .before .before .before .before .pre)
 
 pub held-spec : {M : Type 1} → statement M
 held-spec = tie.close (tie.spec slice-aggregate-held slice-aggregate-held-2 held-requires returns)

@@ -1,4 +1,4 @@
--- `book::Book::load` meets its contract: the next book has the figures and the marks that were lent. Assumes nothing.
+-- `book::Book::load` meets its contract: the next book has the figures and the postings that were lent. Assumes nothing.
 use mathlib.Core.Path.{_∙_}
 use Rattle.book.specs.Reading.{bookIn}
 use Rattle.book.specs.Handed.{besidePostings, handedBlocks}
@@ -24,7 +24,7 @@ with-postings-requires c κs = search needs
 
 returns : tie.Need-returns
 unfolding bookIn besidePostings handedBlocks
-returns c = c .with-postings .ensures ∙ handed-if _ _ _ _ _ _ _ _ _ _ (c .before .before .before .load .ensures _ (c .before .before .before .before .before .before .before .before .before .before .before .before .before .pre))
+returns c = c .with-postings .ensures ∙ handed-if _ _ _ _ _ _ _ _ _ _ (c .before .before .before .before .before .before .before .before .before .before .before .before .before .pre) (c .before .before .before .load .ensures _ (c .before .before .before .before .before .before .before .before .before .before .before .before .before .pre))
 
 pub load-spec : {M : Type 1} → statement M
 load-spec =

@@ -21,7 +21,7 @@ with-figures-requires c κs = search needs
 
 returns : tie.Need-returns
 unfolding bookIn besideFigures besidePostings handedLines
-returns c = c .with-figures .ensures ∙ handed-if _ _ _ _ _ _ _ _ _ _ (c .before .before .migrate .ensures _ _ (c .before .before .before .before .before .before .before .before .before .before .before .before .pre))
+returns c = c .with-figures .ensures ∙ handed-if _ _ _ _ _ _ _ _ _ _ (c .before .before .before .before .before .before .before .before .before .before .before .before .pre) (c .before .before .migrate .ensures _ _ (c .before .before .before .before .before .before .before .before .before .before .before .before .pre))
 
 pub migrate-spec : {M : Type 1} → statement M
 migrate-spec =

@@ -56,7 +56,7 @@ use Rattle.book.specs.declared.book.Book.{Book}
 use Rattle.book.specs.declared.book.Answered.{Answered}
 use Rattle.book.specs.declared.class_lines.Columns.{Columns}
 use Rattle.book.specs.Handed.{handed}
-use Rattle.book.specs.Reached.{Reached}
+use Rattle.book.specs.Reachable.{Reachable}
 use Rattle.book.specs.ClassLines.{noLine, noColumns, withLine, columnsTo, handedColumns}
 use Rattle.book.proofs.ClassLineLaws.{columns-none, columns-more, columns-full, columns-handed}
 use Rattle.book.proofs.book.Book as B
@@ -67,17 +67,13 @@ use Rattle.book.proofs.class_lines.Columns as K
 use Rattle.book.proofs.class_lines.Columns.Laws as K′
 use Rattle.book.proofs.class_lines.no_columns as none
 use Rattle.book.proofs.class_lines.no_columns.Symbol as none-def
-use Rattle.book.proofs.class_lines.no_columns.Symbol.{name as #none}
 use Rattle.book.proofs.class_lines.no_columns.Met as none-thm
 use Rattle.book.proofs.class_lines.with_line as more
 use Rattle.book.proofs.class_lines.with_line.Symbol as more-def
-use Rattle.book.proofs.class_lines.with_line.Symbol.{name as #more}
 use Rattle.book.proofs.class_lines.with_line.Met as more-thm
 use Rattle.book.proofs.class_lines.migrate_columns as last
 use Rattle.book.proofs.class_lines.migrate_columns.Symbol as last-def
-use Rattle.book.proofs.class_lines.migrate_columns.Symbol.{name as #last}
 use Rattle.book.proofs.class_lines.migrate_columns.Met as last-thm
-use Rattle.book.proofs.book.Book.migrate_lines.Key.{name as #lines}
 use Rattle.book.proofs.book.Book.migrate_lines as lines
 use Rattle.book.proofs.book.Book.migrate_lines.Statement as stated
 use Rattle.book.proofs.book.Book.migrate_lines.Code as code
@@ -156,7 +152,7 @@ module _ {M : Type 1} (𝓤 : URA M) (H : Heap 𝓤) (A : Atoms 𝓤) (W : Given
     abbrev Turned : State → Out → SProp 𝓤
     Turned s = afterTurn 𝓤 H (Below 𝓤 H A Nearer At s) (afterBlock 𝓤 H (afterSeq 𝓤 H (Wp 𝓤 H C Λ En t-4 (atReturn 𝓤 H En Ends)) (atReturn 𝓤 H En Ends)))
 
-    module _ (reached : Reached book) (ib : Is B.the-row book (u ∷ [])) (gt : term < 2 ^ 64) (gs : sink < 2 ^ 64) (g : Room L.the-row n)
+    module _ (reached : Reachable book) (ib : Is B.the-row book (u ∷ [])) (gt : term < 2 ^ 64) (gs : sink < 2 ^ 64) (g : Room L.the-row n)
         (known-more : Triple 𝓤 (C #more) (More 𝓤 H A mem run)) (known-last : Triple 𝓤 (C #last) (Last 𝓤 H A mem run)) where
       fm : FmC 𝓤 H (W .laws) C
       fm = fmOf 𝓤 H (W .laws) 𝓣
@@ -225,7 +221,7 @@ module _ {M : Type 1} (𝓤 : URA M) (H : Heap 𝓤) (A : Atoms 𝓤) (W : Given
   -- the code up to the loop
   walk : (𝓣 : Tables 𝓤 H) → Is B.the-row book (u ∷ []) → term < 2 ^ 64 → sink < 2 ^ 64 → Room L.the-row n
       → Triple 𝓤 (𝓣 .C #none) (None 𝓤 H A mem run) → Triple 𝓤 (𝓣 .C #more) (More 𝓤 H A mem run) → Triple 𝓤 (𝓣 .C #last) (Last 𝓤 H A mem run)
-      → Reached book → ent 𝓤 (onEntry 𝓤 H A lines.signature (κ, tt) (q, tt) args at) (WpFn 𝓤 H (𝓣 .C) (𝓣 .Λ) code.function (u ∷ vint w64 term ∷ vint w64 sink ∷ sliceVal (b, o) n ∷ []) Ends)
+      → Reachable book → ent 𝓤 (onEntry 𝓤 H A lines.signature (κ, tt) (q, tt) args at) (WpFn 𝓤 H (𝓣 .C) (𝓣 .Λ) code.function (u ∷ vint w64 term ∷ vint w64 sink ∷ sliceVal (b, o) n ∷ []) Ends)
   walk 𝓣 ib gt gs g known-none known-more known-last reached =
       qed W ((‵ (flft κ q) ⊛ ‵ ftrue) ∷ ‵ (owns (B.the-row ∷ u64 ∷ u64 ∷ ShrSlice (named 0) κ L.the-row ∷ []) args at) ∷ []) ∵
       enter ! (𝓣 .C) (𝓣 .Λ) code.function (u ∷ vint w64 term ∷ vint w64 sink ∷ sliceVal (b, o) n ∷ []) _ $
@@ -250,7 +246,7 @@ module _ {M : Type 1} (𝓤 : URA M) (H : Heap 𝓤) (A : Atoms 𝓤) (W : Given
   lines-walks : Walks 𝓤 H A lines.ended stayed (WpFn 𝓤 H (𝓣 .C) (𝓣 .Λ) code.function) (lines.clauses 𝓤 H A mem run)
   lines-walks = walked 𝓤 H A lines.ended stayed (lines.clauses 𝓤 H A mem run) (WpFn 𝓤 H (𝓣 .C) (𝓣 .Λ) code.function)
       (λ κs. (LL.vals B.the-type B′.the-laws, (uint-vals w64, (uint-vals w64, (slice-vals, tt))))) (λ κs. (LL.tells B.the-type B′.the-laws, (uint-tells w64, (uint-tells w64, (shr-slice-tells (named 0) (κs .0) L.the-row, tt)))))
-      (λ κs qs bounds a g are. needs 𝓤 (Reached (a .0)) _
+      (λ κs qs bounds a g are. needs 𝓤 (Reachable (a .0)) _
       (walk 𝓤 H A W mem run (κs .0) (qs .0) (a .0) (LL.val B.the-type B′.the-laws (a .0)) (a .1 .0) (a .1 .1 .0) (a .1 .1 .1 .0 .ptr .0) (a .1 .1 .1 .0 .ptr .1) (a .1 .1 .1 .0 .name) (a .1 .1 .1 .0 .now) 𝓣
       (are .0) (are .1 .0 .1) (are .1 .1 .0 .1) (are .1 .1 .1 .0 .0 .1) known-none known-more known-last))
 

@@ -1,5 +1,5 @@
 -- `book::Book::net` meets its contract: the answer is that of the arrays that were lent. Assumes nothing.
-use Rattle.records.specs.Handed.{toldBy}
+use Rattle.slots.specs.Steps.{queryAnswer}
 use Rattle.book.specs.Reading.{ledgerOf, openedWith}
 use Rattle.book.specs.Handed.{told}
 use borrow.Author.Needs.{needs}
@@ -13,11 +13,11 @@ slice-aggregate-net-2 : tie.Need-slice-aggregate-net-2
 slice-aggregate-net-2 c = search needs
 
 net-requires : tie.Need-net-requires
-net-requires c κs = record { marks = _; entries = _; reached = c .before .before .before .before .pre }
+net-requires c κs = record { posted = _; evidence = _; reachable = c .before .before .before .before .pre }
 
 returns : tie.Need-returns
-unfolding told toldBy openedWith ledgerOf
-returns c = c .net .ensures _ _
+unfolding told queryAnswer openedWith ledgerOf
+returns c = c .net .ensures _ _ (c .before .before .before .before .before .pre)
 
 pub net-spec : {M : Type 1} → statement M
 net-spec = tie.close (tie.spec slice-aggregate-net slice-aggregate-net-2 net-requires returns)

@@ -1,4 +1,4 @@
--- `book::Book::prior` meets its contract: the next book has the figures and the marks that were lent. Assumes nothing.
+-- `book::Book::prior` meets its contract: the next book has the figures and the postings that were lent. Assumes nothing.
 use mathlib.Core.Path.{_∙_}
 use Rattle.book.specs.Reading.{bookIn}
 use Rattle.book.specs.Handed.{besidePostings}

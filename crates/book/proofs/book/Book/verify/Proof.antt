@@ -19,7 +19,7 @@ verify-requires c κs = c .before .before .before .before .before .before .befor
 
 returns : tie.Need-returns
 unfolding bookIn
-returns c = handed-book _ _ _ _ _ _ _ _ _ (c .before .before .verify .ensures)
+returns c = handed-book _ _ _ _ _ _ _ _ _ (c .before .before .before .verify .ensures)
 
 pub verify-spec : {M : Type 1} → statement M
 verify-spec =

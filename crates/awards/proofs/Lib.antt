@@ -1,0 +1,5 @@
+pub mod HoldingLaws
+pub mod RowRoom
+pub mod AwardLaws
+pub mod ClearedGroups
+pub mod OpenCloseLaws

@@ -1,0 +1,27 @@
+-- `awards::holdings::net_refusal` meets its contract: its tests are the causes, in their order. Assumes nothing.
+use Rattle.ledger.specs.Causes.{netCauses, queryCauses, queryRefusal}
+use Rattle.records.proofs.CauseLaws.{link, no-more}
+use borrow.Author.Needs.{needs}
+use Rattle.awards.proofs.holdings.net_refusal.Statement.{statement}
+use Rattle.awards.proofs.holdings.net_refusal.Tie as tie
+
+no-path-requires : tie.Need-no-path-requires
+no-path-requires c κs = search needs
+
+wrong-month-requires : tie.Need-wrong-month-requires
+wrong-month-requires c κs = search needs
+
+refuse-requires : tie.Need-refuse-requires
+refuse-requires c κs = search needs
+
+refuse-requires-2 : tie.Need-refuse-requires-2
+refuse-requires-2 c κs = search needs
+
+returns : tie.Need-returns
+unfolding queryRefusal queryCauses netCauses
+returns c = λ L. link 2 _ _ _ (c .refuse2 .ensures) (c .before .before .before .no-path .ensures) (link 3 _ _ _ (c .before .refuse .ensures) (c .before .before .wrong-month .ensures) no-more)
+
+pub net-refusal-spec : {M : Type 1} → statement M
+net-refusal-spec =
+    tie.close
+    (tie.spec no-path-requires wrong-month-requires refuse-requires refuse-requires-2 returns)

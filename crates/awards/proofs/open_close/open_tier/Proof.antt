@@ -1,0 +1,39 @@
+-- `awards::open_close::open_tier` meets its contract: a refusal leaves the figures, and an accepted call clears the nominations and notes the tier. Assumes nothing.
+use Rattle.slots.proofs.StepLaws.{steps-refused}
+use Rattle.awards.proofs.OpenCloseLaws.{open-steps}
+use borrow.Author.Needs.{needs}
+use Rattle.awards.proofs.open_close.open_tier.Statement.{statement}
+use Rattle.awards.proofs.open_close.open_tier.Tie as tie
+
+open-refusal-requires : tie.Need-open-refusal-requires
+open-refusal-requires c κs = search needs
+
+same-length : tie.Need-same-length
+same-length c = search needs
+
+returns : tie.Need-returns
+returns c = λ o m x r. steps-refused o _ m x _ _ (c .before .open-refusal .ensures _ m x) r (c .if1 .taken)
+
+clear-requires : tie.Need-clear-requires
+clear-requires c κs = search needs
+
+slice-write-f : tie.Need-slice-write-f
+slice-write-f c = search needs
+
+same-length-2 : tie.Need-same-length-2
+same-length-2 c = search needs
+
+returns-2 : tie.Need-returns-2
+returns-2 c = λ o m x r. open-steps o _ _ m x _ r (c .before .before .before .before .if1 .left) (c .before .before .clear .ensures) _ (c .before .before .before .before .before .open-refusal .ensures _ m x)
+
+pub open-tier-spec : {M : Type 1} → statement M
+open-tier-spec =
+    tie.close
+    (tie.spec
+    open-refusal-requires
+    same-length
+    returns
+    clear-requires
+    slice-write-f
+    same-length-2
+    returns-2)

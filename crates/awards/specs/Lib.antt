@@ -1,0 +1,2 @@
+-- What the queries on holdings need of a book's figures.
+pub mod Holdings

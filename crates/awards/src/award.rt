@@ -1,0 +1,75 @@
+// Award: what of a holder's nominations is granted, in each month of the open tier's term (01, Tiers, Award).
+use records::answers::Answer;
+use records::calendar::is_open;
+use records::numbers::ABOVE_NOMINATED;
+use records::numbers::NOT_AT_THIS_TIME;
+use records::numbers::NOT_IN_BOOK;
+use records::numbers::OUT_OF_RANGE;
+use records::refusals::refuse;
+use records::refusals::wrong_kw;
+use records::setup::no_holder;
+use records::setup::no_path;
+use slots::calendar::current_tier;
+use slots::cells::add;
+use slots::cells::read;
+use slots::layout::AWARDED;
+use slots::layout::AWARDS;
+use slots::layout::NOMINATED;
+use slots::months::add_in_term;
+use tariff::terms::term_of;
+ghost use mathlib.Core.Path.{_≡_};
+ghost use mathlib.Core.Bool.{Bool};
+ghost use mathlib.Core.List.{List};
+ghost use Prim.Native.Nat.{_≤_};
+ghost use Rattle.tariff.specs.declared.evidence.Entry.{Entry};
+ghost use Rattle.ledger.specs.Call.{award};
+ghost use Rattle.ledger.specs.Causes.{beyondNominated, refusal};
+ghost use Rattle.slots.specs.Layout.{currentTierIn, ledgerIn};
+ghost use Rattle.slots.specs.Months.{HasRoom};
+ghost use Rattle.slots.specs.Steps.{ReachableFigures, InFigures, FiguresStep};
+
+// Cause 14: with kw more, a holder's awards on a path exceed its nominations in the open tier.
+fn exceeds_nominated(f: &[u64], tier: u64, h: u64, p: u64, kw: u64) -> bool
+    requires { ⌜ (tier ≡ currentTierIn (now f)) × (tier ≤ 9) × HasRoom (now f) h p 12 23 kw ⌝ }
+    ensures { λ r. ⌜ ((m : List Bool) (x : List Entry) → r ≡ beyondNominated (ledgerIn (now (f .entry)) m x) (currentTierIn (now (f .entry))) h p kw) ⌝ }
+{
+    let nominated = read(f, h, p, NOMINATED);
+    let wanted = read(f, h, p, AWARDS + tier) + kw;
+    nominated < wanted
+}
+
+// The first cause that an award meets, 0 for none.
+fn award_refusal(o: &[u64], f: &[u64], h: u64, p: u64, kw: u64) -> u64
+    requires { ⌜ ReachableFigures (now o) (now f) ⌝ }
+    ensures { λ r. ⌜ InFigures (now (o .entry)) (now (f .entry)) (λ O L. r ≡ refusal O L (award h p kw)) ⌝ }
+{
+    let unknown = no_holder(o, h) | no_path(o, p);
+    if unknown {
+        return NOT_IN_BOOK;
+    }
+    if wrong_kw(kw) {
+        return OUT_OF_RANGE;
+    }
+    let tier = current_tier(f);
+    if !is_open(tier) {
+        return NOT_AT_THIS_TIME;
+    }
+    let above = exceeds_nominated(f, tier, h, p, kw);
+    refuse(ABOVE_NOMINATED, above, 0)
+}
+
+// Awards kw to a holder on a path in the open tier.
+pub fn award(o: &[u64], f: &mut [u64], h: u64, p: u64, kw: u64) -> Answer
+    requires { ⌜ ReachableFigures (now o) (now f) ⌝ }
+    ensures { λ r. ⌜ FiguresStep (now (o .entry)) (now (f .entry)) (award h p kw) r (now (f .exit)) ⌝ }
+{
+    let number = award_refusal(o, f, h, p, kw);
+    if number != 0 {
+        return Answer::Refused(number);
+    }
+    let tier = current_tier(f);
+    let term = term_of(tier);
+    add_in_term(f, h, p, AWARDED, term, kw);
+    add(f, h, p, AWARDS + tier, kw);
+    Answer::Done
+}

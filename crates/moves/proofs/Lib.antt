@@ -1,9 +1,0 @@
-pub mod ColumnLaws
-pub mod LineLaws
-pub mod MigrateCauses
-pub mod MigrateHanded
-pub mod MigrateLaws
-pub mod MonthRanges
-pub mod MovedParts
-pub mod ShiftLaws
-pub mod TermTests

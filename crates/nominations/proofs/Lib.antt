@@ -1,0 +1,6 @@
+pub mod PathSumLaws
+pub mod LimitLaws
+pub mod UsageLaws
+pub mod VerifiedLaws
+pub mod NominateCauses
+pub mod NominateLaws

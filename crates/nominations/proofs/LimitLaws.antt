@@ -1,0 +1,145 @@
+-- The slots that a limit reads, what all paths' sums are in the ledger, and what a limit query answers. Assumes nothing.
+use Prim.Native.Nat.{ℕ, _+_, _-_, _≤_, _<_}
+use mathlib.Core.Path.{_≡_, refl, sym, ap, _∙_, subst}
+use mathlib.Core.Bool.{Bool, true, false, cond}
+use mathlib.Core.List.{List}
+use native.Mathlib.Nat.{le-trans, le-of-eq}
+use native.Mathlib.Omega.{arith}
+use lib.ListN.{length}
+use lib.Dec.{leb, eqb}
+use borrow.Author.Tests.{leb-true, leb-false, eqb-false}
+use Rattle.tariff.specs.declared.evidence.Entry.{Entry}
+use Rattle.tariff.specs.declared.limit.Sums.{Sums}
+use Rattle.tariff.specs.declared.limit.TierRule.{TierRule}
+use Rattle.tariff.specs.Limit.{ruleOf}
+use Rattle.tariff.specs.Sum.{countIf, allBelow}
+use Rattle.tariff.specs.Terms.{termTable, termOf, carriedMonth}
+use Rattle.tariff.proofs.Sums.{sum-ext}
+use Rattle.tariff.proofs.Tests.{all-below, or-unmet}
+use Rattle.ledger.specs.Opening as opening
+use Rattle.ledger.specs.Ledger.{Ledger}
+use Rattle.ledger.specs.Ranges.{noHolder, noSink}
+use Rattle.ledger.specs.Limits.{sumAtBase, longTermAt, priorYearAt, awardsAt, limitSums, tierLimit}
+use Rattle.ledger.specs.Call.{limitOf}
+use Rattle.ledger.specs.Causes.{limitCauses, queryCauses, queryRefusal}
+use Rattle.ledger.specs.Season.{figure}
+use Rattle.ledger.proofs.Unmet.{unmet}
+use Rattle.records.specs.declared.answers.Answer.the-variants.{Value}
+use Rattle.records.specs.Opening.{openingIn}
+use Rattle.slots.specs.Cells.{HasCell, readAt}
+use Rattle.slots.specs.Layout.{figureSlots, figureCount, currentTierIn, ledgerIn}
+use Rattle.slots.specs.Sums.{onPath}
+use Rattle.slots.specs.Steps.{Reachable, ReachableFigures, InFigures, queryAnswer}
+use Rattle.slots.proofs.Reachable.{counts, sound, figures-long}
+use Rattle.slots.proofs.Figures.{by-number, from-zero, summable}
+use Rattle.slots.proofs.Places.{base-place}
+use Rattle.slots.proofs.StepLaws.{query-answered}
+use Rattle.nominations.specs.Asked.{LimitAsked}
+use Rattle.nominations.specs.PathSums.{slotTo, sumsTo, PathsSummable}
+
+-- the open tier is none past 9
+pub open-last : (o f : List ℕ) (m : List Bool) (x : List Entry) → Reachable o f m x → (tier : ℕ) → tier ≡ currentTierIn f → tier ≤ 9
+unfolding ledgerIn
+open-last o f m x r tier e = le-trans (le-of-eq e) (sound o f m x r .openLast)
+
+-- a tier's term is a term
+pub term-below : (tier : ℕ) → tier ≤ 9 → termOf tier < 4
+unfolding termOf termTable allBelow
+term-below tier l = let fits = leb-true (termOf tier) 3 (all-below 10 (λ t. leb (termOf t) 3) refl tier (omega arith)) in omega arith
+
+-- and the month whose carried rights count in it a month
+carried-range : (term : ℕ) → term < 4 → (1 ≤ carriedMonth term) × (carriedMonth term ≤ 3)
+unfolding carriedMonth
+carried-range term l = go (eqb term 0) refl
+  where
+    go : (t : Bool) → eqb term 0 ≡ t → (1 ≤ cond t 1 term) × (cond t 1 term ≤ 3)
+    go true e = (omega arith, omega arith)
+    go false e = let some = eqb-false term 0 e in (omega (arith, some), omega arith)
+
+module _ (o f : List ℕ) (tier h base month last : ℕ) (rule : TierRule) (asked : LimitAsked o f tier h base) (ofTier : rule ≡ ruleOf tier) where
+  abbrev O : opening.Opening
+  O = openingIn o
+
+  term-is : rule .term ≡ termOf tier
+  unfolding ruleOf
+  term-is = ap (λ (r : TierRule). r .term) ofTier
+
+  term-fits : rule .term < 4
+  term-fits = let t = term-is in let fits = term-below tier (asked .last) in omega arith
+
+  few : O .holders ≤ 8
+  few = counts o f _ _ (asked .figures .reachable) .0
+
+  -- the cell of the load
+  pub load-cell : HasCell figureSlots h base (0 + rule .term) × (length f ≡ figureCount)
+  load-cell = (record { holder = le-trans (asked .holder) few; place = asked .place; inRow = let t = term-fits in omega arith }, figures-long o f _ _ (asked .figures .reachable))
+
+  -- the month of the carried rights
+  pub month-range : month ≡ carriedMonth (rule .term) → (1 ≤ month) × (month ≤ 3)
+  month-range e = subst (λ n. (1 ≤ n) × (n ≤ 3)) (sym e) (carried-range (rule .term) term-fits)
+
+  -- the figures of all paths can be summed
+  pub all-summable : month ≡ carriedMonth (rule .term) → last ≡ tier - 1 → PathsSummable o f h (6 + (month - 1)) (13 + last)
+  all-summable e l =
+      let months = month-range e in
+      let few = asked .last in
+      record {
+        slots = λ slot i. summable o f _ _ (asked .figures .reachable) h slot (asked .holder) i;
+        carriedInRow = omega arith;
+        beforeInRow = omega arith;
+      }
+
+  module _ (m : List Bool) (x : List Entry) (r : Reachable o f m x) where
+    abbrev L : Ledger
+    L = ledgerIn f m x
+
+    -- a sum over all paths, by the ledger's figure
+    at-base : (slot : ℕ) (v : ℕ → ℕ) → ((p : ℕ) → p < 16 → onPath f h slot p ≡ v p) → slotTo O f h base slot (O .paths) ≡ sumAtBase O base v
+    unfolding slotTo sumAtBase
+    at-base slot v e = sum-ext (O .paths) (λ p l. ap (countIf (opening.endsAt O base p)) (e p (le-trans l (counts o f m x r .3))))
+
+    holder : h < 8
+    holder = le-trans (asked .holder) few
+
+    awards-at : (t : ℕ) → t < 10 → slotTo O f h base (13 + t) (O .paths) ≡ awardsAt O L h base t
+    unfolding awardsAt ledgerIn
+    awards-at t l = at-base (13 + t) _ (λ p k. from-zero f 13 10 h p t holder k l)
+
+    -- the sums over all paths are those of the limit
+    pub limit-sums-are : (load : ℕ) (sums : Sums) → month ≡ carriedMonth (rule .term) → last ≡ tier - 1 → load ≡ readAt figureSlots 0 f h base (0 + rule .term) → sums ≡ sumsTo O f h base load (6 + (month - 1)) (13 + last) (O .paths) → sums ≡ limitSums O L tier h base
+    unfolding sumsTo limitSums longTermAt priorYearAt ledgerIn
+    limit-sums-are load sums ofTerm before ofLoad is =
+        let months = month-range ofTerm in
+        let final = asked .last in
+        is ∙ (λ i.
+        record {
+          load = (ofLoad ∙ from-zero f 0 4 h base (rule .term) holder (asked .place) term-fits ∙ ap (L .loads .kw h base) term-is) i;
+          carried = (at-base (6 + (month - 1)) _ (λ p k. by-number f 6 3 h p month holder k 1 (months .0) (omega arith)) ∙ ap (longTermAt O L h base) (ofTerm ∙ ap carriedMonth term-is)) i;
+          prior = at-base 4 _ (λ p k. from-zero f 4 1 h p 0 holder k (omega arith)) i;
+          tier1 = awards-at 1 (omega arith) i;
+          tier2 = awards-at 2 (omega arith) i;
+          tier3 = awards-at 3 (omega arith) i;
+          before = (awards-at last (omega arith) ∙ ap (awardsAt O L h base) before) i;
+        })
+
+-- a limit query that meets no cause is of a holder and a sink in the book
+query-facts : (o : opening.Opening) (L : Ledger) (h s : ℕ) → queryRefusal o L (limitOf h s) ≡ 0 → (h < o .holders) × (s < o .sinks)
+unfolding queryRefusal queryCauses limitCauses noHolder noSink
+query-facts o L h s e = let known = or-unmet _ _ (unmet 1 _ _ e .0) in (leb-false _ _ (known .0), leb-false _ _ (known .1))
+
+module _ (o f : List ℕ) (h s number tier base : ℕ) (found : InFigures o f (λ O L. number ≡ queryRefusal O L (limitOf h s))) (zero : number ≡ 0) (now : tier ≡ currentTierIn f) (there : base ≡ opening.base (openingIn o) s) where
+  -- its limit can be asked for
+  pub query-asks : ReachableFigures o f → LimitAsked o f tier h base
+  query-asks k =
+      let known = query-facts (openingIn o) (ledgerIn f (k .posted) (k .evidence)) h s (sym (found _ _ (k .reachable)) ∙ zero) in
+      record {
+        figures = k;
+        last = open-last o f _ _ (k .reachable) tier now;
+        holder = known .0;
+        place = subst (λ n. n < 16) (sym there) (base-place o f _ _ (k .reachable) s (known .1));
+      }
+
+  -- and is its answer
+  pub limit-answered : (m : List Bool) (x : List Entry) (v : ℕ) → Reachable o f m x → v ≡ tierLimit (openingIn o) (ledgerIn f m x) tier h base → Value v ≡ queryAnswer (openingIn o) (ledgerIn f m x) (limitOf h s)
+  unfolding figure ledgerIn
+  limit-answered m x v r e = query-answered (openingIn o) (ledgerIn f m x) (limitOf h s) number (found m x r) v zero (e ∙ (λ i. tierLimit (openingIn o) (ledgerIn f m x) (now i) h (there i)))

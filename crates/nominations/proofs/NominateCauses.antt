@@ -1,0 +1,91 @@
+-- The causes of a nomination as code finds them, but for what it has verified. Assumes nothing.
+use Prim.Native.Nat.{ℕ, _+_, _^_, _<_}
+use mathlib.Core.Path.{_≡_, sym, ap, _∙_}
+use mathlib.Core.Bool.{Bool, false, _&&_, _||_}
+use mathlib.Core.List.{List}
+use native.Mathlib.Nat.{le-trans, le-of-eq}
+use native.Mathlib.Omega.{arith}
+use lib.ListN.{length}
+use lib.Dec.{ltb, eqb}
+use borrow.Author.Tests.{leb-false}
+use Rattle.tariff.specs.declared.evidence.Entry.{Entry}
+use Rattle.tariff.specs.Ranges.{wrongKw}
+use Rattle.tariff.specs.Sum.{countIf}
+use Rattle.tariff.proofs.Sums.{sum-ext}
+use Rattle.tariff.proofs.Tests.{or-unmet}
+use Rattle.ledger.specs.Opening.{Opening, pathSink, pathBase, endsAt}
+use Rattle.ledger.specs.Ledger.{Ledger}
+use Rattle.ledger.specs.Ranges.{noHolder, noPath}
+use Rattle.ledger.specs.Limits.{sumAtBase, nominatedAt, tierLimit}
+use Rattle.ledger.specs.Causes.{sinkNotFor, isSubLap, beyondRenewable, beyondLimit}
+use Rattle.ledger.proofs.Unmet.{kw-in-range}
+use Rattle.records.specs.Opening.{openingIn}
+use Rattle.slots.specs.Cells.{HasCell, readAt}
+use Rattle.slots.specs.Layout.{figureSlots, figureCount, currentTierIn, ledgerIn}
+use Rattle.slots.specs.Sums.{onPath}
+use Rattle.slots.specs.Steps.{Reachable, ReachableFigures}
+use Rattle.slots.proofs.Reachable.{counts, figures-long}
+use Rattle.slots.proofs.Figures.{from-zero, figure-fits, summable, room-for-more}
+use Rattle.slots.proofs.PathSums.{base-sum-fits}
+use Rattle.nominations.specs.Asked.{NominationAsked}
+use Rattle.nominations.proofs.UsageLaws.{nominated-now}
+
+-- a nomination that meets neither of the first two causes is in the book and in range
+pub in-book : (o f : List ℕ) (h p kw : ℕ) (no-holder no-path wrong : Bool) → ReachableFigures o f → no-holder ≡ noHolder (openingIn o) h → no-path ≡ noPath (openingIn o) p → (no-holder || no-path) ≡ false → wrong ≡ wrongKw kw → wrong ≡ false → NominationAsked o f h p kw
+unfolding noHolder noPath
+in-book o f h p kw no-holder no-path wrong k a b known c range =
+    let both = or-unmet no-holder no-path known in
+    record {
+      figures = k;
+      holder = leb-false _ _ (sym a ∙ both .0);
+      path = leb-false _ _ (sym b ∙ both .1);
+      high = kw-in-range kw (sym c ∙ range) .1;
+    }
+
+module _ (o f : List ℕ) (m : List Bool) (x : List Entry) (h p : ℕ) where
+  abbrev O : Opening
+  O = openingIn o
+
+  abbrev L : Ledger
+  L = ledgerIn f m x
+
+  -- cause 10
+  pub sink-test : (tier sink : ℕ) (a b : Bool) → tier ≡ currentTierIn f → sink ≡ pathSink O p → a ≡ sinkNotFor O h sink → b ≡ isSubLap O sink → (a || (eqb tier 1 && b)) ≡ (sinkNotFor O h (pathSink O p) || (eqb (L .tiers .openNow) 1 && isSubLap O (pathSink O p)))
+  unfolding ledgerIn
+  sink-test tier sink a b t e u v = λ i. (u ∙ ap (sinkNotFor O h) e) i || (eqb (t i) 1 && (v ∙ ap (isSubLap O) e) i)
+
+  module _ (kw : ℕ) (asked : NominationAsked o f h p kw) (r : Reachable o f m x) where
+    holder : h < 8
+    holder = le-trans (asked .holder) (counts o f m x r .0)
+
+    path : p < 16
+    path = le-trans (asked .path) (counts o f m x r .3)
+
+    -- a figure of the holder on the path, and what has room beside it
+    pub path-cell : (slot : ℕ) → slot < figureSlots → HasCell figureSlots h p slot × (length f ≡ figureCount)
+    path-cell slot l = (record { holder = holder; place = path; inRow = l }, figures-long o f m x r)
+
+    pub path-room : (slot v : ℕ) → slot < figureSlots → v ≡ readAt figureSlots 0 f h p slot → v + kw < 2 ^ 64
+    path-room slot v l e = room-for-more v kw (le-trans (le-of-eq e) (figure-fits o f m x r h p slot (asked .holder) (asked .path) l)) (asked .high)
+
+    -- cause 12
+    pub prior-test : (tier remaining nominated : ℕ) → tier ≡ currentTierIn f → remaining ≡ readAt figureSlots 0 f h p 5 → nominated ≡ readAt figureSlots 0 f h p 12 → (eqb tier 1 && ltb remaining (nominated + kw)) ≡ beyondRenewable L (L .tiers .openNow) h p kw
+    unfolding beyondRenewable ledgerIn
+    prior-test tier remaining nominated t e n = λ i. eqb (t i) 1 && ltb ((e ∙ from-zero f 5 1 h p 0 holder path (omega arith)) i) ((n ∙ nominated-now f m x h p holder path) i + kw)
+
+    -- what the holder nominates at a base
+    nominated-at : (base : ℕ) → sumAtBase O base (onPath f h 12) ≡ nominatedAt O L h base (L .tiers .openNow)
+    unfolding sumAtBase nominatedAt
+    nominated-at base = sum-ext (O .paths) (λ q l. ap (countIf (endsAt O base q)) (nominated-now f m x h q holder (le-trans l (counts o f m x r .3))))
+
+    pub base-room : (base v : ℕ) → v ≡ sumAtBase O base (onPath f h 12) → v + kw < 2 ^ 64
+    base-room base v e =
+        let fits = base-sum-fits o f h 12 base (summable o f m x r h 12 (asked .holder) (omega arith)) in
+        let high = asked .high in
+        omega arith
+
+    -- cause 13
+    pub limit-test : (tier base limit nominated : ℕ) → tier ≡ currentTierIn f → base ≡ pathBase O p → limit ≡ tierLimit O L tier h base → nominated ≡ sumAtBase O base (onPath f h 12) → ltb limit (nominated + kw) ≡ beyondLimit O L (L .tiers .openNow) h p kw
+    unfolding beyondLimit ledgerIn
+    limit-test tier base limit nominated t e l n =
+        λ i. ltb ((l ∙ (λ j. tierLimit O L (t j) h (e j))) i) ((n ∙ nominated-at base ∙ ap (λ b. nominatedAt O L h b (L .tiers .openNow)) e) i + kw)

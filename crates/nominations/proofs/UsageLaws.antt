@@ -1,0 +1,105 @@
+-- What a holder uses of its evidence for a source: sums over the paths and over the tiers before, and their bounds. Assumes nothing.
+use Prim.Native.Nat.{ℕ, _+_, _*_, _≤_, _<_}
+use mathlib.Core.Path.{_≡_, refl, sym, ap, _∙_}
+use mathlib.Core.Bool.{Bool, true, false, not, cond, _&&_, _||_}
+use mathlib.Core.List.{List}
+use native.Mathlib.Nat.{le-trans, le-of-eq, mul-le-mul-right}
+use native.Mathlib.Omega.{arith}
+use lib.Dec.{leb, eqb}
+use borrow.Author.Tests.{eq-eqb, not-true, not-false}
+use Rattle.tariff.specs.declared.evidence.Entry.{Entry}
+use Rattle.tariff.specs.Sum.{countIf, sumTo}
+use Rattle.tariff.specs.Terms.{termOf}
+use Rattle.tariff.proofs.Sums.{count-true, count-false, count-le, sum-ext, sum-bound, sum-part-le}
+use Rattle.ledger.specs.Opening.{Opening, comesFrom}
+use Rattle.ledger.specs.Ledger.{Ledger}
+use Rattle.ledger.specs.Verification.{sumFromSource, drawsOnSame, drawnBefore, drawn}
+use Rattle.records.specs.Opening.{openingIn}
+use Rattle.slots.specs.Cells.{readAt}
+use Rattle.slots.specs.Layout.{figureSlots, figureIn, currentTierIn, ledgerIn}
+use Rattle.slots.specs.Sums.{onPath, maxFigure}
+use Rattle.slots.specs.Steps.{Reachable}
+use Rattle.slots.proofs.Reachable.{counts, sound}
+use Rattle.slots.proofs.Figures.{from-zero, summable}
+use Rattle.slots.proofs.PathSums.{source-sum-fits}
+use Rattle.nominations.specs.Usage.{awardsUsed}
+
+-- the test, as code makes it
+pub same-evidence : (tier n one two : ℕ) → one ≡ termOf n → two ≡ termOf tier → (leb 1 n && (eqb one two || leb n 3)) ≡ drawsOnSame tier n
+unfolding drawsOnSame
+same-evidence tier n one two e f = λ i. leb 1 n && (eqb (e i) (f i) || leb n 3)
+
+-- the open tier's nominations stand by themselves
+pub nominated-now : (f : List ℕ) (m : List Bool) (x : List Entry) (h p : ℕ) → h < 8 → p < 16 → readAt figureSlots 0 f h p 12 ≡ ledgerIn f m x .tiers .nominated h p (ledgerIn f m x .tiers .openNow)
+unfolding ledgerIn
+nominated-now f m x h p a b =
+    from-zero f 12 1 h p 0 a b (omega arith)
+    ∙ sym (ap (λ t. cond t (figureIn f 12 1 0 h p 0) (figureIn f 13 10 0 h p (currentTierIn f))) (eq-eqb (currentTierIn f) (currentTierIn f) refl))
+
+module _ (o f : List ℕ) (m : List Bool) (x : List Entry) (r : Reachable o f m x) (h s : ℕ) (l : h < openingIn o .holders) where
+  abbrev O : Opening
+  O = openingIn o
+
+  abbrev L : Ledger
+  L = ledgerIn f m x
+
+  holder : h < 8
+  holder = le-trans l (counts o f m x r .0)
+
+  -- a sum from the source, by the ledger's figure
+  from-source : (slot : ℕ) (v : ℕ → ℕ) → ((p : ℕ) → p < 16 → onPath f h slot p ≡ v p) → sumFromSource O s (onPath f h slot) ≡ sumFromSource O s v
+  unfolding sumFromSource
+  from-source slot v e = sum-ext (O .paths) (λ p k. ap (countIf (comesFrom O s p)) (e p (le-trans k (counts o f m x r .3))))
+
+  awards-from : (n : ℕ) → n ≤ 9 → sumFromSource O s (onPath f h (13 + n)) ≡ sumFromSource O s (λ p. L .tiers .awards h p n)
+  unfolding ledgerIn
+  awards-from n k = from-source (13 + n) _ (λ p i. from-zero f 13 10 h p n holder i (omega arith))
+
+  pub nominated-from : sumFromSource O s (onPath f h 12) ≡ sumFromSource O s (λ p. L .tiers .nominated h p (L .tiers .openNow))
+  nominated-from = from-source 12 _ (λ p i. nominated-now f m x h p holder i)
+
+  source-fits : (slot : ℕ) → slot < figureSlots → sumFromSource O s (onPath f h slot) ≤ 16 * maxFigure
+  source-fits slot k = source-sum-fits o f h slot s (summable o f m x r h slot l k)
+
+  pub nominated-fits : sumFromSource O s (onPath f h 12) ≤ 16 * maxFigure
+  nominated-fits = source-fits 12 (omega arith)
+
+  module _ (tier : ℕ) where
+    -- the awards of an earlier tier: left out, or summed
+    pub awards-left-out : (n : ℕ) (same : Bool) → same ≡ drawsOnSame tier n → not same ≡ true → 0 ≡ awardsUsed O L tier h s n
+    unfolding awardsUsed
+    awards-left-out n same e none = sym (count-false _ (sym e ∙ not-true same none))
+
+    pub awards-summed : (n sum : ℕ) (same : Bool) → n ≤ 9 → same ≡ drawsOnSame tier n → not same ≡ false → sum ≡ sumFromSource O s (onPath f h (13 + n)) → sum ≡ awardsUsed O L tier h s n
+    unfolding awardsUsed
+    awards-summed n sum same k e some is = is ∙ awards-from n k ∙ sym (count-true _ (sym e ∙ not-false same some))
+
+    awards-fit : (n : ℕ) → n ≤ 9 → awardsUsed O L tier h s n ≤ 16 * maxFigure
+    unfolding awardsUsed
+    awards-fit n k = le-trans (count-le (drawsOnSame tier n) _) (le-trans (le-of-eq (sym (awards-from n k))) (source-fits (13 + n) (omega arith)))
+
+    -- those of all earlier tiers
+    pub before-fits : tier ≤ 9 → drawnBefore O L tier h s ≤ 9 * (16 * maxFigure)
+    unfolding drawnBefore awardsUsed
+    before-fits k = le-trans (sum-bound {f = awardsUsed O L tier h s} (16 * maxFigure) tier (λ n i. awards-fit n (omega arith))) (mul-le-mul-right (16 * maxFigure) k)
+
+    pub before-room : tier ≤ 9 → (n sum v : ℕ) → n < tier → sum ≡ sumTo n (awardsUsed O L tier h s) → v ≡ awardsUsed O L tier h s n → sum + v ≤ 9 * (16 * maxFigure)
+    unfolding drawnBefore awardsUsed
+    before-room k n sum v i e g =
+        let part = sum-part-le (awardsUsed O L tier h s) tier n i in
+        let whole = before-fits k in
+        omega arith
+
+  -- all that the holder uses in the open tier
+  pub usage-fits : drawn O L (L .tiers .openNow) h s ≤ 10 * (16 * maxFigure)
+  unfolding drawn
+  usage-fits =
+      let one = nominated-fits in
+      let is = nominated-from in
+      let two = before-fits (L .tiers .openNow) (sound o f m x r .openLast) in
+      omega arith
+
+  -- as code adds it up
+  pub usage-is : (tier sum before : ℕ) → tier ≡ currentTierIn f → sum ≡ sumFromSource O s (onPath f h 12) → before ≡ drawnBefore O L tier h s → sum + before ≡ drawn O L (L .tiers .openNow) h s
+  unfolding drawn ledgerIn
+  usage-is tier sum before now e g = λ i. (e ∙ nominated-from) i + (g ∙ ap (λ t. drawnBefore O L t h s) now) i

@@ -1,0 +1,82 @@
+-- What a holder has verified of a source, read in two slots, and cause 11 as code finds it. Assumes nothing.
+use Prim.Native.Nat.{ℕ, _+_, _-_, _≤_, _<_}
+use mathlib.Core.Path.{_≡_, sym, ap, _∙_}
+use mathlib.Core.Bool.{Bool, true, false, _&&_}
+use mathlib.Core.List.{List}
+use mathlib.Core.Logic.{_⊎_, inl, inr}
+use native.Mathlib.Nat.{le-trans, le-of-eq}
+use native.Mathlib.Omega.{arith}
+use lib.ListN.{length}
+use lib.Dec.{ltb}
+use borrow.Author.Tests.{eq-eqb, ne-eqb, ltb-true, ltb-false}
+use Rattle.tariff.specs.declared.evidence.Entry.{Entry}
+use Rattle.tariff.specs.Evidence.{entryKw}
+use Rattle.tariff.specs.Ranges.{mostKw}
+use Rattle.tariff.specs.Terms.{termOf}
+use Rattle.tariff.proofs.Tests.{decided, and-left-false}
+use Rattle.ledger.specs.Opening.{Opening, holderKind, pathSource}
+use Rattle.ledger.specs.Ledger.{Ledger}
+use Rattle.ledger.specs.Causes.{beyondVerified}
+use Rattle.ledger.specs.Verification.{verifiedKw, drawn}
+use Rattle.records.specs.Opening.{openingIn}
+use Rattle.slots.specs.Cells.{HasCell, readAt}
+use Rattle.slots.specs.Layout.{figureSlots, figureCount, currentTierIn, ledgerIn}
+use Rattle.slots.specs.Steps.{Reachable}
+use Rattle.slots.proofs.Reachable.{counts, figures-long}
+use Rattle.slots.proofs.Figures.{ownership-read, contract-read, evidence-fits}
+use Rattle.nominations.proofs.LimitLaws.{open-last, term-below}
+
+module _ (o f : List ℕ) (m : List Bool) (x : List Entry) (r : Reachable o f m x) where
+  abbrev L : Ledger
+  L = ledgerIn f m x
+
+  -- the open tier's term
+  pub term-fits : (tier term : ℕ) → tier ≡ currentTierIn f → term ≡ termOf tier → term < 4
+  term-fits tier term now ofTier = let fits = term-below tier (open-last o f m x r tier now) in omega arith
+
+  module _ (h s : ℕ) (l : h < openingIn o .holders) (place : s < 16) where
+    holder : h < 8
+    holder = le-trans l (counts o f m x r .0)
+
+    pub source-cell : (slot : ℕ) → slot < figureSlots → HasCell figureSlots h s slot × (length f ≡ figureCount)
+    source-cell slot k = (record { holder = holder; place = place; inRow = k }, figures-long o f m x r)
+
+    -- the four slots of ownership and behind them those of the contract, by term
+    owned-is : (term : ℕ) → term < 4 → readAt figureSlots 0 f h s (23 + term) ≡ entryKw term (L .papers .entry h s 1)
+    owned-is term k = ownership-read o f m x r h s term holder place k
+
+    contracted-is : (term : ℕ) → term < 4 → readAt figureSlots 0 f h s (23 + term + 4) ≡ entryKw term (L .papers .entry h s 2)
+    contracted-is term k = ap (readAt figureSlots 0 f h s) (let e : 23 + term + 4 ≡ 27 + term = omega arith in e) ∙ contract-read o f m x r h s term holder place k
+
+    pub verified-fits : (slot v : ℕ) → 23 ≤ slot → slot < 31 → v ≡ readAt figureSlots 0 f h s slot → v ≤ mostKw
+    verified-fits slot v above below e = le-trans (le-of-eq e) (go (decided (ltb slot 27)))
+      where
+        go : (ltb slot 27 ≡ true) ⊎ (ltb slot 27 ≡ false) → readAt figureSlots 0 f h s slot ≤ mostKw
+        go (inl t) =
+            let k = ltb-true slot 27 t in
+            let at : slot ≡ 23 + (slot - 23) = omega arith in
+            le-trans (le-of-eq (ap (readAt figureSlots 0 f h s) at ∙ owned-is (slot - 23) (omega arith))) (evidence-fits o f m x r h s 1 (slot - 23))
+        go (inr t) =
+            let k = ltb-false slot 27 t in
+            let at : slot ≡ 23 + (slot - 27) + 4 = omega arith in
+            le-trans (le-of-eq (ap (readAt figureSlots 0 f h s) at ∙ contracted-is (slot - 27) (omega arith))) (evidence-fits o f m x r h s 2 (slot - 27))
+
+    -- what stands in the two slots of the open tier's term is the verified kW
+    pub verified-is : (tier term a b : ℕ) → tier ≡ currentTierIn f → term ≡ termOf tier → a ≡ readAt figureSlots 0 f h s (23 + term) → b ≡ readAt figureSlots 0 f h s (23 + term + 4) → a + b ≡ verifiedKw L h s (termOf (L .tiers .openNow))
+    unfolding verifiedKw ledgerIn
+    verified-is tier term a b now ofTier owned contracted =
+        let k = term-fits tier term now ofTier in
+        (λ i. (owned ∙ owned-is term k) i + (contracted ∙ contracted-is term k) i) ∙ ap (verifiedKw L h s) (ofTier ∙ ap termOf now)
+
+module _ (O : Opening) (L : Ledger) (tier h p kw kind : ℕ) (is : kind ≡ holderKind O h) where
+  -- cause 11 is of an outside entity ..
+  pub not-outside : (kind ≡ 2 → ⊥) → false ≡ beyondVerified O L tier h p kw
+  unfolding beyondVerified
+  not-outside ne = sym (and-left-false _ (ne-eqb (holderKind O h) 2 (λ q. ne (is ∙ q))))
+
+  -- .. that with kw more uses more than it has verified
+  pub verified-test : (source verified used : ℕ) → kind ≡ 2 → source ≡ pathSource O p → verified ≡ verifiedKw L h source (termOf tier) → used ≡ drawn O L tier h source → ltb verified (used + kw) ≡ beyondVerified O L tier h p kw
+  unfolding beyondVerified
+  verified-test source verified used outside s v u =
+      (λ i. ltb ((v ∙ ap (λ z. verifiedKw L h z (termOf tier)) s) i) ((u ∙ ap (drawn O L tier h) s) i + kw))
+      ∙ sym (ap (λ t. t && ltb (verifiedKw L h (pathSource O p) (termOf tier)) (drawn O L tier h (pathSource O p) + kw)) (eq-eqb (holderKind O h) 2 (sym is ∙ outside)))

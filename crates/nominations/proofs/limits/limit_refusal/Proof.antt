@@ -1,0 +1,47 @@
+-- `nominations::limits::limit_refusal` meets its contract: its tests are the causes, in their order. Assumes nothing.
+use mathlib.Core.Bool.{not, _||_}
+use mathlib.Core.Path.{ap, ap₂}
+use Rattle.ledger.specs.Calendar.{tierIsOpen}
+use Rattle.ledger.specs.Causes.{limitCauses, queryCauses, queryRefusal}
+use Rattle.records.proofs.CauseLaws.{link, no-more}
+use Rattle.slots.specs.Layout.{ledgerIn}
+use Rattle.slots.proofs.CalendarLaws.{open-test}
+use borrow.Author.Needs.{needs}
+use Rattle.nominations.proofs.limits.limit_refusal.Statement.{statement}
+use Rattle.nominations.proofs.limits.limit_refusal.Tie as tie
+
+no-holder-requires : tie.Need-no-holder-requires
+no-holder-requires c κs = search needs
+
+no-sink-requires : tie.Need-no-sink-requires
+no-sink-requires c κs = search needs
+
+current-tier-requires : tie.Need-current-tier-requires
+current-tier-requires c κs = search needs
+
+is-open-requires : tie.Need-is-open-requires
+is-open-requires c κs = search needs
+
+refuse-requires : tie.Need-refuse-requires
+refuse-requires c κs = search needs
+
+refuse-requires-2 : tie.Need-refuse-requires-2
+refuse-requires-2 c κs = search needs
+
+returns : tie.Need-returns
+unfolding queryRefusal queryCauses limitCauses tierIsOpen ledgerIn
+returns c m x r =
+    link 2 _ _ _ (c .refuse2 .ensures) (ap₂ (λ a b. a || b) (c .before .before .before .before .before .no-holder .ensures) (c .before .before .before .before .no-sink .ensures))
+    (link 4 _ _ _ (c .before .refuse .ensures) (ap not (open-test _ _ _ (c .before .before .is-open .ensures) (c .before .before .before .current-tier .ensures))) no-more)
+
+pub limit-refusal-spec : {M : Type 1} → statement M
+limit-refusal-spec =
+    tie.close
+    (tie.spec
+    no-holder-requires
+    no-sink-requires
+    current-tier-requires
+    is-open-requires
+    refuse-requires
+    refuse-requires-2
+    returns)

@@ -1,0 +1,51 @@
+-- `nominations::limits::limit_sums` meets its contract: the slots are those of the tier, and the sums over all paths are the limit's. Assumes nothing.
+use native.Mathlib.Omega.{arith}
+use Rattle.nominations.proofs.LimitLaws.{load-cell, month-range, all-summable, limit-sums-are}
+use borrow.Author.Needs.{needs}
+use Rattle.nominations.proofs.limits.limit_sums.Statement.{statement}
+use Rattle.nominations.proofs.limits.limit_sums.Tie as tie
+
+tier-rule-requires : tie.Need-tier-rule-requires
+tier-rule-requires c κs = search needs
+
+carried-month-requires : tie.Need-carried-month-requires
+carried-month-requires c κs = search needs
+
+less-requires : tie.Need-less-requires
+less-requires c κs = search needs
+
+add-read : tie.Need-add-read
+add-read c = search needs
+
+read-requires : tie.Need-read-requires
+read-requires c κs = load-cell _ _ _ _ _ 0 0 _ (c .before .before .before .before .before .pre) (c .before .before .tier-rule .ensures)
+
+sub-sum-paths : tie.Need-sub-sum-paths
+sub-sum-paths c = month-range _ _ _ _ _ _ 0 _ (c .before .before .before .before .before .before .pre) (c .before .before .before .tier-rule .ensures) (c .before .before .carried-month .ensures) .0
+
+add-sum-paths : tie.Need-add-sum-paths
+add-sum-paths c = let months = month-range _ _ _ _ _ _ 0 _ (c .before .before .before .before .before .before .pre) (c .before .before .before .tier-rule .ensures) (c .before .before .carried-month .ensures) in omega arith
+
+add-sum-paths-2 : tie.Need-add-sum-paths-2
+add-sum-paths-2 c = search needs
+
+sum-paths-requires : tie.Need-sum-paths-requires
+sum-paths-requires c κs = all-summable _ _ _ _ _ _ _ _ (c .before .before .before .before .before .before .pre) (c .before .before .before .tier-rule .ensures) (c .before .before .carried-month .ensures) (c .before .less .ensures)
+
+returns : tie.Need-returns
+returns c m x r = limit-sums-are _ _ _ _ _ _ _ _ (c .before .before .before .before .before .before .before .pre) (c .before .before .before .before .tier-rule .ensures) m x r _ _ (c .before .before .before .carried-month .ensures) (c .before .before .less .ensures) (c .before .read .ensures) (c .sum-paths .ensures)
+
+pub limit-sums-spec : {M : Type 1} → statement M
+limit-sums-spec =
+    tie.close
+    (tie.spec
+    tier-rule-requires
+    carried-month-requires
+    less-requires
+    add-read
+    read-requires
+    sub-sum-paths
+    add-sum-paths
+    add-sum-paths-2
+    sum-paths-requires
+    returns)

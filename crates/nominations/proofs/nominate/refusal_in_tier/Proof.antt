@@ -1,0 +1,62 @@
+-- `nominations::nominate::refusal_in_tier` meets its contract: its tests are causes 10 to 13, in their order. Assumes nothing.
+use mathlib.Core.Path.{sym, _∙_}
+use Rattle.ledger.specs.Causes.{nominateCauses}
+use Rattle.records.proofs.CauseLaws.{link, no-more}
+use Rattle.records.proofs.MetCauses.{met-first, unmet-first}
+use borrow.Author.Needs.{needs}
+use Rattle.nominations.proofs.nominate.refusal_in_tier.Statement.{statement}
+use Rattle.nominations.proofs.nominate.refusal_in_tier.Tie as tie
+
+sink-ineligible-requires : tie.Need-sink-ineligible-requires
+sink-ineligible-requires c κs = search needs
+
+returns : tie.Need-returns
+unfolding nominateCauses
+returns c m x r = met-first 10 _ _ (sym (c .before .sink-ineligible .ensures m x r) ∙ c .if1 .taken)
+
+exceeds-verified-requires : tie.Need-exceeds-verified-requires
+exceeds-verified-requires c κs = search needs
+
+returns-2 : tie.Need-returns-2
+unfolding nominateCauses
+returns-2 c m x r =
+    unmet-first 10 _ _ (sym (c .before .before .before .sink-ineligible .ensures m x r) ∙ c .before .before .if1 .left)
+    (met-first 11 _ _ (sym (c .before .exceeds-verified .ensures m x r) ∙ c .if2 .taken))
+
+exceeds-prior-requires : tie.Need-exceeds-prior-requires
+exceeds-prior-requires c κs = search needs
+
+returns-3 : tie.Need-returns-3
+unfolding nominateCauses
+returns-3 c m x r =
+    unmet-first 10 _ _ (sym (c .before .before .before .before .before .sink-ineligible .ensures m x r) ∙ c .before .before .before .before .if1 .left)
+    (unmet-first 11 _ _ (sym (c .before .before .before .exceeds-verified .ensures m x r) ∙ c .before .before .if2 .left)
+    (met-first 12 _ _ (sym (c .before .exceeds-prior .ensures m x r) ∙ c .if3 .taken)))
+
+exceeds-limit-requires : tie.Need-exceeds-limit-requires
+exceeds-limit-requires c κs = search needs
+
+refuse-requires : tie.Need-refuse-requires
+refuse-requires c κs = search needs
+
+returns-4 : tie.Need-returns-4
+unfolding nominateCauses
+returns-4 c m x r =
+    unmet-first 10 _ _ (sym (c .before .before .before .before .before .before .before .sink-ineligible .ensures m x r) ∙ c .before .before .before .before .before .before .if1 .left)
+    (unmet-first 11 _ _ (sym (c .before .before .before .before .before .exceeds-verified .ensures m x r) ∙ c .before .before .before .before .if2 .left)
+    (unmet-first 12 _ _ (sym (c .before .before .before .exceeds-prior .ensures m x r) ∙ c .before .before .if3 .left)
+    (link 13 _ _ _ (c .refuse .ensures) (c .before .exceeds-limit .ensures m x r) no-more)))
+
+pub refusal-in-tier-spec : {M : Type 1} → statement M
+refusal-in-tier-spec =
+    tie.close
+    (tie.spec
+    sink-ineligible-requires
+    returns
+    exceeds-verified-requires
+    returns-2
+    exceeds-prior-requires
+    returns-3
+    exceeds-limit-requires
+    refuse-requires
+    returns-4)

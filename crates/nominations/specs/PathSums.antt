@@ -1,0 +1,70 @@
+-- The sums of a limit, added up path by path (01, Limits).
+use Prim.Native.Nat.{ℕ, _+_, _*_, _≤_, _<_}
+use mathlib.Core.Path.{_≡_}
+use mathlib.Core.Bool.{Bool}
+use mathlib.Core.List.{List}
+use lib.ListN.{length}
+use Rattle.tariff.specs.declared.limit.Sums.{Sums}
+use Rattle.tariff.specs.Sum.{countIf, sumTo}
+use Rattle.ledger.specs.Opening.{Opening, endsAt}
+use Rattle.slots.specs.Cells.{maxHolders, maxPlaces}
+use Rattle.slots.specs.Layout.{figureSlots, figureCount}
+use Rattle.slots.specs.Sums.{onPath, maxFigure, Summable}
+
+-- Slot 4 has last year's allocation, and slots 14 to 16 the awards of tiers 1 to 3. Two more depend on the tier: that of the carried holding, by its
+-- month, and that of the awards of the tier before.
+
+-- the sums with the figures of one path more, where it counts
+unfoldable pub withPath : List ℕ → (h p carried before : ℕ) → Bool → Sums → Sums
+withPath f h p carried before counts s =
+    record {
+      load = s .load;
+      carried = s .carried + countIf counts (onPath f h carried p);
+      prior = s .prior + countIf counts (onPath f h 4 p);
+      tier1 = s .tier1 + countIf counts (onPath f h 14 p);
+      tier2 = s .tier2 + countIf counts (onPath f h 15 p);
+      tier3 = s .tier3 + countIf counts (onPath f h 16 p);
+      before = s .before + countIf counts (onPath f h before p);
+    }
+
+-- what a holder has in a slot on the first n paths, of those whose sink has this base
+unfoldable pub slotTo : Opening → List ℕ → (h base slot n : ℕ) → ℕ
+slotTo O f h base slot n = sumTo n (λ p. countIf (endsAt O base p) (onPath f h slot p))
+
+-- the sums after n paths
+unfoldable pub sumsTo : Opening → List ℕ → (h base load carried before n : ℕ) → Sums
+sumsTo O f h base load carried before n =
+    record {
+      load = load;
+      carried = slotTo O f h base carried n;
+      prior = slotTo O f h base 4 n;
+      tier1 = slotTo O f h base 14 n;
+      tier2 = slotTo O f h base 15 n;
+      tier3 = slotTo O f h base 16 n;
+      before = slotTo O f h base before n;
+    }
+
+-- the figures of all paths can be summed, and the two slots are there
+pub record PathsSummable (o f : List ℕ) (h carried before : ℕ) : Type 0 where
+  pub slots : (slot : ℕ) → slot < figureSlots → Summable o f h slot
+  pub carriedInRow : carried < figureSlots
+  pub beforeInRow : before < figureSlots
+
+-- no sum is above what 16 paths can come to
+pub record SumsFit (s : Sums) : Type 0 where
+  pub carried : s .carried ≤ 16 * maxFigure
+  pub prior : s .prior ≤ 16 * maxFigure
+  pub tier1 : s .tier1 ≤ 16 * maxFigure
+  pub tier2 : s .tier2 ≤ 16 * maxFigure
+  pub tier3 : s .tier3 ≤ 16 * maxFigure
+  pub before : s .before ≤ 16 * maxFigure
+
+-- a path's figures are there and small, and so are the sums that they are added to
+pub record PathFits (f : List ℕ) (h p carried before : ℕ) (s : Sums) : Type 0 where
+  pub long : length f ≡ figureCount
+  pub holder : h < maxHolders
+  pub place : p < maxPlaces
+  pub carriedInRow : carried < figureSlots
+  pub beforeInRow : before < figureSlots
+  pub each : (slot : ℕ) → slot < figureSlots → onPath f h slot p ≤ maxFigure
+  pub sums : SumsFit s

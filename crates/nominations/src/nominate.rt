@@ -1,0 +1,133 @@
+// Nominate: what a holder asks for in the open tier (01, Tiers, Nominate).
+use crate::limits::tier_limit;
+use crate::source_usage::source_usage;
+use crate::source_usage::verified_kw;
+use records::answers::Answer;
+use records::calendar::is_open;
+use records::numbers::ABOVE_LIMIT;
+use records::numbers::ABOVE_PRIOR;
+use records::numbers::ABOVE_VERIFIED;
+use records::numbers::NOT_AT_THIS_TIME;
+use records::numbers::NOT_IN_BOOK;
+use records::numbers::OUT_OF_RANGE;
+use records::numbers::SINK_INELIGIBLE;
+use records::refusals::refuse;
+use records::refusals::wrong_kw;
+use records::setup::holder_kind;
+use records::setup::is_sub_lap;
+use records::setup::no_holder;
+use records::setup::no_path;
+use records::setup::path_base;
+use records::setup::path_sink;
+use records::setup::path_source;
+use records::setup::sink_not_for;
+use slots::calendar::current_tier;
+use slots::cells::add;
+use slots::cells::read;
+use slots::layout::NOMINATED;
+use slots::layout::PRIOR_REMAINING;
+use slots::sums::sum_at_base;
+ghost use mathlib.Core.Path.{_≡_};
+ghost use mathlib.Core.Bool.{_||_, _&&_};
+ghost use lib.ListN.{drop};
+ghost use lib.Dec.{eqb};
+ghost use Rattle.ledger.specs.Opening.{pathSink};
+ghost use Rattle.ledger.specs.Call.{nominate};
+ghost use Rattle.ledger.specs.Numbers.{firstMet};
+ghost use Rattle.ledger.specs.Causes.{sinkNotFor, isSubLap, beyondVerified, beyondRenewable, beyondLimit, nominateCauses, refusal};
+ghost use Rattle.slots.specs.Steps.{ReachableFigures, InFigures, FiguresStep};
+ghost use Rattle.nominations.specs.Asked.{NominationAsked};
+
+// Cause 10: the path's sink is not for the holder, or is a Sub-LAP in tier 1.
+fn sink_ineligible(o: &[u64], f: &[u64], h: u64, p: u64) -> bool
+    ensures { λ r. ⌜ InFigures (now (o .entry)) (now (f .entry)) (λ O L. r ≡ (sinkNotFor O h (pathSink O p) || (eqb (L .tiers .openNow) 1 && isSubLap O (pathSink O p)))) ⌝ }
+{
+    let sink = path_sink(o, p);
+    let sub_lap = (current_tier(f) == 1) & is_sub_lap(o, sink);
+    sink_not_for(o, h, sink) | sub_lap
+}
+
+// Cause 11: with kw more, an outside entity uses more of the path's source than it has verified.
+fn exceeds_verified(o: &[u64], f: &[u64], h: u64, p: u64, kw: u64) -> bool
+    requires { ⌜ NominationAsked (now o) (now f) h p kw ⌝ }
+    ensures { λ r. ⌜ InFigures (now (o .entry)) (now (f .entry)) (λ O L. r ≡ beyondVerified O L (L .tiers .openNow) h p kw) ⌝ }
+{
+    let kind = holder_kind(o, h);
+    if kind != 2 {
+        return false;
+    }
+    let source = path_source(o, p);
+    let verified = verified_kw(o, f, h, source);
+    let wanted = source_usage(o, f, h, source) + kw;
+    verified < wanted
+}
+
+// Cause 12: with kw more, a holder's tier 1 nominations on a path exceed what is left of last year's allocation.
+fn exceeds_prior(o: &[u64], f: &[u64], h: u64, p: u64, kw: u64) -> bool
+    requires { ⌜ NominationAsked (now o) (now f) h p kw ⌝ }
+    ensures { λ r. ⌜ InFigures (now (o .entry)) (now (f .entry)) (λ O L. r ≡ beyondRenewable L (L .tiers .openNow) h p kw) ⌝ }
+{
+    let remaining = read(f, h, p, PRIOR_REMAINING);
+    let wanted = read(f, h, p, NOMINATED) + kw;
+    (current_tier(f) == 1) & (remaining < wanted)
+}
+
+// Cause 13: with kw more, a holder's nominations at the path's base exceed the limit.
+fn exceeds_limit(o: &[u64], f: &[u64], h: u64, p: u64, kw: u64) -> bool
+    requires { ⌜ NominationAsked (now o) (now f) h p kw ⌝ }
+    ensures { λ r. ⌜ InFigures (now (o .entry)) (now (f .entry)) (λ O L. r ≡ beyondLimit O L (L .tiers .openNow) h p kw) ⌝ }
+{
+    let base = path_base(o, p);
+    let limit = tier_limit(o, f, current_tier(f), h, base);
+    let wanted = sum_at_base(o, f, h, NOMINATED, base) + kw;
+    limit < wanted
+}
+
+// The first of causes 10 to 13 that a nomination meets in the open tier, 0 for none.
+fn refusal_in_tier(o: &[u64], f: &[u64], h: u64, p: u64, kw: u64) -> u64
+    requires { ⌜ NominationAsked (now o) (now f) h p kw ⌝ }
+    ensures { λ r. ⌜ InFigures (now (o .entry)) (now (f .entry)) (λ O L. r ≡ firstMet (drop 3 (nominateCauses O L h p kw))) ⌝ }
+{
+    if sink_ineligible(o, f, h, p) {
+        return SINK_INELIGIBLE;
+    }
+    if exceeds_verified(o, f, h, p, kw) {
+        return ABOVE_VERIFIED;
+    }
+    if exceeds_prior(o, f, h, p, kw) {
+        return ABOVE_PRIOR;
+    }
+    let limit = exceeds_limit(o, f, h, p, kw);
+    refuse(ABOVE_LIMIT, limit, 0)
+}
+
+// The first cause that a nomination meets, 0 for none. Each is looked for only where none before it is met.
+fn nominate_refusal(o: &[u64], f: &[u64], h: u64, p: u64, kw: u64) -> u64
+    requires { ⌜ ReachableFigures (now o) (now f) ⌝ }
+    ensures { λ r. ⌜ InFigures (now (o .entry)) (now (f .entry)) (λ O L. r ≡ refusal O L (nominate h p kw)) ⌝ }
+{
+    let unknown = no_holder(o, h) | no_path(o, p);
+    if unknown {
+        return NOT_IN_BOOK;
+    }
+    if wrong_kw(kw) {
+        return OUT_OF_RANGE;
+    }
+    if !is_open(current_tier(f)) {
+        return NOT_AT_THIS_TIME;
+    }
+    refusal_in_tier(o, f, h, p, kw)
+}
+
+// Nominates kw for a holder on a path in the open tier.
+pub fn nominate(o: &[u64], f: &mut [u64], h: u64, p: u64, kw: u64) -> Answer
+    requires { ⌜ ReachableFigures (now o) (now f) ⌝ }
+    ensures { λ r. ⌜ FiguresStep (now (o .entry)) (now (f .entry)) (nominate h p kw) r (now (f .exit)) ⌝ }
+{
+    let number = nominate_refusal(o, f, h, p, kw);
+    if number != 0 {
+        return Answer::Refused(number);
+    }
+    add(f, h, p, NOMINATED, kw);
+    Answer::Done
+}

@@ -1,0 +1,63 @@
+// What a holder has verified of a source, and what it uses of it (01, Tiers, Nominate; cause 11).
+use slots::calendar::current_tier;
+use slots::cells::read;
+use slots::layout::AWARDS;
+use slots::layout::NOMINATED;
+use slots::layout::VERIFIED;
+use slots::sums::sum_from_source;
+use tariff::terms::term_of;
+ghost use mathlib.Core.Path.{_≡_};
+ghost use Rattle.tariff.specs.Terms.{termOf};
+ghost use Rattle.ledger.specs.Verification.{verifiedKw, drawsOnSame, drawnBefore, drawn};
+ghost use Rattle.slots.specs.Steps.{InFigures};
+ghost use Rattle.nominations.specs.Asked.{HolderAsked, SourceAsked, UsageAsked};
+ghost use Rattle.nominations.specs.Usage.{awardsUsed};
+
+// What a holder has verified of a source for the open tier's term: ownership and contract add.
+pub fn verified_kw(o: &[u64], f: &[u64], h: u64, s: u64) -> u64
+    requires { ⌜ SourceAsked (now o) (now f) h s ⌝ }
+    ensures { λ r. ⌜ InFigures (now (o .entry)) (now (f .entry)) (λ O L. r ≡ verifiedKw L h s (termOf (L .tiers .openNow))) ⌝ }
+{
+    let ownership = VERIFIED + term_of(current_tier(f));
+    let contract = ownership + 4;
+    read(f, h, s, ownership) + read(f, h, s, contract)
+}
+
+// Whether the awards of tier n, before this tier, use the same evidence.
+fn uses_same_evidence(tier: u64, n: u64) -> bool
+    ensures { λ r. ⌜ r ≡ drawsOnSame tier n ⌝ }
+{
+    (1 <= n) & ((term_of(n) == term_of(tier)) | (n <= 3))
+}
+
+// What a holder's awards from a source in tier n use of its evidence for a later tier. Awards that use none are not summed.
+fn awards_used(o: &[u64], f: &[u64], h: u64, s: u64, tier: u64, n: u64) -> u64
+    requires { ⌜ UsageAsked (now o) (now f) h n ⌝ }
+    ensures { λ r. ⌜ InFigures (now (o .entry)) (now (f .entry)) (λ O L. r ≡ awardsUsed O L tier h s n) ⌝ }
+{
+    if !uses_same_evidence(tier, n) {
+        return 0;
+    }
+    sum_from_source(o, f, h, AWARDS + n, s)
+}
+
+// What a holder's awards of the tiers before use of its evidence for a source in a tier.
+fn used_before(o: &[u64], f: &[u64], h: u64, s: u64, tier: u64) -> u64
+    requires { ⌜ UsageAsked (now o) (now f) h tier ⌝ }
+    ensures { λ r. ⌜ InFigures (now (o .entry)) (now (f .entry)) (λ O L. r ≡ drawnBefore O L tier h s) ⌝ }
+{
+    let mut sum: u64 = 0;
+    for n in 0..tier {
+        sum += awards_used(o, f, h, s, tier, n);
+    }
+    sum
+}
+
+// What a holder uses of its evidence for a source in the open tier: its nominations, and the awards that use the same evidence.
+pub fn source_usage(o: &[u64], f: &[u64], h: u64, s: u64) -> u64
+    requires { ⌜ HolderAsked (now o) (now f) h ⌝ }
+    ensures { λ r. ⌜ InFigures (now (o .entry)) (now (f .entry)) (λ O L. r ≡ drawn O L (L .tiers .openNow) h s) ⌝ }
+{
+    let before = used_before(o, f, h, s, current_tier(f));
+    sum_from_source(o, f, h, NOMINATED, s) + before
+}

@@ -1,2 +1,0 @@
--- Loads in slices of numbers.
-pub mod Posting

@@ -1,0 +1,170 @@
+-- Evidence that is accepted is in range; what it asks of the arrays, and what it leaves in them. Assumes nothing.
+use Prim.Native.Nat.{ℕ, _+_, _-_, _*_, _≤_, _<_}
+use mathlib.Core.Path.{_≡_, refl, sym, ap, _∙_, subst}
+use mathlib.Core.Bool.{Bool, true, false, cond, _&&_, _||_, and-true}
+use mathlib.Core.List.{List, [], _∷_, _++_}
+use mathlib.Core.Logic.{_⊎_, inl, inr}
+use native.Mathlib.Nat.{le-trans}
+use native.Mathlib.Omega.{arith}
+use lib.ListN.{length, take, drop}
+use lib.Dec.{eqb}
+use borrow.Author.Tests.{eq-eqb, ne-eqb, eqb-true, eqb-false}
+use Rattle.tariff.specs.declared.evidence.Entry.{Entry}
+use Rattle.tariff.specs.declared.evidence.Filing.{Filing}
+use Rattle.tariff.specs.declared.evidence.Filing.the-variants.{OutOfRange, Filed}
+use Rattle.tariff.specs.Evidence.{noEntry, entryOf, entryKw}
+use Rattle.tariff.specs.Filing.{filingOf, filingBy}
+use Rattle.tariff.specs.Ranges.{wrongEvidence}
+use Rattle.tariff.proofs.Tests.{decided, and-right-false}
+use Rattle.ledger.specs.Opening.{Opening}
+use Rattle.ledger.specs.Ledger.{Ledger, withPapers}
+use Rattle.ledger.specs.Call.{Call, verify}
+use Rattle.ledger.specs.Causes.{verifyCauses, callCauses, refusal}
+use Rattle.ledger.specs.Effects.{same2, same3, afterVerify, effect}
+use Rattle.ledger.specs.Season.{accepted}
+use Rattle.ledger.proofs.Unmet.{unmet, accepted-zero}
+use Rattle.ledger.proofs.PostingFacts.{VerifyFacts, verify-facts}
+use Rattle.records.specs.declared.answers.Answer.the-variants.{Done}
+use Rattle.records.specs.Opening.{openingIn}
+use Rattle.slots.specs.Cells.{HasCell, storedAt, Shows}
+use Rattle.slots.specs.Groups.{group, slotsOf, inSlot}
+use Rattle.slots.specs.Layout.{figureSlots, postedSlots, postedCount, evidenceSlots, figureGroups, postedGroups, evidenceGroups, calendarOf, figuresOf, postedOf, evidenceOf, ledgerIn}
+use Rattle.slots.specs.Steps.{Reachable, Steps}
+use Rattle.slots.proofs.CellLaws.{array-shows, shown-is}
+use Rattle.slots.proofs.StoreLaws.{StoredIn, slot-stored, number-posted}
+use Rattle.slots.proofs.Reachable.{counts, figures-shown, posted-shown, evidence-known, figures-long, posted-long}
+use Rattle.slots.proofs.StepLaws.{accepted-test, steps-accepted}
+use Rattle.postings.specs.Verified.{storedByTerm, HasTerms}
+use Rattle.postings.proofs.TermLaws.{terms-stored}
+
+-- the entry of a filing, none where the evidence is out of range
+unfoldable pub entry-in : Filing → Entry
+entry-in OutOfRange = noEntry
+entry-in (Filed e) = e
+
+-- evidence in range is filed
+pub in-range-filed : (kind capacity right first last : ℕ) → wrongEvidence kind capacity right first last ≡ false → filingOf kind capacity right first last ≡ Filed (entryOf kind capacity right first last)
+unfolding filingOf filingBy
+in-range-filed kind capacity right first last e = ap (λ b. filingBy (cond b 3 0) (entryOf kind capacity right first last)) e
+
+accepted-in-range : (O : Opening) (L : Ledger) (h s kind capacity right first last : ℕ) → accepted O L (verify h s kind capacity right first last) ≡ true → wrongEvidence kind capacity right first last ≡ false
+unfolding callCauses verifyCauses
+accepted-in-range O L h s kind capacity right first last e =
+    let r2 = unmet 1 _ _ (accepted-zero O L (verify h s kind capacity right first last) e) in
+    unmet 2 _ _ (r2 .1) .0
+
+-- what an entry gives for a term where it was filed, in its kind and in the other one
+module _ (h s kind : ℕ) (filed : Entry) (old : ℕ → ℕ → ℕ → Entry) (k x y t : ℕ) where
+  this-kind : k ≡ kind → cond (same2 h s x y) (entryKw t filed) (entryKw t (old x y k)) ≡ entryKw t (cond (same3 h s kind x y k) filed (old x y k))
+  unfolding same2 same3
+  this-kind e =
+      go (eqb x h && eqb y s)
+      ∙ ap (λ b. entryKw t (cond b filed (old x y k))) (sym (ap (λ b. eqb x h && eqb y s && b) (eq-eqb k kind e) ∙ and-true (eqb x h && eqb y s)))
+    where
+      go : (here : Bool) → cond here (entryKw t filed) (entryKw t (old x y k)) ≡ entryKw t (cond here filed (old x y k))
+      go true = refl
+      go false = refl
+
+  other-kind : (k ≡ kind → ⊥) → entryKw t (old x y k) ≡ entryKw t (cond (same3 h s kind x y k) filed (old x y k))
+  unfolding same3
+  other-kind ne = sym (ap (λ b. entryKw t (cond b filed (old x y k))) (and-right-false (eqb x h && eqb y s) (ne-eqb k kind ne)))
+
+module _ (o f : List ℕ) (m : List Bool) (x : List Entry) (h s kind capacity right first last number : ℕ) (r : Reachable o f m x) (found : number ≡ refusal (openingIn o) (ledgerIn f m x) (verify h s kind capacity right first last)) (zero : number ≡ 0) where
+  abbrev O : Opening
+  O = openingIn o
+
+  abbrev L : Ledger
+  L = ledgerIn f m x
+
+  abbrev call : Call
+  call = verify h s kind capacity right first last
+
+  abbrev filed : Entry
+  filed = entryOf kind capacity right first last
+
+  isAccepted : accepted O L call ≡ true
+  isAccepted = accepted-test O L call number found zero
+
+  pub verify-in-range : wrongEvidence kind capacity right first last ≡ false
+  verify-in-range = accepted-in-range O L h s kind capacity right first last isAccepted
+
+  facts : VerifyFacts O L h s kind capacity right first last
+  facts = verify-facts O L h s kind capacity right first last isAccepted
+
+  -- the kind is 1 or 2
+  pub verify-kinds : (1 ≤ kind) × (kind ≤ 2)
+  verify-kinds = facts .kinds
+
+  holder : h < 8
+  holder = le-trans (facts .holder) (counts o f m x r .0)
+
+  source : s < 16
+  source = le-trans (facts .source) (counts o f m x r .1)
+
+  -- the slots are there
+  pub verify-terms : (from : ℕ) → from + 4 ≤ figureSlots → HasTerms f h s from
+  verify-terms from fits = record { long = figures-long o f m x r; holder = holder; place = source; inRow = fits }
+
+  pub verify-cell : (slot : ℕ) → slot < postedSlots → HasCell postedSlots h s slot × (length m ≡ postedCount)
+  verify-cell slot inRow = (record { holder = holder; place = source; inRow = inRow }, posted-long o f m x r)
+
+  pub verify-entry : (slot : ℕ) → slot < evidenceSlots → HasCell evidenceSlots h s slot
+  verify-entry slot inRow = record { holder = holder; place = source; inRow = inRow }
+
+  -- the kW of the kind's terms, the note of the posting and the entry are new, and nothing else
+  verified : (f′ : List ℕ) → f′ ≡ storedByTerm f h s (23 + 4 * (kind - 1)) filed → f′ ≡ figuresOf (effect O L call)
+  unfolding figuresOf figureGroups calendarOf slotsOf effect withPapers afterVerify
+  verified f′ e = e ∙ go (decided (eqb kind 1))
+    where
+      entries : ℕ → ℕ → ℕ → Entry
+      entries = L .papers .entry
+
+      go : (eqb kind 1 ≡ true) ⊎ (eqb kind 1 ≡ false) → storedByTerm f h s (23 + 4 * (kind - 1)) filed ≡ figuresOf (effect O L call)
+      go (inl t) =
+          let one = eqb-true kind 1 t in
+          let from : 23 + 4 * (kind - 1) ≡ 23 = omega arith in
+          ap (λ n. storedByTerm f h s n filed) from
+          ∙ shown-is figureSlots 0 _ (storedByTerm f h s 23 filed) (calendarOf L) (omega arith)
+          (subst (λ g. Shows figureSlots 0 (storedByTerm f h s 23 filed) (inSlot 0 g) (calendarOf L)) (λ i. take 7 (figureGroups L) ++ (group 4 0 (λ u v n. this-kind h s kind filed entries 1 u v n (sym one) i) ∷ group 4 0 (λ u v n. other-kind h s kind filed entries 2 u v n (λ q. omega (arith, q)) i) ∷ []))
+          (terms-stored (take 7 (figureGroups L)) (drop 8 (figureGroups L)) 23 (λ u v n. entryKw n (entries u v 1)) f (calendarOf L) h s filed refl (omega arith) holder source (figures-shown o f m x r)))
+      go (inr t) =
+          let other = eqb-false kind 1 t in
+          let range = verify-kinds in
+          let two : 2 ≡ kind = omega (arith, other) in
+          let from : 23 + 4 * (kind - 1) ≡ 27 = omega arith in
+          ap (λ n. storedByTerm f h s n filed) from
+          ∙ shown-is figureSlots 0 _ (storedByTerm f h s 27 filed) (calendarOf L) (omega arith)
+          (subst (λ g. Shows figureSlots 0 (storedByTerm f h s 27 filed) (inSlot 0 g) (calendarOf L)) (λ i. take 7 (figureGroups L) ++ (group 4 0 (λ u v n. other-kind h s kind filed entries 1 u v n (λ q. other (sym q)) i) ∷ group 4 0 (λ u v n. this-kind h s kind filed entries 2 u v n two i) ∷ []))
+          (terms-stored (take 8 (figureGroups L)) (drop 9 (figureGroups L)) 27 (λ u v n. entryKw n (entries u v 2)) f (calendarOf L) h s filed refl (omega arith) holder source (figures-shown o f m x r)))
+
+  -- the kind's number, from its slot
+  kind-back : kind - 1 + 1 ≡ kind
+  kind-back = let range = verify-kinds in omega arith
+
+  noted : (m′ : List Bool) → m′ ≡ storedAt postedSlots m h s (6 + (kind - 1)) true → m′ ≡ postedOf (effect O L call)
+  unfolding postedOf postedGroups slotsOf effect withPapers afterVerify
+  noted m′ e =
+      e ∙ shown-is postedSlots false _ (storedAt postedSlots m h s (6 + (kind - 1)) true) [] (omega arith)
+      (slot-stored false postedSlots 6 2 1 (take 3 (postedGroups L)) [] refl (omega arith) (L .papers .posted) (λ i j k. same3 h s kind i j k || L .papers .posted i j k) m [] h s (kind - 1) true holder source (let range = verify-kinds in omega arith)
+      (subst (λ n. StoredIn 2 1 h s n true (L .papers .posted) (λ i j k. same3 h s kind i j k || L .papers .posted i j k)) (sym kind-back) (number-posted 2 1 h s kind (L .papers .posted)))
+      (posted-shown o f m x r))
+
+  evidence-shown : Shows evidenceSlots noEntry x (inSlot noEntry (evidenceGroups L)) []
+  unfolding evidenceOf
+  evidence-shown = subst (λ z. Shows evidenceSlots noEntry z (inSlot noEntry (evidenceGroups L)) []) (sym (evidence-known o f m x r)) (array-shows evidenceSlots noEntry (inSlot noEntry (evidenceGroups L)) [])
+
+  entered : (x′ : List Entry) → x′ ≡ storedAt evidenceSlots x h s (kind - 1) filed → x′ ≡ evidenceOf (effect O L call)
+  unfolding evidenceOf evidenceGroups slotsOf effect withPapers afterVerify
+  entered x′ e =
+      e ∙ ap (λ n. storedAt evidenceSlots x h s n filed) (let same : kind - 1 ≡ 0 + (kind - 1) = omega arith in same)
+      ∙ shown-is evidenceSlots noEntry _ (storedAt evidenceSlots x h s (0 + (kind - 1)) filed) [] (omega arith)
+      (slot-stored noEntry evidenceSlots 0 2 1 [] [] refl (omega arith) (L .papers .entry) (λ i j k. cond (same3 h s kind i j k) filed (L .papers .entry i j k)) x [] h s (kind - 1) filed holder source (let range = verify-kinds in omega arith)
+      (λ i j k low high. ap (λ n. cond (same3 h s n i j k) filed (L .papers .entry i j k)) (sym kind-back))
+      evidence-shown)
+
+  pub verify-steps : (entry : Entry) (f′ : List ℕ) (m′ : List Bool) (x′ : List Entry) → entry ≡ filed → f′ ≡ storedByTerm f h s (23 + 4 * (kind - 1)) entry → m′ ≡ storedAt postedSlots m h s (6 + (kind - 1)) true → x′ ≡ storedAt evidenceSlots x h s (kind - 1) entry → Steps O L call Done f′ m′ x′
+  verify-steps entry f′ m′ x′ is ofFigures ofPosted ofEvidence =
+      steps-accepted O L call number found f′ m′ x′ zero
+      (verified f′ (ofFigures ∙ ap (storedByTerm f h s (23 + 4 * (kind - 1))) is))
+      (noted m′ ofPosted)
+      (entered x′ (ofEvidence ∙ ap (storedAt evidenceSlots x h s (kind - 1)) is))

@@ -1,0 +1,85 @@
+-- `postings::prior::prior_refusal` meets its contract: its tests are the causes, in their order. Assumes nothing.
+use mathlib.Core.Bool.{_||_}
+use mathlib.Core.Path.{ap, ap₂, _∙_}
+use native.Mathlib.Omega.{arith}
+use Rattle.ledger.specs.Causes.{sinkNotFor, priorCauses, callCauses, refusal}
+use Rattle.ledger.specs.Calendar.{tierIsOpen, beforeTier}
+use Rattle.records.proofs.CauseLaws.{link, no-more}
+use Rattle.slots.specs.Layout.{ledgerIn}
+use Rattle.slots.proofs.Reachable.{posted-long}
+use Rattle.slots.proofs.PostedLaws.{posted-one}
+use Rattle.slots.proofs.CalendarLaws.{late-test}
+use borrow.Author.Needs.{needs}
+use Rattle.postings.proofs.prior.prior_refusal.Statement.{statement}
+use Rattle.postings.proofs.prior.prior_refusal.Tie as tie
+
+no-holder-requires : tie.Need-no-holder-requires
+no-holder-requires c κs = search needs
+
+no-path-requires : tie.Need-no-path-requires
+no-path-requires c κs = search needs
+
+wrong-prior-requires : tie.Need-wrong-prior-requires
+wrong-prior-requires c κs = search needs
+
+last-closed-requires : tie.Need-last-closed-requires
+last-closed-requires c κs = search needs
+
+current-tier-requires : tie.Need-current-tier-requires
+current-tier-requires c κs = search needs
+
+before-tier-requires : tie.Need-before-tier-requires
+before-tier-requires c κs = search needs
+
+is-posted-requires : tie.Need-is-posted-requires
+is-posted-requires c κs = posted-long _ _ _ _ (c .before .before .before .before .before .before .before .before .before .pre .reachable)
+
+path-sink-requires : tie.Need-path-sink-requires
+path-sink-requires c κs = search needs
+
+sink-not-for-requires : tie.Need-sink-not-for-requires
+sink-not-for-requires c κs = search needs
+
+refuse-requires : tie.Need-refuse-requires
+refuse-requires c κs = search needs
+
+refuse-requires-2 : tie.Need-refuse-requires-2
+refuse-requires-2 c κs = search needs
+
+refuse-requires-3 : tie.Need-refuse-requires-3
+refuse-requires-3 c κs = search needs
+
+refuse-requires-4 : tie.Need-refuse-requires-4
+refuse-requires-4 c κs = search needs
+
+refuse-requires-5 : tie.Need-refuse-requires-5
+refuse-requires-5 c κs = search needs
+
+returns : tie.Need-returns
+unfolding refusal callCauses priorCauses beforeTier tierIsOpen ledgerIn
+returns c x r =
+    link 2 _ _ _ (c .refuse5 .ensures) (ap₂ (λ a b. a || b) (c .before .before .before .before .before .before .before .before .before .before .before .before .before .no-holder .ensures) (c .before .before .before .before .before .before .before .before .before .before .before .before .no-path .ensures))
+    (link 3 _ _ _ (c .before .refuse4 .ensures) (c .before .before .before .before .before .before .before .before .before .before .before .wrong-prior .ensures)
+    (link 4 _ _ _ (c .before .before .refuse3 .ensures) (late-test 1 _ _ _ _ _ (c .before .before .before .before .before .before .before .before .before-tier .ensures) (c .before .before .before .before .before .before .before .before .before .before .last-closed .ensures) (c .before .before .before .before .before .before .before .before .before .current-tier .ensures))
+    (link 5 _ _ _ (c .before .before .before .refuse2 .ensures) (c .before .before .before .before .before .before .before .is-posted .ensures ∙ posted-one _ _ _ 5 (omega arith))
+    (link 10 _ _ _ (c .before .before .before .before .refuse .ensures) (c .before .before .before .before .before .sink-not-for .ensures ∙ ap (sinkNotFor _ _) (c .before .before .before .before .before .before .path-sink .ensures)) no-more))))
+
+pub prior-refusal-spec : {M : Type 1} → statement M
+prior-refusal-spec =
+    tie.close
+    (tie.spec
+    no-holder-requires
+    no-path-requires
+    wrong-prior-requires
+    last-closed-requires
+    current-tier-requires
+    before-tier-requires
+    is-posted-requires
+    path-sink-requires
+    sink-not-for-requires
+    refuse-requires
+    refuse-requires-2
+    refuse-requires-3
+    refuse-requires-4
+    refuse-requires-5
+    returns)

@@ -1,0 +1,73 @@
+-- `postings::verify::verify_refusal` meets its contract: its tests are the causes, in their order. Assumes nothing.
+use mathlib.Core.Bool.{not, _||_}
+use mathlib.Core.Path.{ap, ap₂, _∙_}
+use native.Mathlib.Omega.{arith}
+use Rattle.tariff.proofs.Tests.{not-not}
+use Rattle.ledger.specs.Causes.{verifyCauses, callCauses, refusal}
+use Rattle.ledger.specs.Calendar.{tierIsOpen}
+use Rattle.records.proofs.CauseLaws.{link, no-more}
+use Rattle.slots.specs.Layout.{ledgerIn}
+use Rattle.slots.proofs.Reachable.{posted-long}
+use Rattle.slots.proofs.CalendarLaws.{open-test}
+use Rattle.postings.proofs.PostedSlotLaws.{posted-there}
+use borrow.Author.Needs.{needs}
+use Rattle.postings.proofs.verify.verify_refusal.Statement.{statement}
+use Rattle.postings.proofs.verify.verify_refusal.Tie as tie
+
+no-holder-requires : tie.Need-no-holder-requires
+no-holder-requires c κs = search needs
+
+no-source-requires : tie.Need-no-source-requires
+no-source-requires c κs = search needs
+
+evidence-in-range-requires : tie.Need-evidence-in-range-requires
+evidence-in-range-requires c κs = search needs
+
+current-tier-requires : tie.Need-current-tier-requires
+current-tier-requires c κs = search needs
+
+is-open-requires : tie.Need-is-open-requires
+is-open-requires c κs = search needs
+
+posted-slot-requires : tie.Need-posted-slot-requires
+posted-slot-requires c κs = search needs
+
+is-posted-requires : tie.Need-is-posted-requires
+is-posted-requires c κs = posted-long _ _ _ _ (c .before .before .before .before .before .before .before .before .before .pre .reachable)
+
+refuse-requires : tie.Need-refuse-requires
+refuse-requires c κs = search needs
+
+refuse-requires-2 : tie.Need-refuse-requires-2
+refuse-requires-2 c κs = search needs
+
+refuse-requires-3 : tie.Need-refuse-requires-3
+refuse-requires-3 c κs = search needs
+
+refuse-requires-4 : tie.Need-refuse-requires-4
+refuse-requires-4 c κs = search needs
+
+returns : tie.Need-returns
+unfolding refusal callCauses verifyCauses tierIsOpen ledgerIn
+returns c x r =
+    link 2 _ _ _ (c .refuse4 .ensures) (ap₂ (λ a b. a || b) (c .before .before .before .before .before .before .before .before .before .before .no-holder .ensures) (c .before .before .before .before .before .before .before .before .before .no-source .ensures))
+    (link 3 _ _ _ (c .before .refuse3 .ensures) (ap not (c .before .before .before .before .before .before .before .before .evidence-in-range .ensures) ∙ not-not _)
+    (link 4 _ _ _ (c .before .before .refuse2 .ensures) (open-test _ _ _ (c .before .before .before .before .before .before .is-open .ensures) (c .before .before .before .before .before .before .before .current-tier .ensures))
+    (link 5 _ _ _ (c .before .before .before .refuse .ensures) (c .before .before .before .before .is-posted .ensures ∙ posted-there 6 2 1 _ _ _ _ _ (omega arith) (c .before .before .before .before .before .posted-slot .ensures)) no-more)))
+
+pub verify-refusal-spec : {M : Type 1} → statement M
+verify-refusal-spec =
+    tie.close
+    (tie.spec
+    no-holder-requires
+    no-source-requires
+    evidence-in-range-requires
+    current-tier-requires
+    is-open-requires
+    posted-slot-requires
+    is-posted-requires
+    refuse-requires
+    refuse-requires-2
+    refuse-requires-3
+    refuse-requires-4
+    returns)

@@ -1,0 +1,34 @@
+-- Loads whose blocks stand in three slices: the tests on them, and what a load comes to.
+use Prim.Native.Nat.{ℕ}
+use mathlib.Core.Bool.{Bool, cond}
+use mathlib.Core.List.{List}
+use lib.ListN.{getD}
+use lib.Dec.{ltb, eqb}
+use Rattle.tariff.specs.Load.{Block, loadPosted}
+use Rattle.tariff.specs.Metered.{blocksOf, sameLengths}
+use Rattle.tariff.specs.Ranges.{mostKw}
+use Rattle.ledger.specs.Opening.{Opening}
+use Rattle.ledger.specs.Ledger.{Ledger}
+use Rattle.ledger.specs.Call.{load}
+use Rattle.ledger.specs.Causes.{refusal}
+use Rattle.postings.specs.declared.load.Posting.{Posting}
+use Rattle.postings.specs.declared.load.Posting.the-variants.{Kw, Refused}
+
+-- a block's kW exceeds the most
+unfoldable pub exceedsMostKw : List ℕ → ℕ → Bool
+exceedsMostKw kws k = ltb mostKw (getD kws k 0)
+
+-- blocks by their kW alone: no first hour and no length of a block is out of range (01: their faults are 6, never 3), so any others do here
+unfoldable pub kwBlocks : List ℕ → List Block
+kwBlocks kws = blocksOf kws kws kws
+
+-- the kW that a load posts where nothing refuses it, else the number that does
+unfoldable pub postingBy : ℕ → ℕ → Posting
+postingBy number kw = cond (eqb number 0) (Kw kw) (Refused number)
+
+-- what a load comes to; slices of unequal length are no blocks, and unreadable (1)
+unfoldable pub postingOf : Opening → Ledger → (h s term contract n : ℕ) → (firsts hours kws : List ℕ) → Posting
+postingOf O L h s term contract n firsts hours kws =
+    cond (sameLengths firsts hours kws)
+    (postingBy (refusal O L (load h s term contract n (blocksOf firsts hours kws))) (loadPosted contract (blocksOf firsts hours kws)))
+    (Refused 1)

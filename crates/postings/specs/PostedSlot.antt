@@ -1,0 +1,9 @@
+-- Where a posting by a number is looked for.
+use Prim.Native.Nat.{ℕ, _+_, _-_}
+use mathlib.Core.Bool.{cond, _&&_}
+use lib.Dec.{leb, ltb}
+use Rattle.slots.specs.Layout.{postedSlots}
+
+-- the slot of a number in a group of slots that begin at `from`; a slot past the last for a number that the group has none for
+unfoldable pub postedSlot : (from count low : ℕ) → ℕ → ℕ
+postedSlot from count low k = cond (leb low k && ltb k (low + count)) (from + (k - low)) postedSlots

@@ -1,0 +1,27 @@
+-- Verified kW term by term: what an entry gives for terms 0 to 3 stands in four slots side by side.
+use Prim.Native.Nat.{ℕ, _+_, _≤_, _<_}
+use mathlib.Core.Path.{_≡_}
+use mathlib.Core.List.{List}
+use lib.ListN.{length}
+use Rattle.tariff.specs.declared.evidence.Entry.{Entry}
+use Rattle.tariff.specs.Evidence.{entryKw}
+use Rattle.slots.specs.Cells.{maxHolders, maxPlaces, storedAt}
+use Rattle.slots.specs.Layout.{figureSlots, figureCount}
+
+-- figures with what an entry gives for each term stored in the slots that begin at `from`
+unfoldable pub storedByTerm : List ℕ → (h s from : ℕ) → Entry → List ℕ
+storedByTerm f h s from entry =
+    storedAt figureSlots
+    (storedAt figureSlots
+    (storedAt figureSlots
+    (storedAt figureSlots f h s from (entryKw 0 entry))
+    h s (from + 1) (entryKw 1 entry))
+    h s (from + 2) (entryKw 2 entry))
+    h s (from + 3) (entryKw 3 entry)
+
+-- figures that have these four slots
+pub record HasTerms (f : List ℕ) (h s from : ℕ) : Type 0 where
+  pub long : length f ≡ figureCount
+  pub holder : h < maxHolders
+  pub place : s < maxPlaces
+  pub inRow : from + 4 ≤ figureSlots

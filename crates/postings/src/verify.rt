@@ -1,0 +1,137 @@
+// Verify: evidence for a source (01, Posting, Verify).
+use crate::posted_slot::posted_slot;
+use records::answers::Answer;
+use records::calendar::is_open;
+use records::numbers::NOT_AT_THIS_TIME;
+use records::numbers::NOT_IN_BOOK;
+use records::numbers::OUT_OF_RANGE;
+use records::numbers::POSTED_BEFORE;
+use records::refusals::refuse;
+use records::setup::no_holder;
+use records::setup::no_source;
+use slots::calendar::current_tier;
+use slots::cells::cell;
+use slots::cells::is_posted;
+use slots::cells::set_posted;
+use slots::cells::store;
+use slots::layout::EVIDENCE_POSTED;
+use slots::layout::EVIDENCE_SLOTS;
+use slots::layout::VERIFIED;
+use tariff::evidence::Entry;
+use tariff::evidence::Evidence;
+use tariff::evidence::Filing;
+use tariff::evidence::entry_kw;
+use tariff::evidence::evidence_in_range;
+use tariff::evidence::file_evidence;
+ghost use mathlib.Core.Path.{_≡_};
+ghost use mathlib.Core.Bool.{false};
+ghost use Rattle.tariff.specs.Evidence.{entryOf};
+ghost use Rattle.tariff.specs.Ranges.{wrongEvidence};
+ghost use Rattle.ledger.specs.Call.{verify};
+ghost use Rattle.ledger.specs.Causes.{refusal};
+ghost use Rattle.records.specs.Opening.{openingIn};
+ghost use Rattle.slots.specs.Cells.{HasCell, storedAt};
+ghost use Rattle.slots.specs.Layout.{evidenceSlots, ledgerIn};
+ghost use Rattle.slots.specs.Steps.{Reachable, ReachablePostings, InPostings, Steps};
+ghost use Rattle.postings.specs.Verified.{storedByTerm, HasTerms};
+
+// An answer beside the book's evidence after it.
+pub struct VerifyOutcome {
+    pub answer: Answer,
+    pub evidence: [Entry; 256],
+}
+
+// The first cause that evidence meets, 0 for none.
+fn verify_refusal(
+    o: &[u64],
+    f: &[u64],
+    m: &[bool],
+    h: u64,
+    s: u64,
+    kind: u64,
+    capacity: u64,
+    right: u64,
+    first: u64,
+    last: u64,
+) -> u64
+    requires { ⌜ ReachablePostings (now o) (now f) (now m) ⌝ }
+    ensures { λ r. ⌜ InPostings (now (o .entry)) (now (f .entry)) (now (m .entry)) (λ O L. r ≡ refusal O L (verify h s kind capacity right first last)) ⌝ }
+{
+    let unknown = no_holder(o, h) | no_source(o, s);
+    let range = !evidence_in_range(kind, capacity, right, first, last);
+    let open = is_open(current_tier(f));
+    let posted = is_posted(m, h, s, posted_slot(EVIDENCE_POSTED, 2, 1, kind));
+    let from_posted = refuse(POSTED_BEFORE, posted, 0);
+    let from_time = refuse(NOT_AT_THIS_TIME, open, from_posted);
+    let from_range = refuse(OUT_OF_RANGE, range, from_time);
+    refuse(NOT_IN_BOOK, unknown, from_range)
+}
+
+// The entry that evidence in range comes to.
+fn entry_in_range(kind: u64, capacity: u64, right: u64, first: u64, last: u64) -> Entry
+    requires { ⌜ wrongEvidence kind capacity right first last ≡ false ⌝ }
+    ensures { λ r. ⌜ r ≡ entryOf kind capacity right first last ⌝ }
+{
+    match file_evidence(kind, capacity, right, first, last) {
+        Filing::Filed(entry) => entry,
+        Filing::OutOfRange => Entry {
+            evidence: Evidence::Empty,
+            first: 0,
+            last: 0,
+        },
+    }
+}
+
+// What an entry gives for each term, stored at a source in the four slots that begin at `from`.
+fn store_by_term(f: &mut [u64], h: u64, s: u64, from: u64, entry: Entry)
+    requires { ⌜ HasTerms (now f) h s from ⌝ }
+    ensures { λ r. ⌜ now (f .exit) ≡ storedByTerm (now (f .entry)) h s from entry ⌝ }
+{
+    store(f, h, s, from, entry_kw(entry, 0));
+    store(f, h, s, from + 1, entry_kw(entry, 1));
+    store(f, h, s, from + 2, entry_kw(entry, 2));
+    store(f, h, s, from + 3, entry_kw(entry, 3));
+}
+
+// An entry put in the cell of a holder, a source and a slot.
+fn file(old: [Entry; 256], h: u64, s: u64, slot: u64, entry: Entry) -> [Entry; 256]
+    requires { ⌜ HasCell evidenceSlots h s slot ⌝ }
+    ensures { λ r. ⌜ r ≡ storedAt evidenceSlots old h s slot entry ⌝ }
+{
+    let at = cell(EVIDENCE_SLOTS, h, s, slot);
+    let mut evidence = old;
+    evidence[at] = entry;
+    evidence
+}
+
+// Files evidence of a holder for a source, and stores what it gives for each term.
+pub fn verify(
+    o: &[u64],
+    f: &mut [u64],
+    m: &mut [bool],
+    evidence: [Entry; 256],
+    h: u64,
+    s: u64,
+    kind: u64,
+    capacity: u64,
+    right: u64,
+    first: u64,
+    last: u64,
+) -> VerifyOutcome
+    requires { ⌜ Reachable (now o) (now f) (now m) evidence ⌝ }
+    ensures { λ r. ⌜ Steps (openingIn (now (o .entry))) (ledgerIn (now (f .entry)) (now (m .entry)) evidence) (verify h s kind capacity right first last) (r .answer) (now (f .exit)) (now (m .exit)) (r .evidence) ⌝ }
+{
+    let number = verify_refusal(o, f, m, h, s, kind, capacity, right, first, last);
+    if number != 0 {
+        let answer = Answer::Refused(number);
+        return VerifyOutcome { answer, evidence };
+    }
+    let entry = entry_in_range(kind, capacity, right, first, last);
+    let slot = kind - 1;
+    store_by_term(f, h, s, VERIFIED + 4 * slot, entry);
+    set_posted(m, h, s, EVIDENCE_POSTED + slot);
+    VerifyOutcome {
+        answer: Answer::Done,
+        evidence: file(evidence, h, s, slot, entry),
+    }
+}

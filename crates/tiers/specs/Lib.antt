@@ -1,2 +1,0 @@
--- What the tiers need to be told.
-pub mod Verified
