@@ -7,7 +7,7 @@ use Rattle.ledger.specs.Call.{Call, Query}
 use Rattle.ledger.specs.Season.{call, query, answer, step, after}
 use Rattle.ledger.proofs.Steps.{after-more}
 use Rattle.records.specs.Opening.{openingArray}
-use Rattle.records.specs.Handed.{answerOf}
+use Rattle.records.specs.Answers.{answerOf}
 use Rattle.slots.proofs.Reachable.{ledger-known, opening-known}
 use Rattle.book.specs.declared.book.Book.{Book}
 use Rattle.book.specs.Reading.{ledgerOf, openedWith, bookIn, bookOf}

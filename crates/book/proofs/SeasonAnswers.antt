@@ -9,7 +9,7 @@ use Rattle.ledger.specs.Season as ledger
 use Rattle.ledger.specs.Season.{Ask, call, query, afterFrom, after, answers, stepAsk, season}
 use Rattle.ledger.proofs.Steps.{after-more}
 use Rattle.records.specs.Opening.{openingArray, emptyOpening}
-use Rattle.records.specs.Handed.{answerIn, answerOf}
+use Rattle.records.specs.Answers.{answerIn, answerOf}
 use Rattle.opening.specs.Opened.{openedAnswer, openedOpening}
 use Rattle.book.specs.Reading.{bookOf}
 use Rattle.book.specs.Handed.{handed, told}

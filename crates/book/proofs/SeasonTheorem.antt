@@ -18,7 +18,7 @@ use Rattle.ledger.proofs.Conserved.{loadSum, rights-conserved, load-conserved}
 use Rattle.ledger.proofs.NeverBelowZero.{never-below-zero}
 use Rattle.ledger.proofs.Nominations.{nominations-within-limit}
 use Rattle.records.specs.declared.answers.Answer.the-variants.{Value}
-use Rattle.records.specs.Handed.{answerOf}
+use Rattle.records.specs.Answers.{answerOf}
 use Rattle.book.specs.SeasonTheorem.{callsOf, SeasonHolds, SeasonTheorem}
 use Rattle.book.proofs.ReachableSteps.{bookAt, at-ledger, at-told}
 use Rattle.book.proofs.SeasonAnswers.{last-book, season-answered}

@@ -8,7 +8,7 @@ use Rattle.ledger.specs.Call.{Call, Query, load, migrate}
 use Rattle.ledger.specs.Season as season
 use Rattle.records.specs.declared.answers.Answer.{Answer}
 use Rattle.records.specs.declared.answers.Answer.the-variants.{Refused}
-use Rattle.records.specs.Handed.{answerOf}
+use Rattle.records.specs.Answers.{answerOf}
 use Rattle.book.specs.declared.book.Book.{Book}
 use Rattle.book.specs.declared.book.Answered.{Answered}
 use Rattle.book.specs.Reading.{ledgerOf, openedWith, bookOf, bookIn}

@@ -16,7 +16,7 @@ use Rattle.ledger.specs.Totals.{carriedIn, awardedIn, postedIn, nominatedIn}
 use Rattle.book.specs.declared.book.Book.{Book}
 use Rattle.records.specs.declared.answers.Answer.{Answer}
 use Rattle.records.specs.declared.answers.Answer.the-variants.{Value}
-use Rattle.records.specs.Handed.{answerIn}
+use Rattle.records.specs.Answers.{answerIn}
 use Rattle.book.specs.Reading.{ledgerOf}
 use Rattle.book.specs.Handed.{handed, told}
 use Rattle.book.specs.Opened.{openedAs}

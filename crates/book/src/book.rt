@@ -1,5 +1,6 @@
 // The book: its opening, its figures, what was posted, and the evidence filed, in flat arrays.
 use records::answers::Answer;
+use records::setup::OPENING;
 use slots::layout::EVIDENCE;
 use slots::layout::FIGURES;
 use slots::layout::POSTED;
@@ -8,7 +9,7 @@ ghost use mathlib.Core.Path.{_≡_};
 ghost use Rattle.book.specs.Handed.{refusedWith, besideFigures, besidePostings};
 
 pub struct Book {
-    pub opening: [u64; 76],
+    pub opening: [u64; OPENING],
     pub figures: [u64; FIGURES],
     pub posted: [bool; POSTED],
     pub evidence: [Entry; EVIDENCE],

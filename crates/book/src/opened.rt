@@ -2,6 +2,7 @@
 use crate::book::Answered;
 use crate::book::Book;
 use opening::opening::open;
+use records::setup::OPENING;
 use slots::layout::EVIDENCE;
 use slots::layout::FIGURES;
 use slots::layout::POSTED;
@@ -39,7 +40,7 @@ pub fn open_book(
 ) -> Answered
     ensures { λ r. ⌜ r ≡ openedAs (openingFrom holders sources sinks paths (now («holder_kinds» .entry)) (now («sink_kinds» .entry)) (now («sink_parents» .entry)) (now («path_sources» .entry)) (now («path_sinks» .entry))) ⌝ }
 {
-    let mut kept = [0u64; 76];
+    let mut kept = [0u64; OPENING];
     let answer = open(
         &mut kept,
         holders,

@@ -33,6 +33,7 @@ use Rattle.lines.proofs.LineBytes.{bytes-within, rows-after}
 use Rattle.groups.specs.declared.opened.Started.{Started}
 use Rattle.groups.specs.Groups.{bookReadable, openingOfRows, callRows}
 use Rattle.groups.specs.Started.{isDone, startedWith, openingLeft, startedOf, openingAfter}
+use Rattle.lines.specs.Text.{maxLines}
 
 -- the head is one line
 pub after-head : (script : List ℕ) (f : NextRow) → f ≡ nextRow script → f .used ≡ bytesOfLines 1 script
@@ -102,7 +103,7 @@ module _ (head : Row) (rest : List ℕ) (lines : Counted) (e : lines ≡ bookLin
         (as-counted holderLine (field 0 head) (holderRows head rows) (first .0), as-counted sinkLine (field 2 head) (sinkRows head rows) (first .1), as-counted pathLine (field 3 head) (pathRows head rows) (last .1))
 
     -- no count is over the lines of a script
-    pub counts-fit : length rows ≤ 4096 → (field 0 head ≤ 4096) × (field 2 head ≤ 4096) × (field 3 head ≤ 4096)
+    pub counts-fit : length rows ≤ maxLines → (field 0 head ≤ maxLines) × (field 2 head ≤ maxLines) × (field 3 head ≤ maxLines)
     unfolding holderRows sinkRows pathRows
     counts-fit few =
         let n = all-counted in

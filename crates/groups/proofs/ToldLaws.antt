@@ -27,6 +27,7 @@ use Rattle.groups.specs.Told.{answeredTo}
 use Rattle.groups.specs.Told.{headAsks, headBytes, Answers}
 use Rattle.groups.proofs.HeadLaws.{by-nothing}
 use Rattle.groups.proofs.RowLists.{blocks-of-rows, blocks-even, class-lines-of-rows, class-lines-even}
+use Rattle.lines.specs.Text.{maxLines}
 
 -- counted lines are at most those that are left
 rows-few : (n : ℕ) (s : List ℕ) → length (rowsCounted n s) ≤ length (rowsOf s)
@@ -34,7 +35,7 @@ unfolding rowsCounted
 rows-few n s = let len = length-take n (rowsOf s) in omega arith
 
 -- an array that keeps a field of each has the length that it had
-pub kept-size : (j n : ℕ) (s numbers old : List ℕ) → length (rowsOf s) ≤ 4096 → length numbers ≡ 4096 → old ≡ withField j (rowsCounted n s) numbers → length old ≡ 4096
+pub kept-size : (j n : ℕ) (s numbers old : List ℕ) → length (rowsOf s) ≤ maxLines → length numbers ≡ maxLines → old ≡ withField j (rowsCounted n s) numbers → length old ≡ maxLines
 unfolding withField
 kept-size j n s numbers old few len e =
     let rows = rowsCounted n s in
@@ -62,7 +63,7 @@ module _ (kind n : ℕ) (s : List ℕ) (x : Counted) (read : x ≡ countedOf kin
     unfolding counted
     rows-many = eqb-true (length rows) n (and-both (eqb (length rows) n) (allOfKind kind rows) (sym whole-is ∙ all) .0)
 
-    pub count-few : length (rowsOf s) ≤ 4096 → n ≤ 4096
+    pub count-few : length (rowsOf s) ≤ maxLines → n ≤ maxLines
     count-few few = let many = rows-many in let most = rows-few n s in omega arith
 
     -- as much of an array as was counted

@@ -19,6 +19,7 @@ ghost use Rattle.slots.specs.Steps.{Reachable, ReachableFigures, ReachablePosti
 ghost use Rattle.book.specs.Reading.{bookIn};
 ghost use Rattle.lines.specs.Rows.{rowsOf, loadLine, verifyLine, migrateLine};
 ghost use Rattle.groups.specs.Told.{headAsks, headBytes, Answers};
+ghost use Rattle.lines.specs.Text.{maxLines};
 
 // What a group is answered, and how many bytes the lines behind its head take.
 pub struct Told {
@@ -39,8 +40,8 @@ fn tell_load(
     d: &mut [u64],
     e: &mut [u64],
 ) -> Told
-    requires { ⌜ (ReachablePostings (now o) (now f) (now m) × (head .kind ≡ loadLine)) × (length (rowsOf (now behind)) ≤ 4096) × (length (now a) ≡ 4096) × (length (now b) ≡ 4096) × (length (now c) ≡ 4096) × (length (now d) ≡ 4096) × (length (now e) ≡ 4096) ⌝ }
-    ensures { λ r. ⌜ ((x : List Entry) → Reachable (now (o .entry)) (now (f .entry)) (now (m .entry)) x → Answers (bookIn (now (o .entry)) (now (f .entry)) (now (m .entry)) x) (headAsks head (now (behind .entry))) (r .answer) (bookIn (now (o .entry)) (now (f .exit)) (now (m .exit)) x)) × (r .used ≡ headBytes head (now (behind .entry))) × (length (now (a .exit)) ≡ 4096) × (length (now (b .exit)) ≡ 4096) × (length (now (c .exit)) ≡ 4096) × (length (now (d .exit)) ≡ 4096) × (length (now (e .exit)) ≡ 4096) ⌝ }
+    requires { ⌜ (ReachablePostings (now o) (now f) (now m) × (head .kind ≡ loadLine)) × (length (rowsOf (now behind)) ≤ maxLines) × (length (now a) ≡ maxLines) × (length (now b) ≡ maxLines) × (length (now c) ≡ maxLines) × (length (now d) ≡ maxLines) × (length (now e) ≡ maxLines) ⌝ }
+    ensures { λ r. ⌜ ((x : List Entry) → Reachable (now (o .entry)) (now (f .entry)) (now (m .entry)) x → Answers (bookIn (now (o .entry)) (now (f .entry)) (now (m .entry)) x) (headAsks head (now (behind .entry))) (r .answer) (bookIn (now (o .entry)) (now (f .exit)) (now (m .exit)) x)) × (r .used ≡ headBytes head (now (behind .entry))) × (length (now (a .exit)) ≡ maxLines) × (length (now (b .exit)) ≡ maxLines) × (length (now (c .exit)) ≡ maxLines) × (length (now (d .exit)) ≡ maxLines) × (length (now (e .exit)) ≡ maxLines) ⌝ }
 {
     let n = head.fields;
     let count = n[5];
@@ -79,8 +80,8 @@ fn tell_migrate(
     d: &mut [u64],
     e: &mut [u64],
 ) -> Told
-    requires { ⌜ (ReachableFigures (now o) (now f) × (head .kind ≡ migrateLine)) × (length (rowsOf (now behind)) ≤ 4096) × (length (now a) ≡ 4096) × (length (now b) ≡ 4096) × (length (now c) ≡ 4096) × (length (now d) ≡ 4096) × (length (now e) ≡ 4096) ⌝ }
-    ensures { λ r. ⌜ ((m : List Bool) (x : List Entry) → Reachable (now (o .entry)) (now (f .entry)) m x → Answers (bookIn (now (o .entry)) (now (f .entry)) m x) (headAsks head (now (behind .entry))) (r .answer) (bookIn (now (o .entry)) (now (f .exit)) m x)) × (r .used ≡ headBytes head (now (behind .entry))) × (length (now (a .exit)) ≡ 4096) × (length (now (b .exit)) ≡ 4096) × (length (now (c .exit)) ≡ 4096) × (length (now (d .exit)) ≡ 4096) × (length (now (e .exit)) ≡ 4096) ⌝ }
+    requires { ⌜ (ReachableFigures (now o) (now f) × (head .kind ≡ migrateLine)) × (length (rowsOf (now behind)) ≤ maxLines) × (length (now a) ≡ maxLines) × (length (now b) ≡ maxLines) × (length (now c) ≡ maxLines) × (length (now d) ≡ maxLines) × (length (now e) ≡ maxLines) ⌝ }
+    ensures { λ r. ⌜ ((m : List Bool) (x : List Entry) → Reachable (now (o .entry)) (now (f .entry)) m x → Answers (bookIn (now (o .entry)) (now (f .entry)) m x) (headAsks head (now (behind .entry))) (r .answer) (bookIn (now (o .entry)) (now (f .exit)) m x)) × (r .used ≡ headBytes head (now (behind .entry))) × (length (now (a .exit)) ≡ maxLines) × (length (now (b .exit)) ≡ maxLines) × (length (now (c .exit)) ≡ maxLines) × (length (now (d .exit)) ≡ maxLines) × (length (now (e .exit)) ≡ maxLines) ⌝ }
 {
     let n = head.fields;
     let count = n[2];
@@ -118,8 +119,8 @@ pub fn tell_head(
     d: &mut [u64],
     e: &mut [u64],
 ) -> Told
-    requires { ⌜ (ReachablePostings (now o) (now f) (now m) × (head .kind ≡ verifyLine → ⊥)) × (length (rowsOf (now behind)) ≤ 4096) × (length (now a) ≡ 4096) × (length (now b) ≡ 4096) × (length (now c) ≡ 4096) × (length (now d) ≡ 4096) × (length (now e) ≡ 4096) ⌝ }
-    ensures { λ r. ⌜ ((x : List Entry) → Reachable (now (o .entry)) (now (f .entry)) (now (m .entry)) x → Answers (bookIn (now (o .entry)) (now (f .entry)) (now (m .entry)) x) (headAsks head (now (behind .entry))) (r .answer) (bookIn (now (o .entry)) (now (f .exit)) (now (m .exit)) x)) × (r .used ≡ headBytes head (now (behind .entry))) × (length (now (a .exit)) ≡ 4096) × (length (now (b .exit)) ≡ 4096) × (length (now (c .exit)) ≡ 4096) × (length (now (d .exit)) ≡ 4096) × (length (now (e .exit)) ≡ 4096) ⌝ }
+    requires { ⌜ (ReachablePostings (now o) (now f) (now m) × (head .kind ≡ verifyLine → ⊥)) × (length (rowsOf (now behind)) ≤ maxLines) × (length (now a) ≡ maxLines) × (length (now b) ≡ maxLines) × (length (now c) ≡ maxLines) × (length (now d) ≡ maxLines) × (length (now e) ≡ maxLines) ⌝ }
+    ensures { λ r. ⌜ ((x : List Entry) → Reachable (now (o .entry)) (now (f .entry)) (now (m .entry)) x → Answers (bookIn (now (o .entry)) (now (f .entry)) (now (m .entry)) x) (headAsks head (now (behind .entry))) (r .answer) (bookIn (now (o .entry)) (now (f .exit)) (now (m .exit)) x)) × (r .used ≡ headBytes head (now (behind .entry))) × (length (now (a .exit)) ≡ maxLines) × (length (now (b .exit)) ≡ maxLines) × (length (now (c .exit)) ≡ maxLines) × (length (now (d .exit)) ≡ maxLines) × (length (now (e .exit)) ≡ maxLines) ⌝ }
 {
     if head.kind == LOAD {
         return tell_load(o, f, m, head, behind, a, b, c, d, e);

@@ -8,10 +8,11 @@ use records::answers::Answer;
 ghost use Prim.Native.Nat.{_≤_};
 ghost use mathlib.Core.Path.{_≡_};
 ghost use lib.ListN.{length, take};
-ghost use Rattle.records.specs.Opening.{openingArray, openingFrom};
+ghost use Rattle.records.specs.Opening.{openingArray, openingFrom, openingCount};
 ghost use Rattle.opening.specs.Opened.{openedAnswer, openedOpening};
 ghost use Rattle.lines.specs.Rows.{rowsOf, field};
 ghost use Rattle.groups.specs.Started.{isDone, startedOf, openingAfter};
+ghost use Rattle.lines.specs.Text.{maxLines};
 
 // What the book group comes to: its answer, how many bytes it takes, and whether the run goes on.
 pub struct Started {
@@ -30,7 +31,7 @@ fn open_read(
     d: &[u64],
     e: &[u64],
 ) -> Answer
-    requires { ⌜ (length (now o) ≡ 76) × (field 0 head ≤ length (now a)) × (field 2 head ≤ length (now b)) × (field 2 head ≤ length (now c)) × (field 3 head ≤ length (now d)) × (field 3 head ≤ length (now e)) ⌝ }
+    requires { ⌜ (length (now o) ≡ openingCount) × (field 0 head ≤ length (now a)) × (field 2 head ≤ length (now b)) × (field 2 head ≤ length (now c)) × (field 3 head ≤ length (now d)) × (field 3 head ≤ length (now e)) ⌝ }
     ensures { λ r. ⌜ (r ≡ openedAnswer (openingFrom (field 0 head) (field 1 head) (field 2 head) (field 3 head) (take (field 0 head) (now (a .entry))) (take (field 2 head) (now (b .entry))) (take (field 2 head) (now (c .entry))) (take (field 3 head) (now (d .entry))) (take (field 3 head) (now (e .entry))))) × (now (o .exit) ≡ openingArray (openedOpening (openingFrom (field 0 head) (field 1 head) (field 2 head) (field 3 head) (take (field 0 head) (now (a .entry))) (take (field 2 head) (now (b .entry))) (take (field 2 head) (now (c .entry))) (take (field 3 head) (now (d .entry))) (take (field 3 head) (now (e .entry)))))) ⌝ }
 {
     let fields = head.fields;
@@ -71,8 +72,8 @@ pub fn start(
     d: &mut [u64],
     e: &mut [u64],
 ) -> Started
-    requires { ⌜ ((length (rowsOf (now script)) ≤ 4096) × (length (now o) ≡ 76)) × (length (now a) ≡ 4096) × (length (now b) ≡ 4096) × (length (now c) ≡ 4096) × (length (now d) ≡ 4096) × (length (now e) ≡ 4096) ⌝ }
-    ensures { λ r. ⌜ ((r ≡ startedOf (now (script .entry))) × (now (o .exit) ≡ openingAfter (now (script .entry)) (now (o .entry)))) × (length (now (a .exit)) ≡ 4096) × (length (now (b .exit)) ≡ 4096) × (length (now (c .exit)) ≡ 4096) × (length (now (d .exit)) ≡ 4096) × (length (now (e .exit)) ≡ 4096) ⌝ }
+    requires { ⌜ ((length (rowsOf (now script)) ≤ maxLines) × (length (now o) ≡ openingCount)) × (length (now a) ≡ maxLines) × (length (now b) ≡ maxLines) × (length (now c) ≡ maxLines) × (length (now d) ≡ maxLines) × (length (now e) ≡ maxLines) ⌝ }
+    ensures { λ r. ⌜ ((r ≡ startedOf (now (script .entry))) × (now (o .exit) ≡ openingAfter (now (script .entry)) (now (o .entry)))) × (length (now (a .exit)) ≡ maxLines) × (length (now (b .exit)) ≡ maxLines) × (length (now (c .exit)) ≡ maxLines) × (length (now (d .exit)) ≡ maxLines) × (length (now (e .exit)) ≡ maxLines) ⌝ }
 {
     let first = next_row(script);
     let head = first.row;

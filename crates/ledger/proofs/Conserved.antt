@@ -18,7 +18,7 @@ use Rattle.ledger.specs.Call.{Call, load, carry, prior, verify, migrate,
 use Rattle.ledger.specs.Moves.{movedWhere, loadBefore, loadsAfter, rightsAfter, migrated}
 use Rattle.ledger.specs.Effects.{same2, same3, plusAt3, plusInTerm, afterLoad, afterCarry, holdingsAfter, effect}
 use Rattle.ledger.specs.Season.{after, held, net}
-use Rattle.ledger.specs.Totals.{sumAccepted, carriedBy, awardedBy, postedBy, carriedIn, awardedIn, postedIn}
+use Rattle.ledger.specs.Totals.{contribution, nothing, sumAccepted, carriedIn, awardedIn, postedIn}
 use Rattle.ledger.proofs.Steps.{Adds, list-adds}
 use Rattle.ledger.proofs.Columns.{column-plus, column-kept, load-kept}
 use Rattle.ledger.proofs.PostingFacts.{load-facts, carry-facts}
@@ -56,8 +56,8 @@ unfolding after
 from-empty figure amount o adds none cs = let all = list-adds figure amount o adds emptyLedger cs in omega arith
 
 module _ (o : Opening) (p m : ℕ) where
-  pub awarded-adds : Adds (awardedSum o p m) (awardedBy p m) o
-  unfolding awardedSum awardedBy effect withLoads withRights withPriors withPapers withTiers migrated movedWhere rightsAfter afterCarry holdingsAfter
+  pub awarded-adds : Adds (awardedSum o p m) (λ L c. contribution o L c .awarded p m) o
+  unfolding awardedSum contribution nothing effect withLoads withRights withPriors withPapers withTiers migrated movedWhere rightsAfter afterCarry holdingsAfter
   awarded-adds L (load h s term contract n blocks) e = omega arith
   awarded-adds L (carry h q kw) e = omega arith
   awarded-adds L (prior h q a l) e = omega arith
@@ -73,10 +73,10 @@ module _ (o : Opening) (p m : ℕ) where
   -- per path and month the awarded kW add up to the accepted awards in tiers 1 to 3 and in the month's own
   pub awarded-conserved : (cs : List Call) → awardedSum o p m (after o cs) ≡ awardedIn o cs p m
   unfolding awardedIn awardedSum emptyLedger
-  awarded-conserved = from-empty (awardedSum o p m) (awardedBy p m) o awarded-adds (sum-zero (o .holders) (λ h l. refl))
+  awarded-conserved = from-empty (awardedSum o p m) (λ L c. contribution o L c .awarded p m) o awarded-adds (sum-zero (o .holders) (λ h l. refl))
 
-  pub carried-adds : isMonth m ≡ true → Adds (carriedSum o p m) (carriedBy p) o
-  unfolding carriedSum carriedBy effect withLoads withRights withPriors withPapers withTiers migrated movedWhere rightsAfter afterCarry holdingsAfter hasMonth
+  pub carried-adds : isMonth m ≡ true → Adds (carriedSum o p m) (λ L c. contribution o L c .carried p) o
+  unfolding carriedSum contribution nothing effect withLoads withRights withPriors withPapers withTiers migrated movedWhere rightsAfter afterCarry holdingsAfter hasMonth
   carried-adds month L (load h s term contract n blocks) e = omega arith
   carried-adds month L (carry h q kw) e =
       in-term o 0 h q kw (L .rights .carried) p m (carry-facts o L h q kw e .holder)
@@ -94,7 +94,7 @@ module _ (o : Opening) (p m : ℕ) where
   -- per path and month the carried kW add up to the accepted carry calls
   pub carried-conserved : isMonth m ≡ true → (cs : List Call) → carriedSum o p m (after o cs) ≡ carriedIn o cs p
   unfolding carriedIn carriedSum emptyLedger
-  carried-conserved month = from-empty (carriedSum o p m) (carriedBy p) o (carried-adds month) (sum-zero (o .holders) (λ h l. refl))
+  carried-conserved month = from-empty (carriedSum o p m) (λ L c. contribution o L c .carried p) o (carried-adds month) (sum-zero (o .holders) (λ h l. refl))
 
   -- rights are conserved: what the holders hold on a path in a month is what was carried in and awarded
   pub rights-conserved : isMonth m ≡ true → (cs : List Call) → net o (after o cs) p m ≡ carriedIn o cs p + awardedIn o cs p m
@@ -104,8 +104,8 @@ module _ (o : Opening) (p m : ℕ) where
       ∙ ap₂ (λ a b. a + b) (carried-conserved month cs) (awarded-conserved cs)
 
 module _ (o : Opening) (s t : ℕ) where
-  pub load-adds : Adds (loadSum o s t) (postedBy s t) o
-  unfolding loadSum postedBy effect withLoads withRights withPriors withPapers withTiers migrated movedWhere loadsAfter afterLoad loadBefore
+  pub load-adds : Adds (loadSum o s t) (λ L c. contribution o L c .posted s t) o
+  unfolding loadSum contribution nothing effect withLoads withRights withPriors withPapers withTiers migrated movedWhere loadsAfter afterLoad loadBefore
   load-adds L (load h q term contract n blocks) e = in-place o h q term (loadPosted contract blocks) (L .loads .kw) s t (load-facts o L h q term contract n blocks e .holder)
   load-adds L (carry h q kw) e = omega arith
   load-adds L (prior h q a l) e = omega arith
@@ -124,4 +124,4 @@ module _ (o : Opening) (s t : ℕ) where
   -- load is conserved: per sink and term the loads add up to what the accepted load calls posted
   pub load-conserved : (cs : List Call) → loadSum o s t (after o cs) ≡ postedIn o cs s t
   unfolding postedIn loadSum emptyLedger
-  load-conserved = from-empty (loadSum o s t) (postedBy s t) o load-adds (sum-zero (o .holders) (λ h l. refl))
+  load-conserved = from-empty (loadSum o s t) (λ L c. contribution o L c .posted s t) o load-adds (sum-zero (o .holders) (λ h l. refl))

@@ -12,7 +12,7 @@ use Rattle.ledger.specs.Call.{Call, load, carry, prior, verify, migrate,
 use Rattle.ledger.specs.Limits.{longTermAt, priorYearAt, awardsAt, limitSums, nominatedAt, tierLimit}
 use Rattle.ledger.specs.Effects.{afterOpen, afterNominate, awardsAfter, effect}
 use Rattle.ledger.specs.Season.{accepted, step, after}
-use Rattle.ledger.specs.Totals.{sumAccepted, nominatedBy, isClose, untilClose, nominatedIn}
+use Rattle.ledger.specs.Totals.{contribution, nothing, sumAccepted, untilClose, nominatedIn}
 use Rattle.ledger.proofs.Steps.{step-refused, step-accepted, after-keeps}
 use Rattle.ledger.proofs.PostingFacts.{load-facts, carry-facts, prior-facts, verify-facts}
 use Rattle.ledger.proofs.TierFacts.{migrate-facts, open-facts}
@@ -25,27 +25,27 @@ module _ (o : Opening) (h b : ℕ) where
   unfolding nominatedIn untilClose sumAccepted
   nominated-refused L c cs e =
       let same = step-refused o L c e in
-      rw (and-right-false (isClose c) e)
-      (let none = count-false (nominatedBy o h b L c) e in
-      let rest : sumAccepted (nominatedBy o h b) o (step o L c) (untilClose o (step o L c) cs) ≡ sumAccepted (nominatedBy o h b) o L (untilClose o L cs) = λ i. sumAccepted (nominatedBy o h b) o (same i) (untilClose o (same i) cs) in
+      rw (and-right-false (contribution o L c .closes) e)
+      (let none = count-false (contribution o L c .nominated h b) e in
+      let rest : sumAccepted (λ L c. contribution o L c .nominated h b) o (step o L c) (untilClose o (step o L c) cs) ≡ sumAccepted (λ L c. contribution o L c .nominated h b) o L (untilClose o L cs) = λ i. sumAccepted (λ L c. contribution o L c .nominated h b) o (same i) (untilClose o (same i) cs) in
       omega arith)
 
   -- an accepted close ends them
   nominated-close : (L : Ledger) (cs : List Call) → accepted o L closeTier ≡ true → nominatedIn o L (closeTier ∷ cs) h b ≡ 0
-  unfolding nominatedIn untilClose sumAccepted isClose
+  unfolding nominatedIn untilClose sumAccepted contribution nothing
   nominated-close L cs e = rw e
 
   -- any other accepted call adds its own
-  nominated-other : (L : Ledger) (c : Call) (cs : List Call) → isClose c ≡ false → accepted o L c ≡ true → nominatedIn o L (c ∷ cs) h b ≡ nominatedBy o h b L c + nominatedIn o (step o L c) cs h b
+  nominated-other : (L : Ledger) (c : Call) (cs : List Call) → contribution o L c .closes ≡ false → accepted o L c ≡ true → nominatedIn o L (c ∷ cs) h b ≡ contribution o L c .nominated h b + nominatedIn o (step o L c) cs h b
   unfolding nominatedIn untilClose sumAccepted
-  nominated-other L c cs n e = rw n (let own = count-true (nominatedBy o h b L c) e in omega arith)
+  nominated-other L c cs n e = rw n (let own = count-true (contribution o L c .nominated h b) e in omega arith)
 
   -- what the holder nominates from here to the tier's close, with what it has nominated, is within the limit as it stands here
   abbrev FromHere : List Call → Type 0
   FromHere cs = (L : Ledger) → TiersSound (L .tiers) → WithinLimit o L → 1 ≤ L .tiers .openNow → nominatedAt o L h b (L .tiers .openNow) + nominatedIn o L cs h b ≤ tierLimit o L (L .tiers .openNow) h b
 
   accepted-within : (c : Call) (cs : List Call) → FromHere cs → (L : Ledger) → TiersSound (L .tiers) → WithinLimit o L → 1 ≤ L .tiers .openNow → accepted o L c ≡ true → nominatedAt o L h b (L .tiers .openNow) + nominatedIn o L (c ∷ cs) h b ≤ tierLimit o L (L .tiers .openNow) h b
-  unfolding isClose nominatedBy effect withTiers withRights afterNominate awardsAfter
+  unfolding contribution nothing effect withTiers withRights afterNominate awardsAfter
   accepted-within (load x s term contract n blocks) cs later L k w isOpen e = absurd (closed-only L (load-facts o L x s term contract n blocks e .idle) isOpen)
   accepted-within (carry x p kw) cs later L k w isOpen e = absurd (closed-only L (carry-facts o L x p kw e .idle) isOpen)
   accepted-within (prior x p a l) cs later L k w isOpen e = absurd (closed-only L (prior-facts o L x p a l e .idle) isOpen)

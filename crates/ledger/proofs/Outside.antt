@@ -18,7 +18,7 @@ use Rattle.ledger.specs.Ledger.{Ledger, emptyLedger}
 use Rattle.ledger.specs.Ranges.{noHolder, strangerIn}
 use Rattle.ledger.specs.Call.{Call, load, carry, prior, verify, migrate, openTier, nominate, award, closeTier}
 use Rattle.ledger.specs.Season.{accepted, after}
-use Rattle.ledger.specs.Totals.{awardedBy}
+use Rattle.ledger.specs.Totals.{contribution, nothing}
 use Rattle.ledger.proofs.Steps.{step-keeps, after-keeps}
 use Rattle.ledger.proofs.TierFacts.{award-facts}
 use Rattle.ledger.proofs.Conserved.{awardedSum, awarded-adds}
@@ -44,8 +44,8 @@ netted-outside o lines i j known past = let none = watts-outside o i j past line
 
 module _ (o : Opening) (p m : ℕ) (past : o .paths ≤ p) where
   -- no call awards anything on a path that is not in the book
-  none-awarded : (L : Ledger) (c : Call) → accepted o L c ≡ true → awardedBy p m L c ≡ 0
-  unfolding awardedBy
+  none-awarded : (L : Ledger) (c : Call) → accepted o L c ≡ true → contribution o L c .awarded p m ≡ 0
+  unfolding contribution nothing
   none-awarded L (load h s term contract n blocks) e = refl
   none-awarded L (carry h q kw) e = refl
   none-awarded L (prior h q a l) e = refl

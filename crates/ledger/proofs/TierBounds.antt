@@ -19,7 +19,7 @@ use Rattle.ledger.specs.Moves.{migrated}
 use Rattle.tariff.specs.Ranges.{mostKw}
 use Rattle.ledger.specs.Effects.{plusAt3, afterOpen, afterNominate, awardsAfter, afterClose, effect}
 use Rattle.ledger.specs.Season.{accepted, step, after}
-use Rattle.ledger.specs.Totals.{awardedBy}
+use Rattle.ledger.specs.Totals.{contribution, nothing}
 use Rattle.ledger.proofs.Steps.{step-keeps, after-keeps}
 use Rattle.ledger.proofs.Columns.{column-plus}
 use Rattle.ledger.proofs.Conserved.{in-place, awardedSum, awarded-adds}
@@ -108,7 +108,7 @@ awards-grow o L x q kw p s e =
     ∙ column-plus (λ t. sumTo (o .holders) (λ h. f h p t)) 10 k (eqb p q) kw (omega arith)
 
 award-bound : (o : Opening) (L : Ledger) (x q kw : ℕ) → TiersSound (L .tiers) → AwardedBound o L → accepted o L (award x q kw) ≡ true → AwardedBound o (effect o L (award x q kw))
-unfolding awardedBy
+unfolding contribution nothing
 award-bound o L x q kw k old e p m =
     let grown = awarded-adds o p m L (award x q kw) e in
     let more = awards-grow o L x q kw p k e in
@@ -121,7 +121,7 @@ award-bound o L x q kw k old e p m =
     part false b = le-refl (countIf false kw)
 
 awarded-effect : (o : Opening) (L : Ledger) (c : Call) → TiersSound (L .tiers) → AwardedBound o L → accepted o L c ≡ true → AwardedBound o (effect o L c)
-unfolding effect withLoads withRights withPriors withPapers withTiers migrated afterOpen afterNominate afterClose awardsSum awardedBy
+unfolding effect withLoads withRights withPriors withPapers withTiers migrated afterOpen afterNominate afterClose awardsSum contribution nothing
 awarded-effect o L (load h s term contract n blocks) k old e p m = let a = awarded-adds o p m L (load h s term contract n blocks) e in let b = old p m in omega arith
 awarded-effect o L (carry h q kw) k old e p m = let a = awarded-adds o p m L (carry h q kw) e in let b = old p m in omega arith
 awarded-effect o L (prior h q a l) k old e p m = let a = awarded-adds o p m L (prior h q a l) e in let b = old p m in omega arith

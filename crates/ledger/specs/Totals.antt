@@ -16,80 +16,56 @@ unfoldable pub sumAccepted : (Ledger → Call → ℕ) → Opening → Ledger �
 sumAccepted amount o L [] = 0
 sumAccepted amount o L (c ∷ cs) = countIf (accepted o L c) (amount L c) + sumAccepted amount o (step o L c) cs
 
--- the kW of a carry call on the path
-unfoldable pub carriedBy : ℕ → Ledger → Call → ℕ
-carriedBy p L (load h s term contract n blocks) = 0
-carriedBy p L (carry h q kw) = countIf (eqb p q) kw
-carriedBy p L (prior h q a l) = 0
-carriedBy p L (verify h s kind capacity right first last) = 0
-carriedBy p L (migrate term sink lines) = 0
-carriedBy p L (openTier tier) = 0
-carriedBy p L (nominate h q kw) = 0
-carriedBy p L (award h q kw) = 0
-carriedBy p L closeTier = 0
+-- what an accepted call adds to each sum of the list, and whether it ends the open tier
+pub record Contribution : Type 0 where
+  -- carried in, by path
+  pub carried : ℕ → ℕ
+  -- awarded, by path and month
+  pub awarded : ℕ → ℕ → ℕ
+  -- load posted, by sink and term
+  pub posted : ℕ → ℕ → ℕ
+  -- nominated, by holder and base
+  pub nominated : ℕ → ℕ → ℕ
+  pub closes : Bool
 
--- the kW of an award on the path, in tiers 1 to 3 or in a tier of the month's own
-unfoldable pub awardedBy : ℕ → ℕ → Ledger → Call → ℕ
-awardedBy p m L (load h s term contract n blocks) = 0
-awardedBy p m L (carry h q kw) = 0
-awardedBy p m L (prior h q a l) = 0
-awardedBy p m L (verify h s kind capacity right first last) = 0
-awardedBy p m L (migrate term sink lines) = 0
-awardedBy p m L (openTier tier) = 0
-awardedBy p m L (nominate h q kw) = 0
-awardedBy p m L (award h q kw) = countIf (eqb p q && hasMonth (termOf (L .tiers .openNow)) m) kw
-awardedBy p m L closeTier = 0
+-- no kW whatever the path, and whatever the pair
+abbrev none : ℕ → ℕ
+none x = 0
 
--- the load that a load call posts at the sink and term
-unfoldable pub postedBy : ℕ → ℕ → Ledger → Call → ℕ
-postedBy s t L (load h q term contract n blocks) = countIf (eqb s q && eqb t term) (loadPosted contract blocks)
-postedBy s t L (carry h q kw) = 0
-postedBy s t L (prior h q a l) = 0
-postedBy s t L (verify h q kind capacity right first last) = 0
-postedBy s t L (migrate term sink lines) = 0
-postedBy s t L (openTier tier) = 0
-postedBy s t L (nominate h q kw) = 0
-postedBy s t L (award h q kw) = 0
-postedBy s t L closeTier = 0
+abbrev neither : ℕ → ℕ → ℕ
+neither x y = 0
 
--- the kW of a holder's nominate call at the base
-unfoldable pub nominatedBy : Opening → ℕ → ℕ → Ledger → Call → ℕ
-nominatedBy o h b L (load x s term contract n blocks) = 0
-nominatedBy o h b L (carry x p kw) = 0
-nominatedBy o h b L (prior x p a l) = 0
-nominatedBy o h b L (verify x s kind capacity right first last) = 0
-nominatedBy o h b L (migrate term sink lines) = 0
-nominatedBy o h b L (openTier tier) = 0
-nominatedBy o h b L (nominate x p kw) = countIf (eqb h x && endsAt o b p) kw
-nominatedBy o h b L (award x p kw) = 0
-nominatedBy o h b L closeTier = 0
+unfoldable pub nothing : Contribution
+nothing = record { carried = none; awarded = neither; posted = neither; nominated = neither; closes = false }
+
+-- 01, The plain ledger: a load posts at its sink and term, a carry brings in on its path, an award counts on its path in tiers 1 to 3 for every month and else for
+-- the tier's own, a nomination counts at its path's base, a close ends the tier; the other calls add nothing
+unfoldable pub contribution : Opening → Ledger → Call → Contribution
+contribution o L (load h s term contract n blocks) = record { carried = none; awarded = neither; posted = λ q t. countIf (eqb q s && eqb t term) (loadPosted contract blocks); nominated = neither; closes = false }
+contribution o L (carry h p kw) = record { carried = λ q. countIf (eqb q p) kw; awarded = neither; posted = neither; nominated = neither; closes = false }
+contribution o L (prior h p a l) = nothing
+contribution o L (verify h s kind capacity right first last) = nothing
+contribution o L (migrate term sink lines) = nothing
+contribution o L (openTier tier) = nothing
+contribution o L (nominate h p kw) = record { carried = none; awarded = neither; posted = neither; nominated = λ x b. countIf (eqb x h && endsAt o b p) kw; closes = false }
+contribution o L (award h p kw) = record { carried = none; awarded = λ q m. countIf (eqb q p && hasMonth (termOf (L .tiers .openNow)) m) kw; posted = neither; nominated = neither; closes = false }
+contribution o L closeTier = record { carried = none; awarded = neither; posted = neither; nominated = neither; closes = true }
 
 -- MW carried in on a path, MW awarded on a path for a month, load posted at a sink and term, from the book's opening on
 unfoldable pub carriedIn : Opening → List Call → ℕ → ℕ
-carriedIn o cs p = sumAccepted (carriedBy p) o emptyLedger cs
+carriedIn o cs p = sumAccepted (λ L c. contribution o L c .carried p) o emptyLedger cs
 
 unfoldable pub awardedIn : Opening → List Call → ℕ → ℕ → ℕ
-awardedIn o cs p m = sumAccepted (awardedBy p m) o emptyLedger cs
+awardedIn o cs p m = sumAccepted (λ L c. contribution o L c .awarded p m) o emptyLedger cs
 
 unfoldable pub postedIn : Opening → List Call → ℕ → ℕ → ℕ
-postedIn o cs s t = sumAccepted (postedBy s t) o emptyLedger cs
-
-unfoldable pub isClose : Call → Bool
-isClose (load h s term contract n blocks) = false
-isClose (carry h p kw) = false
-isClose (prior h p a l) = false
-isClose (verify h s kind capacity right first last) = false
-isClose (migrate term sink lines) = false
-isClose (openTier tier) = false
-isClose (nominate h p kw) = false
-isClose (award h p kw) = false
-isClose closeTier = true
+postedIn o cs s t = sumAccepted (λ L c. contribution o L c .posted s t) o emptyLedger cs
 
 -- the calls of a list up to the first close that is accepted, or all of them
 unfoldable pub untilClose : Opening → Ledger → List Call → List Call
 untilClose o L [] = []
-untilClose o L (c ∷ cs) = cond (isClose c && accepted o L c) [] (c ∷ untilClose o (step o L c) cs)
+untilClose o L (c ∷ cs) = cond (contribution o L c .closes && accepted o L c) [] (c ∷ untilClose o (step o L c) cs)
 
 -- what a holder nominated at a base in the tier that the ledger has just opened: from there to the tier's close, or so far
 unfoldable pub nominatedIn : Opening → Ledger → List Call → ℕ → ℕ → ℕ
-nominatedIn o opened cs h b = sumAccepted (nominatedBy o h b) o opened (untilClose o opened cs)
+nominatedIn o opened cs h b = sumAccepted (λ L c. contribution o L c .nominated h b) o opened (untilClose o opened cs)

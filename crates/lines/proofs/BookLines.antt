@@ -14,6 +14,7 @@ use Rattle.lines.specs.Counted.{bytesOfLines, rowsCounted, countedOf, wi
 use Rattle.lines.specs.BookLines.{keeps, bookLinesWhole, bookLinesOf}
 use Rattle.lines.proofs.KeptFields.{fields-kept}
 use Rattle.lines.proofs.LineBytes.{bytes-add, bytes-within, rows-after}
+use Rattle.lines.specs.Text.{maxLines}
 
 -- an array that a field of each row was stored in has them in front
 in-front : (j : ℕ) (rows : List Row) (numbers old : List ℕ) → numbers ≡ withField j rows old → keeps (map (field j) rows) numbers
@@ -48,7 +49,7 @@ module _ (s : List ℕ) (n u : ℕ) (here : u ≡ bytesOfLines n s) where
   pub rest-rows : rowsOf rest ≡ drop n (rowsOf s)
   rest-rows = ap rowsOf rest-all ∙ rows-after n s
 
-  pub rest-few : length (rowsOf s) ≤ 4096 → length (rowsOf rest) ≤ 4096
+  pub rest-few : length (rowsOf s) ≤ maxLines → length (rowsOf rest) ≤ maxLines
   rest-few few = let same = ap length rest-rows in let len = length-drop n (rowsOf s) in omega arith
 
   module _ (kind m : ℕ) where

@@ -14,7 +14,7 @@ use Rattle.tariff.proofs.Tests.{and-left-false}
 use Rattle.lines.specs.declared.rows.Row.{Row}
 use Rattle.lines.specs.declared.counted.Counted.{Counted}
 use Rattle.lines.specs.declared.lines.NextRow.{NextRow}
-use Rattle.lines.specs.Text.{linesOf}
+use Rattle.lines.specs.Text.{linesOf, maxLines}
 use Rattle.lines.specs.Rows.{rowsOf, field, allOfKind, counted}
 use Rattle.lines.specs.Reading.{firstBytes, nextRow}
 use Rattle.lines.specs.Counted.{bytesOfLines, rowsCounted, countedOf, withField}
@@ -101,7 +101,7 @@ module _ (s : List ℕ) (kind count k used : ℕ) (whole : Bool) (f : SoFar s ki
         }
 
     -- a turn stores the row's field behind those before it
-    pub stored : (j : ℕ) (numbers old : List ℕ) → length numbers ≡ 4096 → length (rowsOf s) ≤ 4096 → old ≡ withField j (take k (rowsOf s)) numbers → set old k (field j next) ≡ withField j (take (k + 1) (rowsOf s)) numbers
+    pub stored : (j : ℕ) (numbers old : List ℕ) → length numbers ≡ maxLines → length (rowsOf s) ≤ maxLines → old ≡ withField j (take k (rowsOf s)) numbers → set old k (field j next) ≡ withField j (take (k + 1) (rowsOf s)) numbers
     stored j numbers old len few e =
         let many = length-take-le k (rowsOf s) (f .inRows) in
         let below = row-below in
@@ -118,7 +118,7 @@ module _ (s : List ℕ) (kind count k used : ℕ) (whole : Bool) (f : SoFar s ki
       pub turn : k < count → SoFar s kind count (k + 1) (used + x .used) (whole && eqb (x .row .kind) kind)
       turn l = subst (λ y. SoFar s kind count (k + 1) (used + y .used) (whole && eqb (y .row .kind) kind)) (sym e) (read-more l)
 
-      pub turn-stored : (j : ℕ) (numbers old : List ℕ) → length numbers ≡ 4096 → length (rowsOf s) ≤ 4096 → old ≡ withField j (take k (rowsOf s)) numbers → set old k (getD (x .row .fields) j 0) ≡ withField j (take (k + 1) (rowsOf s)) numbers
+      pub turn-stored : (j : ℕ) (numbers old : List ℕ) → length numbers ≡ maxLines → length (rowsOf s) ≤ maxLines → old ≡ withField j (take k (rowsOf s)) numbers → set old k (getD (x .row .fields) j 0) ≡ withField j (take (k + 1) (rowsOf s)) numbers
       unfolding field
       turn-stored j numbers old len few p = ap (λ y. set old k (field j (y .row))) e ∙ stored j numbers old len few p
 
@@ -126,7 +126,7 @@ module _ (s : List ℕ) (kind count k used : ℕ) (whole : Bool) (f : SoFar s ki
       turn-within = le-trans (le-of-eq (ap (λ y. used + y .used) e)) next-within
 
   -- an array keeps its length
-  pub kept-length : (j : ℕ) (numbers old : List ℕ) → length numbers ≡ 4096 → length (rowsOf s) ≤ 4096 → old ≡ withField j (take k (rowsOf s)) numbers → length old ≡ length numbers
+  pub kept-length : (j : ℕ) (numbers old : List ℕ) → length numbers ≡ maxLines → length (rowsOf s) ≤ maxLines → old ≡ withField j (take k (rowsOf s)) numbers → length old ≡ length numbers
   unfolding withField
   kept-length j numbers old len few e =
       let rows = take k (rowsOf s) in

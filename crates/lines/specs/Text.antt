@@ -8,6 +8,13 @@ use lib.ListN.{length, getD}
 use lib.Dec.{eqb, ltb}
 use Rattle.tariff.specs.Ranges.{within}
 
+-- the most bytes and lines that a run takes
+abbrev pub maxBytes : ℕ
+maxBytes = 65536
+
+abbrev pub maxLines : ℕ
+maxLines = 4096
+
 -- the bytes of a word
 unfoldable pub bytesOf : String → List ℕ
 bytesOf none = []

@@ -5,6 +5,7 @@ use crate::rows::HOLDER;
 use crate::rows::PATH;
 use crate::rows::Row;
 use crate::rows::SINK;
+use crate::text::MAX_LINES;
 ghost use Prim.Native.Nat.{_≤_};
 ghost use mathlib.Core.Path.{_≡_};
 ghost use mathlib.Core.List.{map};
@@ -12,16 +13,17 @@ ghost use lib.ListN.{length};
 ghost use Rattle.lines.specs.Rows.{rowsOf, field, holderRows, sinkRows, pathRows};
 ghost use Rattle.lines.specs.Counted.{rowsCounted, countedOf, withField};
 ghost use Rattle.lines.specs.BookLines.{keeps, bookLinesOf};
+ghost use Rattle.lines.specs.Text.{maxLines};
 
 // Reads lines of at most two fields, as holder, sink and path lines are, and keeps both.
 fn read_pairs(rest: &[u8], kind: u64, count: u64, a: &mut [u64], b: &mut [u64]) -> Counted
-    requires { ⌜ (length (rowsOf (now rest)) ≤ 4096) × (length (now a) ≡ 4096) × (length (now b) ≡ 4096) ⌝ }
+    requires { ⌜ (length (rowsOf (now rest)) ≤ maxLines) × (length (now a) ≡ maxLines) × (length (now b) ≡ maxLines) ⌝ }
     ensures { λ r. ⌜ (r ≡ countedOf kind count (now (rest .entry))) × (now (a .exit) ≡ withField 0 (rowsCounted count (now (rest .entry))) (now (a .entry))) × (now (b .exit) ≡ withField 1 (rowsCounted count (now (rest .entry))) (now (b .entry))) ⌝ }
 {
     // Room for the further fields, which nothing reads.
-    let mut c = [0u64; 4096];
-    let mut d = [0u64; 4096];
-    let mut e = [0u64; 4096];
+    let mut c = [0u64; MAX_LINES];
+    let mut d = [0u64; MAX_LINES];
+    let mut e = [0u64; MAX_LINES];
     read_counted(rest, kind, count, a, b, &mut c, &mut d, &mut e)
 }
 
@@ -35,7 +37,7 @@ pub fn read_book_lines(
     d: &mut [u64],
     e: &mut [u64],
 ) -> Counted
-    requires { ⌜ (length (rowsOf (now rest)) ≤ 4096) × (length (now a) ≡ 4096) × (length (now b) ≡ 4096) × (length (now c) ≡ 4096) × (length (now d) ≡ 4096) × (length (now e) ≡ 4096) ⌝ }
+    requires { ⌜ (length (rowsOf (now rest)) ≤ maxLines) × (length (now a) ≡ maxLines) × (length (now b) ≡ maxLines) × (length (now c) ≡ maxLines) × (length (now d) ≡ maxLines) × (length (now e) ≡ maxLines) ⌝ }
     ensures { λ r. ⌜ (r ≡ bookLinesOf head (now (rest .entry))) × keeps (map (field 0) (holderRows head (rowsOf (now (rest .entry))))) (now (a .exit)) × keeps (map (field 0) (sinkRows head (rowsOf (now (rest .entry))))) (now (b .exit)) × keeps (map (field 1) (sinkRows head (rowsOf (now (rest .entry))))) (now (c .exit)) × keeps (map (field 0) (pathRows head (rowsOf (now (rest .entry))))) (now (d .exit)) × keeps (map (field 1) (pathRows head (rowsOf (now (rest .entry))))) (now (e .exit)) ⌝ }
 {
     let fields = head.fields;

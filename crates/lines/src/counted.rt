@@ -5,6 +5,7 @@ ghost use Prim.Native.Nat.{_≤_};
 ghost use lib.ListN.{length};
 ghost use Rattle.lines.specs.Rows.{rowsOf};
 ghost use Rattle.lines.specs.Counted.{rowsCounted, countedOf, withField};
+ghost use Rattle.lines.specs.Text.{maxLines};
 
 // Whether there are as many lines as counted, all of one kind, and how many bytes they take.
 pub struct Counted {
@@ -23,7 +24,7 @@ pub fn read_counted(
     d: &mut [u64],
     e: &mut [u64],
 ) -> Counted
-    requires { ⌜ (length (rowsOf (now rest)) ≤ 4096) × (length (now a) ≡ 4096) × (length (now b) ≡ 4096) × (length (now c) ≡ 4096) × (length (now d) ≡ 4096) × (length (now e) ≡ 4096) ⌝ }
+    requires { ⌜ (length (rowsOf (now rest)) ≤ maxLines) × (length (now a) ≡ maxLines) × (length (now b) ≡ maxLines) × (length (now c) ≡ maxLines) × (length (now d) ≡ maxLines) × (length (now e) ≡ maxLines) ⌝ }
     ensures { λ r. ⌜ (r ≡ countedOf kind count (now (rest .entry))) × (now (a .exit) ≡ withField 0 (rowsCounted count (now (rest .entry))) (now (a .entry))) × (now (b .exit) ≡ withField 1 (rowsCounted count (now (rest .entry))) (now (b .entry))) × (now (c .exit) ≡ withField 2 (rowsCounted count (now (rest .entry))) (now (c .entry))) × (now (d .exit) ≡ withField 3 (rowsCounted count (now (rest .entry))) (now (d .entry))) × (now (e .exit) ≡ withField 4 (rowsCounted count (now (rest .entry))) (now (e .entry))) ⌝ }
 {
     let mut whole = true;

@@ -4,7 +4,7 @@ use mathlib.Core.Path.{_≡_, sym, ap, _∙_, subst}
 use mathlib.Core.Bool.{Bool, true, false, cond}
 use mathlib.Core.List.{List}
 use mathlib.Core.Logic.{_⊎_, inl, inr}
-use native.Mathlib.Nat.{div-zero, le-trans, le-of-eq, lt-of-le-of-lt}
+use native.Mathlib.Nat.{div-zero, mul-zero, zero-div, le-trans, le-of-eq, lt-of-le-of-lt}
 use native.Mathlib.Omega.{arith}
 use lib.ListN.{length, getD, set}
 use lib.Seq.{getD-set-same, getD-set-other}
@@ -23,6 +23,10 @@ use Rattle.migration.proofs.Shifts.{shift-sum}
 pub share-none : (v m load : ℕ) → load ≡ 0 → 0 ≡ share v m load
 unfolding share
 share-none v m load e = sym (ap (λ l. v * m / l) e ∙ div-zero (v * m))
+
+pub share-with-nothing : (v m load : ℕ) → m ≡ 0 → 0 ≡ share v m load
+unfolding share
+share-with-nothing v m load e = sym (ap (λ n. v * n / load) e ∙ ap (λ n. n / load) (mul-zero v) ∙ zero-div load)
 
 -- the share of a cell
 abbrev pub shareCell : List ℕ → List ℕ → List ℕ → ℕ → ℕ

@@ -6,11 +6,14 @@ ghost use Rattle.tariff.specs.Sum.{sumTo};
 ghost use Rattle.migration.specs.Migration.{share};
 ghost use Rattle.migration.specs.Netting.{pairAt, ProductsFit, PartsFit, shareCells, shiftedCells};
 
-// The share of a record that goes with m of a load. Of no load nothing goes.
+// The share of a record that goes with m of a load. Nothing goes with nothing, and of no load nothing goes.
 fn share_of(v: u64, m: u64, load: u64) -> u64
     requires { ⌜ v * m < 2 ^ 64 ⌝ }
     ensures { λ r. ⌜ r ≡ share v m load ⌝ }
 {
+    if m == 0 {
+        return 0;
+    }
     if load == 0 {
         return 0;
     }

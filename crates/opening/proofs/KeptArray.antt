@@ -9,7 +9,7 @@ use lib.Seq.{length-take-le, take-all, take-at}
 use borrow.Rule.Slice.PartMut.{midOf, postOf, putMid, same-len-mid}
 use Rattle.tariff.specs.Sum.{listTo}
 use Rattle.tariff.proofs.Lists.{length-list-to}
-use Rattle.records.specs.Opening.{setupOf, setupArray, openingArray, openingFrom, emptyOpening}
+use Rattle.records.specs.Opening.{openingArray, openingFrom, emptyOpening}
 
 -- a list with room for some entries
 abbrev listed : ℕ → List ℕ → List ℕ
@@ -94,10 +94,10 @@ module _ (o : List ℕ) (size : length o ≡ 76) (holders sources sinks paths : 
                 ∙ ap (λ z. ((((z ++ listed 8 holderKinds) ++ listed 16 sinkKinds) ++ listed 16 sinkParents) ++ listed 16 pathSources) ++ listed 16 pathSinks) (counts-first o holders sources sinks paths (omega arith))
 
             pub opening-kept : to5 ≡ openingArray (openingFrom holders sources sinks paths holderKinds sinkKinds sinkParents pathSources pathSinks)
-            unfolding openingArray setupArray setupOf openingFrom
+            unfolding openingArray openingFrom
             opening-kept = copied-all ∙ simp append-assoc
 
 -- an array with nothing but 0 keeps the opening with nothing in it
 pub empty-kept : listTo 76 (λ k. 0) ≡ openingArray emptyOpening
-unfolding openingArray setupArray setupOf emptyOpening listTo
+unfolding openingArray emptyOpening listTo
 empty-kept = refl

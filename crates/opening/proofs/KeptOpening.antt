@@ -4,18 +4,16 @@ use mathlib.Core.Path.{_≡_, refl, sym, ap, _∙_}
 use mathlib.Core.Bool.{Bool, true, false, cond, _&&_}
 use mathlib.Core.List.{List}
 use native.Mathlib.Omega.{arith}
-use lib.ListN.{length, take}
+use lib.ListN.{length, getD, take, drop}
 use lib.Seq.{length-take-le}
 use borrow.Author.Tests.{eq-eqb}
 use borrow.Rule.Slice.PartMut.{mid-len}
 use Rattle.tariff.specs.Sum.{allBelow, listTo}
 use Rattle.tariff.proofs.Tests.{and-join, and-right-false}
 use Rattle.ledger.specs.Opening.{Opening, countsFit, listsFit, holderLegal, sinkLegal, pathLegal, pathNew, legal, openingRefusal}
-use Rattle.records.specs.Parts.{Setup}
 use Rattle.records.specs.declared.answers.Answer.the-variants.{Done, Refused}
-use Rattle.records.specs.Opening.{openingOf, openingIn, openingArray, setupIn, setupOf, emptyOpening}
+use Rattle.records.specs.Opening.{openingCount, openingIn, openingArray, emptyOpening}
 use Rattle.records.proofs.OpeningLaws.{counts-small, fitting-back}
-use Rattle.records.proofs.ReachedParts.{Roomy, setup-back}
 use Rattle.opening.specs.Opened.{openedAnswer, openedOpening}
 use Rattle.opening.proofs.KeptArray.{empty-kept}
 
@@ -28,55 +26,43 @@ unfit-lists : (o : Opening) → listsFit o ≡ false → legal o ≡ false
 unfolding legal
 unfit-lists o e = rw (and-right-false (countsFit o) e)
 
--- where the counts fit, a setup has as many entries of each list as are counted
+-- where the counts fit, an array has as many entries of each list as are counted
 counted : (n room : ℕ) (xs : List ℕ) → length xs ≡ room → n ≤ room → length (take n xs) ≡ n
 counted n room xs len few = length-take-le n xs (rw len few)
 
-setup-lists : (s : Setup) → Roomy s → countsFit (openingOf s) ≡ true → listsFit (openingOf s) ≡ true
-unfolding listsFit openingOf
-setup-lists s r e =
-    let n = counts-small (openingOf s) e in
+array-lists : (o : List ℕ) → length o ≡ openingCount → countsFit (openingIn o) ≡ true → listsFit (openingIn o) ≡ true
+unfolding listsFit openingIn
+array-lists o size e =
+    let n = counts-small (openingIn o) e in
     and-join
     (and-join
     (and-join
     (and-join
-    (eq-eqb _ _ (counted (s .holders) 8 (s .holderKinds) (r .holderKinds) (n .0)))
-    (eq-eqb _ _ (counted (s .sinks) 16 (s .sinkKinds) (r .sinkKinds) (n .1))))
-    (eq-eqb _ _ (counted (s .sinks) 16 (s .sinkParents) (r .sinkParents) (n .1))))
-    (eq-eqb _ _ (counted (s .paths) 16 (s .pathSources) (r .pathSources) (n .2))))
-    (eq-eqb _ _ (counted (s .paths) 16 (s .pathSinks) (r .pathSinks) (n .2)))
-
-array-roomy : (o : List ℕ) → length o ≡ 76 → Roomy (setupIn o)
-unfolding setupIn
-array-roomy o size =
-    record {
-      holderKinds = mid-len 4 12 o (omega arith);
-      sinkKinds = mid-len 12 28 o (omega arith);
-      sinkParents = mid-len 28 44 o (omega arith);
-      pathSources = mid-len 44 60 o (omega arith);
-      pathSinks = mid-len 60 76 o (omega arith);
-    }
+    (eq-eqb _ _ (counted (getD o 0 0) 8 (take 8 (drop 4 o)) (mid-len 4 12 o (omega arith)) (n .0)))
+    (eq-eqb _ _ (counted (getD o 2 0) 16 (take 16 (drop 12 o)) (mid-len 12 28 o (omega arith)) (n .1))))
+    (eq-eqb _ _ (counted (getD o 2 0) 16 (take 16 (drop 28 o)) (mid-len 28 44 o (omega arith)) (n .1))))
+    (eq-eqb _ _ (counted (getD o 3 0) 16 (take 16 (drop 44 o)) (mid-len 44 60 o (omega arith)) (n .2))))
+    (eq-eqb _ _ (counted (getD o 3 0) 16 (take 16 (drop 60 o)) (mid-len 60 76 o (omega arith)) (n .2)))
 
 -- where the counts fit, an array is legal by its holders, sinks and paths
-pub legal-by-lines : (o : List ℕ) → length o ≡ 76 → countsFit (openingIn o) ≡ true → (allBelow (openingIn o .holders) (holderLegal (openingIn o)) && allBelow (openingIn o .sinks) (sinkLegal (openingIn o)) && allBelow (openingIn o .paths) (pathLegal (openingIn o)) && allBelow (openingIn o .paths) (pathNew (openingIn o))) ≡ legal (openingIn o)
+pub legal-by-lines : (o : List ℕ) → length o ≡ openingCount → countsFit (openingIn o) ≡ true → (allBelow (openingIn o .holders) (holderLegal (openingIn o)) && allBelow (openingIn o .sinks) (sinkLegal (openingIn o)) && allBelow (openingIn o .paths) (pathLegal (openingIn o)) && allBelow (openingIn o .paths) (pathNew (openingIn o))) ≡ legal (openingIn o)
 unfolding legal openingIn
-legal-by-lines o size e = rw (e, setup-lists (setupIn o) (array-roomy o size) e)
+legal-by-lines o size e = rw (e, array-lists o size e)
 
--- a setup keeps the counts as they are
-counts-same : (o : Opening) → countsFit (openingOf (setupOf o)) ≡ countsFit o
-unfolding countsFit openingOf setupOf
+-- an array keeps the counts as they are
+counts-same : (o : Opening) → countsFit (openingIn (openingArray o)) ≡ countsFit o
+unfolding countsFit openingIn openingArray
 counts-same o = refl
 
 module _ (o : Opening) (kept : List ℕ) (keeps : kept ≡ openingArray o) where
   -- the lists fit and the array is legal just where the opening is
   legal-kept : (listsFit o && legal (openingIn kept)) ≡ legal o
-  unfolding openingIn
-  legal-kept = ap (λ x. listsFit o && legal (openingOf x)) (ap setupIn keeps ∙ setup-back o) ∙ go (listsFit o) (countsFit o) refl refl
+  legal-kept = ap (λ x. listsFit o && legal (openingIn x)) keeps ∙ go (listsFit o) (countsFit o) refl refl
     where
-      go : (l n : Bool) → listsFit o ≡ l → countsFit o ≡ n → (l && legal (openingOf (setupOf o))) ≡ legal o
+      go : (l n : Bool) → listsFit o ≡ l → countsFit o ≡ n → (l && legal (openingIn (openingArray o))) ≡ legal o
       go false n p q = sym (unfit-lists o p)
       go true true p q = ap legal (fitting-back o q p)
-      go true false p q = unfit-counts (openingOf (setupOf o)) (counts-same o ∙ q) ∙ sym (unfit-counts o q)
+      go true false p q = unfit-counts (openingIn (openingArray o)) (counts-same o ∙ q) ∙ sym (unfit-counts o q)
 
   module _ {lists lines : Bool} (ofLists : lists ≡ listsFit o) (ofLines : lines ≡ legal (openingIn kept)) where
     tested : {t : Bool} → (lists && lines) ≡ t → legal o ≡ t
@@ -88,7 +74,7 @@ module _ (o : Opening) (kept : List ℕ) (keeps : kept ≡ openingArray o) where
         let t = tested e in
         (sym (ap (λ t. cond t Done (Refused (openingRefusal o))) t), keeps ∙ sym (ap (λ t. openingArray (cond t o emptyOpening)) t))
 
-    pub opened-refused : (left : List ℕ) → (lists && lines) ≡ false → left ≡ listTo 76 (λ k. 0) → (Refused 16 ≡ openedAnswer o) × (left ≡ openingArray (openedOpening o))
+    pub opened-refused : (left : List ℕ) → (lists && lines) ≡ false → left ≡ listTo openingCount (λ k. 0) → (Refused 16 ≡ openedAnswer o) × (left ≡ openingArray (openedOpening o))
     unfolding openedAnswer openedOpening openingRefusal
     opened-refused left e cleared =
         let t = tested e in

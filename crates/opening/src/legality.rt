@@ -12,7 +12,7 @@ ghost use mathlib.Core.Path.{_≡_};
 ghost use Rattle.tariff.specs.Sum.{allBelow};
 ghost use Rattle.ledger.specs.Opening.{countsFit, holderLegal, parentLegal, sinkLegal, pathLegal, pathsAlike, pathNew, legal};
 ghost use lib.ListN.{length};
-ghost use Rattle.records.specs.Opening.{openingIn};
+ghost use Rattle.records.specs.Opening.{openingCount, openingIn};
 
 // At most 8 holders, 16 sources, 16 sinks and 16 paths.
 fn counts_fit(o: &[u64]) -> bool
@@ -136,7 +136,7 @@ fn paths_differ(o: &[u64]) -> bool
 
 // The opening breaks no rule. The counts come first, as they bound the loops of the rest.
 pub fn is_legal(o: &[u64]) -> bool
-    requires { ⌜ length (now o) ≡ 76 ⌝ }
+    requires { ⌜ length (now o) ≡ openingCount ⌝ }
     ensures { λ r. ⌜ r ≡ legal (openingIn (now (o .entry))) ⌝ }
 {
     if !counts_fit(o) {

@@ -4,7 +4,7 @@ ghost use Prim.Native.Nat.{ℕ};
 ghost use lib.ListN.{length, getD};
 ghost use Rattle.tariff.specs.Sum.{listTo};
 ghost use Rattle.ledger.specs.Opening.{listsFit};
-ghost use Rattle.records.specs.Opening.{openingArray, openingFrom};
+ghost use Rattle.records.specs.Opening.{openingCount, openingArray, openingFrom};
 
 // A list copied into an array: 0 past the list's end, and what finds no room is left out.
 fn copy_into(to: &mut [u64], from: &[u64])
@@ -30,7 +30,7 @@ pub fn keep_opening(
     path_sources: &[u64],
     path_sinks: &[u64],
 )
-    requires { ⌜ length (now o) ≡ 76 ⌝ }
+    requires { ⌜ length (now o) ≡ openingCount ⌝ }
     ensures { λ r. ⌜ now (o .exit) ≡ openingArray (openingFrom holders sources sinks paths (now («holder_kinds» .entry)) (now («sink_kinds» .entry)) (now («sink_parents» .entry)) (now («path_sources» .entry)) (now («path_sinks» .entry))) ⌝ }
 {
     o[0] = holders;

@@ -3,10 +3,10 @@ use crate::legality::is_legal;
 use crate::lists::keep_opening;
 use crate::lists::lists_fit;
 use records::answers::Answer;
-use records::cells::clear;
+use records::lists::clear;
 ghost use mathlib.Core.Path.{_≡_};
 ghost use lib.ListN.{length};
-ghost use Rattle.records.specs.Opening.{openingArray, openingFrom};
+ghost use Rattle.records.specs.Opening.{openingCount, openingArray, openingFrom};
 ghost use Rattle.opening.specs.Opened.{openedAnswer, openedOpening};
 
 // Opens a book, for any counts and slices. A refused one leaves an opening with nothing in it, so that what is left is always a book.
@@ -22,7 +22,7 @@ pub fn open(
     path_sources: &[u64],
     path_sinks: &[u64],
 ) -> Answer
-    requires { ⌜ length (now o) ≡ 76 ⌝ }
+    requires { ⌜ length (now o) ≡ openingCount ⌝ }
     ensures { λ r. ⌜ (r ≡ openedAnswer (openingFrom holders sources sinks paths (now («holder_kinds» .entry)) (now («sink_kinds» .entry)) (now («sink_parents» .entry)) (now («path_sources» .entry)) (now («path_sinks» .entry)))) × (now (o .exit) ≡ openingArray (openedOpening (openingFrom holders sources sinks paths (now («holder_kinds» .entry)) (now («sink_kinds» .entry)) (now («sink_parents» .entry)) (now («path_sources» .entry)) (now («path_sinks» .entry))))) ⌝ }
 {
     keep_opening(

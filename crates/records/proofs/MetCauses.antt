@@ -1,15 +1,11 @@
 -- Causes found one after the other: each that is met returns its number at once. Assumes nothing.
-use Prim.Native.Nat.{ℕ, _≤_, _<_}
+use Prim.Native.Nat.{ℕ, _≤_}
 use mathlib.Core.Path.{_≡_, sym, ap, ap₂, _∙_}
 use mathlib.Core.Bool.{Bool, true, false, cond, _||_}
 use mathlib.Core.List.{List, _∷_}
-use borrow.Author.Tests.{leb-false}
 use Rattle.tariff.specs.Ranges.{wrongKw}
-use Rattle.ledger.specs.Ranges.{noHolder, noPath}
 use Rattle.ledger.specs.Numbers.{Cause, cause, firstMet}
 use Rattle.ledger.proofs.Unmet.{kw-in-range}
-use Rattle.records.specs.Parts.{Setup}
-use Rattle.records.specs.Opening.{openingOf}
 
 -- a cause that is met ends the search, and one that is not leaves it to the later ones
 pub met-first : (number : ℕ) (test : Bool) (rows : List Cause) → test ≡ true → number ≡ firstMet (cause number test ∷ rows)
@@ -20,15 +16,7 @@ pub unmet-first : (number : ℕ) (test : Bool) (rows : List Cause) {r : ℕ} →
 unfolding firstMet
 unmet-first number test rows {r} e later = later ∙ sym (ap (λ t. cond t number (firstMet rows)) e)
 
--- a holder, a path and a kW that meet causes 2 and 3 no more
-pub holder-in-book : (s : Setup) (h : ℕ) {no : Bool} → no ≡ noHolder (openingOf s) h → no ≡ false → h < s .holders
-unfolding noHolder openingOf
-holder-in-book s h e f = leb-false _ _ (sym e ∙ f)
-
-pub path-in-book : (s : Setup) (p : ℕ) {no : Bool} → no ≡ noPath (openingOf s) p → no ≡ false → p < s .paths
-unfolding noPath openingOf
-path-in-book s p e f = leb-false _ _ (sym e ∙ f)
-
+-- a kW that meets cause 3 no more
 pub kw-within : (kw : ℕ) {wrong : Bool} → wrong ≡ wrongKw kw → wrong ≡ false → kw ≤ 99999999
 kw-within kw e f = kw-in-range kw (sym e ∙ f) .1
 

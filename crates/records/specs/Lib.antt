@@ -1,8 +1,3 @@
--- A book's arrays as the ledger sees them, and the ledger as arrays.
-pub mod Cells
-pub mod Parts
+-- The opening that stands in an array, and the ledger's answers as code gives them.
 pub mod Opening
-pub mod Reading
-pub mod Layout
-pub mod Handed
-pub mod Sums
+pub mod Answers

@@ -1,27 +1,9 @@
 // When a call can run, by the tier last closed and the open one (01, Tiers; cause 4).
-use crate::cells::number_at;
-use crate::layout::LAST_CLOSED;
-use crate::layout::OPEN_NOW;
 ghost use mathlib.Core.Path.{_≡_};
 ghost use mathlib.Core.Bool.{not, _&&_, _||_};
 ghost use lib.Dec.{leb, ltb, eqb};
 ghost use Prim.Native.Nat.{suc};
 ghost use Rattle.tariff.specs.Terms.{firstTierOf};
-ghost use Rattle.records.specs.Layout.{lastClosedIn, openTierIn};
-
-// The tier last closed, 0 for none.
-pub fn last_closed(figures: &[u64]) -> u64
-    ensures { λ r. ⌜ r ≡ lastClosedIn (now (figures .entry)) ⌝ }
-{
-    number_at(figures, LAST_CLOSED)
-}
-
-// The open tier, 0 for none.
-pub fn open_now(figures: &[u64]) -> u64
-    ensures { λ r. ⌜ r ≡ openTierIn (now (figures .entry)) ⌝ }
-{
-    number_at(figures, OPEN_NOW)
-}
 
 // A tier is open.
 pub fn is_open(open_now: u64) -> bool

@@ -1,10 +1,8 @@
-// A book's arrays, lent as slices: its opening, its figures and its marks; what stands where, and what a call reads of them.
+// What every call reads beside a book's figures: the opening kept in an array, the calendar's tests, the causes and their numbers, the answers.
 
 pub mod answers;
 pub mod calendar;
-pub mod cells;
-pub mod layout;
-pub mod months;
+pub mod lists;
 pub mod numbers;
 pub mod refusals;
 pub mod setup;

@@ -1,11 +1,14 @@
 // What a book was opened with, kept in an array (01, The book): the four counts, then what stands on the line of each holder, sink and path.
-use crate::cells::listed;
-use crate::cells::number_at;
+use crate::lists::listed;
+use crate::lists::number_at;
 ghost use mathlib.Core.Path.{_≡_};
 ghost use Rattle.ledger.specs.Opening.{holderKind, sinkKind, base, pathSource, pathSink, pathBase};
 ghost use Rattle.ledger.specs.Ranges.{noHolder, noSource, noSink, noPath};
 ghost use Rattle.ledger.specs.Causes.{sinkNotFor, isSubLap};
 ghost use Rattle.records.specs.Opening.{openingIn};
+
+// How many numbers keep an opening.
+pub const OPENING: usize = 76;
 
 pub fn holders(o: &[u64]) -> u64
     ensures { λ r. ⌜ r ≡ openingIn (now (o .entry)) .holders ⌝ }

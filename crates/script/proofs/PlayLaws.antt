@@ -15,14 +15,14 @@ use Rattle.slots.specs.Layout.{figureCount, postedCount, evidenceOf}
 use Rattle.records.specs.declared.answers.Answer.{Answer}
 use Rattle.book.specs.declared.book.Book.{Book}
 use Rattle.book.specs.declared.book.Answered.{Answered}
-use Rattle.records.specs.Handed.{answerIn}
+use Rattle.records.specs.Answers.{answerIn}
 use Rattle.book.specs.Reading.{bookIn, bookOf}
 use Rattle.book.specs.Handed.{refusedWith}
 use Rattle.book.specs.Reachable.{Reachable}
 use Rattle.lines.specs.declared.lines.NextRow.{NextRow}
 use Rattle.book.proofs.EmptyBook.{empty-figures, empty-posted}
 use Rattle.lines.specs.Rows.{rowsOf}
-use Rattle.lines.specs.Text.{linesOf}
+use Rattle.lines.specs.Text.{linesOf, maxLines}
 use Rattle.lines.specs.Reading.{nextRow}
 use Rattle.lines.specs.Counted.{bytesOfLines, rowsCounted}
 use Rattle.lines.specs.Writing.{writtenAt}
@@ -96,7 +96,7 @@ text-none b = refl
 pub record PlayedTo (script : List ℕ) (first : Book) (from start : ℕ) (out₀ out : List ℕ) (b : Book) (at written : ℕ) : Type 0 where
   pub reached : Reachable b
   pub inScript : at ≤ length script
-  pub few : length (rowsOf (drop at script)) ≤ 4096
+  pub few : length (rowsOf (drop at script)) ≤ maxLines
   pub room : written + 16 * length (rowsOf (drop at script)) ≤ length out₀
   pub done : List ℕ
   pub place : written ≡ start + length done
@@ -113,7 +113,7 @@ module _ (script o : List ℕ) (x : List Entry) (from start : ℕ) (out : List �
   abbrev opened : Book
   opened = bookOf o emptyLedger
 
-  none-answered : Reachable opened → from ≤ length script → length (rowsOf (drop from script)) ≤ 4096 → start + 16 * length (rowsOf (drop from script)) ≤ length out → PlayedTo script opened from start out out opened from start
+  none-answered : Reachable opened → from ≤ length script → length (rowsOf (drop from script)) ≤ maxLines → start + 16 * length (rowsOf (drop from script)) ≤ length out → PlayedTo script opened from start out out opened from start
   unfolding writtenAt
   none-answered r l few room =
       record {
@@ -130,7 +130,7 @@ module _ (script o : List ℕ) (x : List Entry) (from start : ℕ) (out : List �
       nothing-written : (at : ℕ) (out : List ℕ) → take at out ++ [] ++ drop (at + 0) out ≡ out
       nothing-written at out = ap (λ front. front ++ drop (at + 0) out) (append-nil (take at out)) ∙ ap (λ n. take at out ++ drop n out) (add-zero at) ∙ take-append-drop at out
 
-  pub none-played : x ≡ evidenceOf emptyLedger → Reachable opened → from ≤ length script → length (rowsOf (drop from script)) ≤ 4096 → start + 16 * length (rowsOf (drop from script)) ≤ length out → PlayedTo script opened from start out out (bookIn o (replicate figureCount 0) (replicate postedCount false) x) from start
+  pub none-played : x ≡ evidenceOf emptyLedger → Reachable opened → from ≤ length script → length (rowsOf (drop from script)) ≤ maxLines → start + 16 * length (rowsOf (drop from script)) ≤ length out → PlayedTo script opened from start out out (bookIn o (replicate figureCount 0) (replicate postedCount false) x) from start
   none-played e r l few room = subst (λ b. PlayedTo script opened from start out out b from start) (opened-book o x e) (none-answered r l few room)
 
 module _ (script : List ℕ) (first : Book) (from start : ℕ) (out₀ out : List ℕ) (b : Book) (at written : ℕ) (f : PlayedTo script first from start out₀ out b at written) where
@@ -168,7 +168,7 @@ module _ (script : List ℕ) (first : Book) (from start : ℕ) (out₀ out : Lis
       behind-is : behind ≡ drop (nextRow rest .used) rest
       behind-is = rest-whole script (at + x .used) ∙ sym (drop-drop (x .used) at script) ∙ ap (λ y. drop (y .used) rest) head-is
 
-      pub behind-few : length (rowsOf behind) ≤ 4096
+      pub behind-few : length (rowsOf behind) ≤ maxLines
       behind-few =
           let here = ap (λ s. length (rowsOf s)) behind-is in
           let all = ap length (first-row rest rest-some) in

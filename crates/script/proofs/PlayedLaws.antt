@@ -8,7 +8,7 @@ use Rattle.ledger.specs.Season as ledger
 use Rattle.ledger.specs.Season.{call, query, after, stepAsk}
 use Rattle.ledger.proofs.Steps.{after-more}
 use Rattle.book.specs.declared.book.Book.{Book}
-use Rattle.records.specs.Handed.{answerIn}
+use Rattle.records.specs.Answers.{answerIn}
 use Rattle.book.specs.Handed.{refusedWith}
 use Rattle.book.specs.Reachable.{Reachable}
 use Rattle.book.proofs.ReachableSteps.{bookAt, at-next, handed-reached}

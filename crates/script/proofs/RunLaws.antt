@@ -14,13 +14,13 @@ use Rattle.ledger.specs.Ledger.{emptyLedger}
 use Rattle.ledger.specs.Season as ledger
 use Rattle.ledger.specs.Season.{after, afterFrom}
 use Rattle.records.specs.declared.answers.Answer.the-variants.{Done, Refused}
-use Rattle.records.specs.Handed.{answerIn}
+use Rattle.records.specs.Answers.{answerIn}
 use Rattle.opening.specs.Opened.{openedAnswer}
 use Rattle.book.specs.Reading.{bookOf}
 use Rattle.book.specs.Opened.{openedAs}
 use Rattle.book.proofs.SeasonAnswers.{opened-at}
 use Rattle.lines.specs.declared.rows.Row.{Row}
-use Rattle.lines.specs.Text.{linesOf}
+use Rattle.lines.specs.Text.{linesOf, maxLines, maxBytes}
 use Rattle.lines.specs.Rows.{rowsOf}
 use Rattle.lines.specs.Reading.{nextRow}
 use Rattle.lines.specs.Writing.{writtenAt}
@@ -99,18 +99,18 @@ module _ (script out : List ℕ) where
   unfolding runNumber runRefusal outputAfter written
   long e = rw e (refl, refl)
 
-  pub long-bytes : 65536 < length script → (1000000 ≡ runNumber script out) × (out ≡ outputAfter script out)
+  pub long-bytes : maxBytes < length script → (1000000 ≡ runNumber script out) × (out ≡ outputAfter script out)
   unfolding tooLong
-  long-bytes l = long (rw (lt-ltb 65536 (length script) l))
+  long-bytes l = long (rw (lt-ltb maxBytes (length script) l))
 
-  pub long-lines : 4096 < length (linesOf script) → (1000000 ≡ runNumber script out) × (out ≡ outputAfter script out)
+  pub long-lines : maxLines < length (linesOf script) → (1000000 ≡ runNumber script out) × (out ≡ outputAfter script out)
   unfolding tooLong
-  long-lines l = long (either (ltb 65536 (length script)) (ltb 4096 (length (linesOf script))) (lt-ltb 4096 (length (linesOf script)) l))
+  long-lines l = long (either (ltb maxBytes (length script)) (ltb maxLines (length (linesOf script))) (lt-ltb maxLines (length (linesOf script)) l))
 
-  module _ (bytes : length script ≤ 65536) (lines : length (linesOf script) ≤ 4096) where
+  module _ (bytes : length script ≤ maxBytes) (lines : length (linesOf script) ≤ maxLines) where
     not-long : tooLong script ≡ false
     unfolding tooLong
-    not-long = rw (le-ltb 65536 (length script) bytes) (le-ltb 4096 (length (linesOf script)) lines)
+    not-long = rw (le-ltb maxBytes (length script) bytes) (le-ltb maxLines (length (linesOf script)) lines)
 
     pub short-output : length out < 16 * length (linesOf script) → (15000000 ≡ runNumber script out) × (out ≡ outputAfter script out)
     unfolding runNumber runRefusal outputAfter written tooShort

@@ -6,7 +6,7 @@ use mathlib.Core.List.{List, _++_}
 use native.Mathlib.Nat.{le-trans, le-of-eq, zero-add}
 use native.Mathlib.Omega.{arith}
 use lib.ListN.{length, drop, length-append}
-use Rattle.records.specs.Handed.{answerIn}
+use Rattle.records.specs.Answers.{answerIn}
 use Rattle.ledger.specs.Opening.{legal, openingRefusal}
 use Rattle.ledger.specs.Ledger.{emptyLedger}
 use Rattle.records.specs.declared.answers.Answer.the-variants.{Done, Refused}
@@ -31,6 +31,7 @@ use Rattle.groups.proofs.StartedLaws.{start-readable, start-within, start-reach
 use Rattle.script.proofs.AnswerLaws.{text-short}
 use Rattle.script.proofs.WritableLaws.{opening-refusal-small}
 use Rattle.script.proofs.RunLaws.{run-stops, run-goes-on}
+use Rattle.lines.specs.Text.{maxLines}
 
 -- what the book group is answered fits its line
 start-writable : (script : List ℕ) → Writable (answerIn (startedOf script .answer))
@@ -48,7 +49,7 @@ start-writable script = go (bookReadable first left) (legal (openingOfRows first
     go true false n l = l
     go false u n l = omega arith
 
-module _ (script out : List ℕ) (some : 1 ≤ length script) (few : length (rowsOf script) ≤ 4096) (room : 16 * length (rowsOf script) ≤ length out) (x : Started) (is : x ≡ startedOf script) (o₀ o : List ℕ) (opening : o ≡ openingAfter script o₀) where
+module _ (script out : List ℕ) (some : 1 ≤ length script) (few : length (rowsOf script) ≤ maxLines) (room : 16 * length (rowsOf script) ≤ length out) (x : Started) (is : x ≡ startedOf script) (o₀ o : List ℕ) (opening : o ≡ openingAfter script o₀) where
   abbrev text : List ℕ
   text = textOf (answerIn (x .answer))
 
@@ -87,7 +88,7 @@ module _ (script out : List ℕ) (some : 1 ≤ length script) (few : length (row
     pub left-within : x .used ≤ length script
     left-within = le-trans (le-of-eq (ap (λ y. y .used) is)) (start-within script)
 
-    pub left-few : length (rowsOf rest) ≤ 4096
+    pub left-few : length (rowsOf rest) ≤ maxLines
     left-few = let left = rows-left in omega arith
 
     short : length text ≤ 16

@@ -23,7 +23,7 @@ use Rattle.ledger.proofs.SumBounds.{net-fits}
 use Rattle.ledger.proofs.Unmet.{unmet, open-number}
 use Rattle.ledger.proofs.QueryFacts.{limit-holder, held-names, net-names}
 use Rattle.book.specs.declared.book.Book.{Book}
-use Rattle.records.specs.Handed.{answerIn}
+use Rattle.records.specs.Answers.{answerIn}
 use Rattle.book.specs.Handed.{handed, told}
 use Rattle.book.specs.Reachable.{Reachable}
 use Rattle.book.proofs.ReachableSteps.{reached-book}

@@ -3,7 +3,7 @@ use Prim.Native.Nat.{ℕ}
 use mathlib.Core.List.{List, [], _∷_, map}
 use Rattle.book.specs.declared.book.Book.{Book}
 use Rattle.records.specs.declared.answers.Answer.{Answer}
-use Rattle.records.specs.Handed.{answerIn}
+use Rattle.records.specs.Answers.{answerIn}
 use Rattle.lines.specs.Rows.{rowsOf}
 use Rattle.groups.specs.Groups.{Asked, groupsOf}
 use Rattle.groups.specs.Told.{answeredTo}

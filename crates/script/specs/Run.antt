@@ -4,13 +4,13 @@ use mathlib.Core.Bool.{Bool, cond, _||_}
 use mathlib.Core.List.{List, [], _++_}
 use lib.ListN.{length, drop}
 use lib.Dec.{ltb}
-use Rattle.lines.specs.Text.{linesOf}
+use Rattle.lines.specs.Text.{linesOf, maxLines, maxBytes}
 use Rattle.lines.specs.Rows.{rowsOf}
 use Rattle.script.specs.Answers.{scriptAnswers, textsOf}
 
 -- over 65,536 bytes or 4,096 lines is 1
 unfoldable pub tooLong : List ℕ → Bool
-tooLong script = ltb 65536 (length script) || ltb 4096 (length (linesOf script))
+tooLong script = ltb maxBytes (length script) || ltb maxLines (length (linesOf script))
 
 -- then output under 16 bytes a line is 15
 unfoldable pub tooShort : List ℕ → List ℕ → Bool

@@ -7,7 +7,7 @@ ghost use Prim.Native.Nat.{_+_, _≤_, _<_};
 ghost use mathlib.Core.Path.{_≡_};
 ghost use lib.ListN.{length};
 ghost use Rattle.ledger.specs.Season.{value, refused};
-ghost use Rattle.records.specs.Handed.{answerIn};
+ghost use Rattle.records.specs.Answers.{answerIn};
 ghost use Rattle.lines.specs.Writing.{leastOfThirteenDigits, writtenAt};
 ghost use Rattle.script.specs.Answers.{textOf};
 ghost use Rattle.script.specs.Writing.{Writable};

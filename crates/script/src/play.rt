@@ -16,6 +16,7 @@ ghost use Rattle.book.specs.Reachable.{Reachable};
 ghost use Rattle.lines.specs.Rows.{rowsOf};
 ghost use Rattle.lines.specs.Writing.{writtenAt};
 ghost use Rattle.script.specs.Played.{textFrom};
+ghost use Rattle.lines.specs.Text.{maxLines, maxBytes};
 
 // Puts what is left of a script to the book that was opened and writes the answers from a place on; says where they end.
 // The book's arrays stay here and are lent to each group, so that nothing of the book is copied for a line.
@@ -31,7 +32,7 @@ pub fn play(
     d: &mut [u64],
     e: &mut [u64],
 ) -> usize
-    requires { ⌜ (Reachable (bookOf (now o) emptyLedger) × (from ≤ length (now script)) × (length (now script) ≤ 65536) × (length (rowsOf (drop from (now script))) ≤ 4096) × (start + 16 * length (rowsOf (drop from (now script))) ≤ length (now out))) × (length (now a) ≡ 4096) × (length (now b) ≡ 4096) × (length (now c) ≡ 4096) × (length (now d) ≡ 4096) × (length (now e) ≡ 4096) ⌝ }
+    requires { ⌜ (Reachable (bookOf (now o) emptyLedger) × (from ≤ length (now script)) × (length (now script) ≤ maxBytes) × (length (rowsOf (drop from (now script))) ≤ maxLines) × (start + 16 * length (rowsOf (drop from (now script))) ≤ length (now out))) × (length (now a) ≡ maxLines) × (length (now b) ≡ maxLines) × (length (now c) ≡ maxLines) × (length (now d) ≡ maxLines) × (length (now e) ≡ maxLines) ⌝ }
     ensures { λ r. ⌜ (r ≡ start + length (textFrom (bookOf (now (o .entry)) emptyLedger) (drop from (now (script .entry))))) × (now (out .exit) ≡ writtenAt (now (out .entry)) start (textFrom (bookOf (now (o .entry)) emptyLedger) (drop from (now (script .entry))))) × (r ≤ length (now (out .entry))) ⌝ }
 {
     let mut f = [0u64; FIGURES];

@@ -2,26 +2,29 @@
 use crate::answers::write_answer;
 use crate::play::play;
 use groups::opened::start;
+use lines::text::MAX_LINES;
 use lines::text::count_lines;
+use records::setup::OPENING;
 ghost use mathlib.Core.Path.{_≡_};
 ghost use Prim.Native.Nat.{_*_, _≤_};
 ghost use lib.ListN.{length};
 ghost use Rattle.lines.specs.Rows.{rowsOf};
 ghost use Rattle.lines.specs.Writing.{writtenAt};
 ghost use Rattle.script.specs.Run.{answersText, runNumber, outputAfter};
+ghost use Rattle.lines.specs.Text.{maxLines, maxBytes};
 
 // Answers a script that is neither too long for a run nor too long for the buffer; says how many bytes were written.
 fn answer_script(script: &[u8], out: &mut [u8]) -> usize
-    requires { ⌜ (1 ≤ length (now script)) × (length (now script) ≤ 65536) × (length (rowsOf (now script)) ≤ 4096) × (16 * length (rowsOf (now script)) ≤ length (now out)) ⌝ }
+    requires { ⌜ (1 ≤ length (now script)) × (length (now script) ≤ maxBytes) × (length (rowsOf (now script)) ≤ maxLines) × (16 * length (rowsOf (now script)) ≤ length (now out)) ⌝ }
     ensures { λ r. ⌜ (r ≡ length (answersText (now (script .entry)))) × (now (out .exit) ≡ writtenAt (now (out .entry)) 0 (answersText (now (script .entry)))) ⌝ }
 {
     // A field of each counted line goes to an array; a script has no more lines.
-    let mut a = [0u64; 4096];
-    let mut b = [0u64; 4096];
-    let mut c = [0u64; 4096];
-    let mut d = [0u64; 4096];
-    let mut e = [0u64; 4096];
-    let mut o = [0u64; 76];
+    let mut a = [0u64; MAX_LINES];
+    let mut b = [0u64; MAX_LINES];
+    let mut c = [0u64; MAX_LINES];
+    let mut d = [0u64; MAX_LINES];
+    let mut e = [0u64; MAX_LINES];
+    let mut o = [0u64; OPENING];
     let started = start(script, &mut o, &mut a, &mut b, &mut c, &mut d, &mut e);
     let answer = started.answer;
     let written = write_answer(out, 0, answer);

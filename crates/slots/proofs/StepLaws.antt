@@ -14,7 +14,7 @@ use Rattle.ledger.specs.Season as season
 use Rattle.ledger.proofs.Steps.{step-refused, step-accepted}
 use Rattle.records.specs.declared.answers.Answer.the-variants.{Done, Value, Refused}
 use Rattle.records.specs.Opening.{openingIn}
-use Rattle.records.specs.Handed.{answerOf}
+use Rattle.records.specs.Answers.{answerOf}
 use Rattle.slots.specs.Layout.{figuresOf, postedOf, evidenceOf, ledgerIn}
 use Rattle.slots.specs.Steps.{Reachable, Steps, queryAnswer}
 use Rattle.slots.proofs.Reachable.{figures-known, posted-known, evidence-known}

@@ -11,7 +11,7 @@ use Rattle.ledger.specs.Season as season
 use Rattle.records.specs.declared.answers.Answer.{Answer}
 use Rattle.records.specs.declared.answers.Answer.the-variants.{Refused}
 use Rattle.records.specs.Opening.{openingIn, openingArray}
-use Rattle.records.specs.Handed.{answerOf}
+use Rattle.records.specs.Answers.{answerOf}
 use Rattle.slots.specs.Layout.{figuresOf, postedOf, evidenceOf, ledgerIn}
 
 -- 01, The book: arrays are a book's where a legal opening and a list of calls lead to them

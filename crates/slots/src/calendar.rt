@@ -1,7 +1,7 @@
 // The tier last closed and the open one, which stand behind a book's figures.
 use crate::layout::CURRENT_TIER;
 use crate::layout::LAST_CLOSED;
-use records::cells::number_at;
+use records::lists::number_at;
 ghost use mathlib.Core.Path.{_≡_};
 ghost use Rattle.slots.specs.Layout.{lastClosedIn, currentTierIn};
 

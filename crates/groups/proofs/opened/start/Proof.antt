@@ -7,9 +7,10 @@ use Rattle.groups.proofs.StartedLaws.{after-head, lines-fit, counts-fit
 use borrow.Author.Needs.{needs}
 use Rattle.groups.proofs.opened.start.Statement.{statement}
 use Rattle.groups.proofs.opened.start.Tie as tie
+use Rattle.lines.specs.Text.{maxLines}
 
 -- a count in an array that kept its length
-fits-in : {n m k : ℕ} → n ≤ 4096 → m ≡ 4096 → k ≡ m → n ≤ k
+fits-in : {n m k : ℕ} → n ≤ maxLines → m ≡ maxLines → k ≡ m → n ≤ k
 fits-in l m k = omega arith
 
 next-row-requires : tie.Need-next-row-requires

@@ -1,5 +1,5 @@
--- `migration::shares::share_of` meets its contract; of no load nothing goes. Assumes nothing.
-use Rattle.migration.proofs.ShareCells.{share-none}
+-- `migration::shares::share_of` meets its contract; nothing goes with nothing, and of no load nothing goes. Assumes nothing.
+use Rattle.migration.proofs.ShareCells.{share-none, share-with-nothing}
 use mathlib.Core.Path.{refl}
 use Rattle.migration.specs.Migration.{share}
 use borrow.Author.Needs.{needs}
@@ -7,7 +7,10 @@ use Rattle.migration.proofs.shares.share_of.Statement.{statement}
 use Rattle.migration.proofs.shares.share_of.Tie as tie
 
 returns : tie.Need-returns
-returns c = share-none _ _ _ (c .if1 .taken)
+returns c = share-with-nothing _ _ _ (c .if1 .taken)
+
+returns-2 : tie.Need-returns-2
+returns-2 c = share-none _ _ _ (c .if2 .taken)
 
 mul-result : tie.Need-mul-result
 mul-result c = search needs
@@ -15,9 +18,9 @@ mul-result c = search needs
 div-result : tie.Need-div-result
 div-result c = search needs
 
-returns-2 : tie.Need-returns-2
+returns-3 : tie.Need-returns-3
 unfolding share
-returns-2 c = refl
+returns-3 c = refl
 
 pub share-of-spec : {M : Type 1} → statement M
-share-of-spec = tie.close (tie.spec returns mul-result div-result returns-2)
+share-of-spec = tie.close (tie.spec returns returns-2 mul-result div-result returns-3)

@@ -1,7 +1,7 @@
 -- `records::setup::holder_kind` meets its contract: the entry of its list. Assumes nothing.
 use mathlib.Core.Path.{ap, _∙_}
 use lib.ListN.{take, drop, getD}
-use Rattle.records.specs.Opening.{setupIn, openingOf, openingIn}
+use Rattle.records.specs.Opening.{openingIn}
 use Rattle.ledger.specs.Opening.{holderKind}
 use borrow.Author.Needs.{needs}
 use Rattle.records.proofs.setup.holder_kind.Statement.{statement}
@@ -14,7 +14,7 @@ listed-requires : tie.Need-listed-requires
 listed-requires c κs = search needs
 
 returns : tie.Need-returns
-unfolding holderKind openingIn openingOf setupIn
+unfolding holderKind openingIn
 returns c = let args = c .before .before .before .args in c .listed .ensures ∙ ap (λ n. getD (take n (take 8 (drop 4 (args .o .now)))) (args .h) 0) (c .before .holders .ensures)
 
 pub holder-kind-spec : {M : Type 1} → statement M

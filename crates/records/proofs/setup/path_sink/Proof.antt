@@ -1,7 +1,7 @@
 -- `records::setup::path_sink` meets its contract: the entry of its list. Assumes nothing.
 use mathlib.Core.Path.{ap, _∙_}
 use lib.ListN.{take, drop, getD}
-use Rattle.records.specs.Opening.{setupIn, openingOf, openingIn}
+use Rattle.records.specs.Opening.{openingIn}
 use Rattle.ledger.specs.Opening.{pathSink}
 use borrow.Author.Needs.{needs}
 use Rattle.records.proofs.setup.path_sink.Statement.{statement}
@@ -14,7 +14,7 @@ listed-requires : tie.Need-listed-requires
 listed-requires c κs = search needs
 
 returns : tie.Need-returns
-unfolding pathSink openingIn openingOf setupIn
+unfolding pathSink openingIn
 returns c = let args = c .before .before .before .args in c .listed .ensures ∙ ap (λ n. getD (take n (take 16 (drop 60 (args .o .now)))) (args .p) 0) (c .before .paths .ensures)
 
 pub path-sink-spec : {M : Type 1} → statement M

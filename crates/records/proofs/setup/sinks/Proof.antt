@@ -1,5 +1,5 @@
 -- `records::setup::sinks` meets its contract: the number at its place in the array. Assumes nothing.
-use Rattle.records.specs.Opening.{setupIn, openingOf, openingIn}
+use Rattle.records.specs.Opening.{openingIn}
 use borrow.Author.Needs.{needs}
 use Rattle.records.proofs.setup.sinks.Statement.{statement}
 use Rattle.records.proofs.setup.sinks.Tie as tie
@@ -8,7 +8,7 @@ number-at-requires : tie.Need-number-at-requires
 number-at-requires c κs = search needs
 
 returns : tie.Need-returns
-unfolding openingIn openingOf setupIn
+unfolding openingIn
 returns c = c .number-at .ensures
 
 pub sinks-spec : {M : Type 1} → statement M

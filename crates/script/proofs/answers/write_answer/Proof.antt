@@ -7,7 +7,7 @@ use borrow.Author.Needs.{needs}
 use Rattle.ledger.specs.Season as season
 use Rattle.records.specs.declared.answers.Answer.{Answer}
 use Rattle.records.specs.declared.answers.Answer.the-variants.{Done, Value, Refused}
-use Rattle.records.specs.Handed.{answerIn}
+use Rattle.records.specs.Answers.{answerIn}
 use Rattle.lines.specs.Text.{bytesOf}
 use Rattle.lines.specs.Writing.{leastOfThirteenDigits, writtenAt}
 use Rattle.script.specs.Answers.{textOf}

@@ -11,10 +11,11 @@ use Rattle.groups.proofs.ToldLaws.{verify-counts}
 use Rattle.script.proofs.PlayLaws.{PlayedTo, none-played, played-length, played-within, turn-room, head-some, head-within, behind-few, turn-within, turn-writable, played-turn, row-writable, row-turn, played-number, played-bytes}
 use Rattle.script.proofs.play.play.Statement.{statement}
 use Rattle.script.proofs.play.play.Tie as tie
+use Rattle.lines.specs.Text.{maxLines}
 
 abbrev Inv-loop : tie.InvT-loop
 Inv-loop script from o out₀ start a₀ b₀ c₀ d₀ e₀ f₀ m₀ evidence₀ at₀ written₀ out a b c d e f m evidence at written =
-    PlayedTo script (bookOf o emptyLedger) from start out₀ out (bookIn o f m evidence) at written × (length a ≡ 4096) × (length b ≡ 4096) × (length c ≡ 4096) × (length d ≡ 4096) × (length e ≡ 4096)
+    PlayedTo script (bookOf o emptyLedger) from start out₀ out (bookIn o f m evidence) at written × (length a ≡ maxLines) × (length b ≡ maxLines) × (length c ≡ maxLines) × (length d ≡ maxLines) × (length e ≡ maxLines)
 
 abbrev μ-loop : tie.MeasureT-loop
 μ-loop script from o out₀ start a₀ b₀ c₀ d₀ e₀ f₀ m₀ evidence₀ at₀ written₀ out a b c d e f m evidence at written =

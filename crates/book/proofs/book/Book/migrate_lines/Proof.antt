@@ -67,13 +67,17 @@ use Rattle.book.proofs.class_lines.Columns as K
 use Rattle.book.proofs.class_lines.Columns.Laws as K′
 use Rattle.book.proofs.class_lines.no_columns as none
 use Rattle.book.proofs.class_lines.no_columns.Symbol as none-def
+use Rattle.book.proofs.class_lines.no_columns.Symbol.{name as #none}
 use Rattle.book.proofs.class_lines.no_columns.Met as none-thm
 use Rattle.book.proofs.class_lines.with_line as more
 use Rattle.book.proofs.class_lines.with_line.Symbol as more-def
+use Rattle.book.proofs.class_lines.with_line.Symbol.{name as #more}
 use Rattle.book.proofs.class_lines.with_line.Met as more-thm
 use Rattle.book.proofs.class_lines.migrate_columns as last
 use Rattle.book.proofs.class_lines.migrate_columns.Symbol as last-def
+use Rattle.book.proofs.class_lines.migrate_columns.Symbol.{name as #last}
 use Rattle.book.proofs.class_lines.migrate_columns.Met as last-thm
+use Rattle.book.proofs.book.Book.migrate_lines.Key.{name as #lines}
 use Rattle.book.proofs.book.Book.migrate_lines as lines
 use Rattle.book.proofs.book.Book.migrate_lines.Statement as stated
 use Rattle.book.proofs.book.Book.migrate_lines.Code as code
