@@ -5,6 +5,9 @@ ghost use lib.ListN.{length};
 ghost use Rattle.lines.specs.Text.{lineFeed, linesOf};
 ghost use Rattle.lines.specs.Reading.{lengthUpTo, numeral, digitsRead};
 
+// The most bytes that a run takes.
+pub const MAX_BYTES: usize = 65536;
+
 // The most lines that a run takes, and so the room for a field of each.
 pub const MAX_LINES: usize = 4096;
 

@@ -8,11 +8,11 @@ use Rattle.tariff.specs.declared.limit.Sums.{Sums}
 use Rattle.tariff.specs.Sum.{countIf, sumTo}
 use Rattle.ledger.specs.Opening.{Opening, endsAt}
 use Rattle.slots.specs.Cells.{maxHolders, maxPlaces}
-use Rattle.slots.specs.Layout.{figureSlots, figureCount}
+use Rattle.slots.specs.Layout.{figureSlots, figureCount, priorSlot, awardsSlot}
 use Rattle.slots.specs.Sums.{onPath, maxFigure, Summable}
 
--- Slot 4 has last year's allocation, and slots 14 to 16 the awards of tiers 1 to 3. Two more depend on the tier: that of the carried holding, by its
--- month, and that of the awards of the tier before.
+-- Last year's allocation and the awards of tiers 1 to 3 have the same slots in every tier. Two more depend on the tier: that of the carried holding, by
+-- its month, and that of the awards of the tier before.
 
 -- the sums with the figures of one path more, where it counts
 unfoldable pub withPath : List ℕ → (h p carried before : ℕ) → Bool → Sums → Sums
@@ -20,10 +20,10 @@ withPath f h p carried before counts s =
     record {
       load = s .load;
       carried = s .carried + countIf counts (onPath f h carried p);
-      prior = s .prior + countIf counts (onPath f h 4 p);
-      tier1 = s .tier1 + countIf counts (onPath f h 14 p);
-      tier2 = s .tier2 + countIf counts (onPath f h 15 p);
-      tier3 = s .tier3 + countIf counts (onPath f h 16 p);
+      prior = s .prior + countIf counts (onPath f h priorSlot p);
+      tier1 = s .tier1 + countIf counts (onPath f h (awardsSlot + 1) p);
+      tier2 = s .tier2 + countIf counts (onPath f h (awardsSlot + 2) p);
+      tier3 = s .tier3 + countIf counts (onPath f h (awardsSlot + 3) p);
       before = s .before + countIf counts (onPath f h before p);
     }
 
@@ -37,10 +37,10 @@ sumsTo O f h base load carried before n =
     record {
       load = load;
       carried = slotTo O f h base carried n;
-      prior = slotTo O f h base 4 n;
-      tier1 = slotTo O f h base 14 n;
-      tier2 = slotTo O f h base 15 n;
-      tier3 = slotTo O f h base 16 n;
+      prior = slotTo O f h base priorSlot n;
+      tier1 = slotTo O f h base (awardsSlot + 1) n;
+      tier2 = slotTo O f h base (awardsSlot + 2) n;
+      tier3 = slotTo O f h base (awardsSlot + 3) n;
       before = slotTo O f h base before n;
     }
 

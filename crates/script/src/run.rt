@@ -2,6 +2,7 @@
 use crate::answers::write_answer;
 use crate::play::play;
 use groups::opened::start;
+use lines::text::MAX_BYTES;
 use lines::text::MAX_LINES;
 use lines::text::count_lines;
 use records::setup::OPENING;
@@ -51,11 +52,11 @@ fn answer_script(script: &[u8], out: &mut [u8]) -> usize
 pub extern "C" fn run(script: &[u8], out: &mut [u8]) -> u64
     ensures { λ r. ⌜ (r ≡ runNumber (now (script .entry)) (now (out .entry))) × (now (out .exit) ≡ outputAfter (now (script .entry)) (now (out .entry))) ⌝ }
 {
-    if 65_536 < script.len() {
+    if MAX_BYTES < script.len() {
         return 1_000_000;
     }
     let lines = count_lines(script);
-    if 4_096 < lines {
+    if (MAX_LINES as u64) < lines {
         return 1_000_000;
     }
     if (out.len() as u64) < 16 * lines {
