@@ -7,7 +7,7 @@ use mathlib.Core.Logic.{_⊎_, inl, inr}
 use native.Mathlib.Omega.{arith}
 use lib.Dec.{ltb}
 use borrow.Author.Tests.{ltb-true, ltb-false}
-use lib.ListN.{length, getD, replicate, length-replicate, getD-replicate, List·getD-eq-default}
+use lib.ListN.{getD, replicate, length-replicate, getD-replicate, List·getD-eq-default}
 use Rattle.tariff.specs.Evidence.{noEntry, evidenceKw, entryKw}
 use Rattle.tariff.proofs.Sums.{count-zero}
 use Rattle.tariff.proofs.Tests.{decided}
@@ -15,7 +15,7 @@ use Rattle.ledger.specs.Ledger.{emptyLedger}
 use Rattle.slots.specs.Cells.{rows, readAt, Shows}
 use Rattle.slots.specs.Groups.{Group, group, inSlot}
 use Rattle.slots.specs.Layout.{figureSlots, figureCount, postedSlots, postedCount, evidenceSlots, evidenceCount, figureGroups, postedGroups, evidenceGroups, calendarOf, figuresOf, postedOf, evidenceOf}
-use Rattle.slots.proofs.CellLaws.{cell-below, shown-is}
+use Rattle.slots.proofs.CellLaws.{shown-is}
 
 module _ {A : Type 0} (none : A) where
   -- an array filled with one value reads so everywhere

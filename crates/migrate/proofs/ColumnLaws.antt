@@ -10,11 +10,11 @@ use lib.ListN.{length, getD, drop, length-set, length-drop}
 use lib.Seq.{getD-drop}
 use lib.Dec.{ltb, eqb}
 use borrow.Author.Tests.{ltb-true, ltb-false, lt-ltb, le-ltb, eqb-true, eqb-false}
-use Rattle.tariff.proofs.Tests.{and-both, decided}
+use Rattle.tariff.proofs.Tests.{decided}
 use Rattle.tariff.proofs.Lists.{at-list-to}
 use Rattle.migration.specs.Netting.{holderAt, columnCells}
 use Rattle.ledger.specs.Effects.{same3}
-use Rattle.slots.specs.Cells.{rows, HasCell, readAt, storedAt, Shows}
+use Rattle.slots.specs.Cells.{HasCell, readAt, storedAt, Shows}
 use Rattle.slots.specs.Layout.{figureSlots, figureCount}
 use Rattle.slots.proofs.CellLaws.{shows-stored, shows-agree}
 use Rattle.migrate.specs.Columns.{HasColumn, inColumn, columnAt, columnStored, Transferred}

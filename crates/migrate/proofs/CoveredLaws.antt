@@ -32,10 +32,10 @@ use Rattle.slots.specs.Steps.{Reachable}
 use Rattle.slots.proofs.Reachable.{known, counts, fits, figures-long}
 use Rattle.slots.proofs.Figures.{by-number, from-zero}
 use Rattle.migrate.specs.declared.transfers.Transfer.{Transfer}
-use Rattle.migrate.specs.Columns.{HasColumn, inColumn, Transferred}
+use Rattle.migrate.specs.Columns.{inColumn, Transferred}
 use Rattle.migrate.specs.Transfers.{loadColumn, shareColumn, columnWhere, loadAt, Covered, ColumnFits, RightsFit}
 use Rattle.migrate.specs.Lines.{transferOf}
-use Rattle.migrate.proofs.ColumnLaws.{column-holder, transferred-read}
+use Rattle.migrate.proofs.ColumnLaws.{transferred-read}
 use Rattle.migrate.proofs.WhereLaws.{where-off, where-long}
 use Rattle.migrate.proofs.MovingLaws.{moving-slot}
 use Rattle.migrate.proofs.LineCauses.{line-count, lines-fit, m-of-lines, load-before}
@@ -126,9 +126,6 @@ module _ (o f : List ℕ) (m : List Bool) (e : List Entry) (r : Reachable o f m 
       go (inr a) (inr b) (inr c) =
           let g = ltb-false slot 9 c in
           together p slot (λ i. L .rights .awarded i p (slot - 8)) (10 * mostTogether) (λ i k. ap (readAt figureSlots 0 f i p) (let s : slot ≡ 9 + (slot - 8 - 1) = omega arith in s) ∙ by-number f 9 3 i p (slot - 8) k place 1 (omega arith) (omega arith)) (awarded-sum p (slot - 8)) (omega arith)
-
-  pub load-column : HasColumn f sink (0 + term)
-  load-column = let t = facts .termInRange in record { long = figures-long o f m e r; place = inSinks; inRow = omega arith }
 
   -- the loads have gone over, and the rights are as they were
   pub rights-fit : (next : List ℕ) → Transferred (columnWhere (loadAt term sink) (loadColumn x)) f next → RightsFit O next term sink x

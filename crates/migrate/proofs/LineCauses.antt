@@ -28,7 +28,7 @@ use Rattle.ledger.specs.Causes.{notBetweenSuppliers, losesTooMuch}
 use Rattle.ledger.proofs.SumBounds.{watts-fit}
 use Rattle.migrate.specs.declared.transfers.Transfer.{Transfer}
 use Rattle.records.specs.Opening.{openingIn}
-use Rattle.slots.specs.Layout.{figureIn, ledgerIn}
+use Rattle.slots.specs.Layout.{ledgerIn}
 use Rattle.slots.proofs.Figures.{from-zero}
 use Rattle.migrate.specs.Lines.{unknownAt, outOfRangeAt, notBetweenAt, transferOf}
 use Rattle.migrate.proofs.ColumnLaws.{column-holder}

@@ -33,7 +33,7 @@ use Rattle.records.specs.declared.answers.Answer.the-variants.{Done, Refused}
 use Rattle.records.specs.Opening.{openingIn}
 use Rattle.records.proofs.CauseLaws.{link, no-more, first-part}
 use Rattle.records.proofs.MetCauses.{met-first, unmet-first}
-use Rattle.slots.specs.Layout.{figuresOf, postedOf, evidenceOf, postedGroups, evidenceGroups, lastClosedIn, currentTierIn, ledgerIn}
+use Rattle.slots.specs.Layout.{postedOf, evidenceOf, postedGroups, evidenceGroups, lastClosedIn, currentTierIn, ledgerIn}
 use Rattle.slots.specs.Steps.{Reachable, Steps, StepsIf}
 use Rattle.slots.proofs.Reachable.{counts, figures-long, figures-known, posted-known, evidence-known}
 use Rattle.slots.proofs.StepLaws.{accepted-test, steps-accepted, steps-refused}
@@ -42,7 +42,7 @@ use Rattle.migrate.specs.Columns.{HasColumn, columnAt, Transferred}
 use Rattle.migrate.specs.Transfers.{loadColumn, shareColumn, movesAt, columnWhere, loadAt, Covered, RightsFit}
 use Rattle.migrate.specs.Lines.{unknownAt, outOfRangeAt, notBetweenAt, transferOf}
 use Rattle.migrate.proofs.LineCauses.{unknown-cause, between-cause, range-cause, in-range, lines-fit, losses-fit, loss-cause}
-use Rattle.migrate.proofs.CoveredLaws.{covered, load-column, rights-fit}
+use Rattle.migrate.proofs.CoveredLaws.{covered, rights-fit}
 use Rattle.migrate.proofs.MigratedFigures.{figures-migrated}
 
 module _ (o f : List ℕ) (term sink : ℕ) (froms tos classes customers watts : List ℕ) (m : List Bool) (e : List Entry) where

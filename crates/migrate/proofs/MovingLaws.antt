@@ -1,23 +1,20 @@
 -- The columns that a migration moves, one after another: which of them have moved after so many. Assumes nothing.
 use Prim.Native.Nat.{ℕ, _+_, _-_, _*_, _/_, _%_, _≤_, _<_}
-use mathlib.Core.Path.{_≡_, refl, sym, ap, ap₂, _∙_}
-use mathlib.Core.Bool.{Bool, true, false, cond, not, _&&_, _||_}
+use mathlib.Core.Path.{_≡_, sym, ap, _∙_}
+use mathlib.Core.Bool.{Bool, true, false, cond, _&&_, _||_}
 use mathlib.Core.List.{List}
 use mathlib.Core.Logic.{_⊎_, inl, inr}
 use native.Mathlib.Nat.{le-trans, le-of-eq}
 use native.Mathlib.Omega.{arith}
 use lib.Dec.{leb, ltb, eqb}
-use lib.ListN.{length}
 use borrow.Author.Tests.{ltb-true, ltb-false, lt-ltb, le-ltb, leb-true, eqb-true, eqb-false, eq-eqb, ne-eqb}
-use Rattle.tariff.proofs.Tests.{and-both, and-join, and-left-false, and-right-false, decided, both-ways}
+use Rattle.tariff.proofs.Tests.{and-both, and-join, and-left-false, and-right-false, decided}
 use Rattle.tariff.proofs.Sums.{sum-ext}
 use Rattle.ledger.specs.Opening.{Opening, pathBase, endsAt}
-use Rattle.slots.specs.Layout.{figureSlots, figureCount}
-use Rattle.slots.specs.Cells.{HasCell, readAt}
 use Rattle.migrate.specs.declared.transfers.Transfer.{Transfer}
-use Rattle.migrate.specs.Columns.{HasColumn, inColumn, Transferred}
-use Rattle.migrate.specs.Transfers.{shareColumn, slotMoves, movesAt, columnWhere, Covered, ColumnFits, RightsFit}
-use Rattle.migrate.proofs.ColumnLaws.{transferred-long, transferred-read}
+use Rattle.migrate.specs.Columns.{inColumn, Transferred}
+use Rattle.migrate.specs.Transfers.{shareColumn, slotMoves, movesAt, columnWhere, ColumnFits, RightsFit}
+use Rattle.migrate.proofs.ColumnLaws.{transferred-read}
 use Rattle.migrate.proofs.WhereLaws.{where-off, where-none, where-same, where-then}
 
 -- only the slots from prior's up to before the nominations' can move

@@ -1,6 +1,6 @@
 -- What a migration makes of a column, in the array and in the ledger's terms; and that nothing on the way passes 64 bits. Assumes nothing.
 use Prim.Native.Nat.{ℕ, _+_, _-_, _*_, _/_, _^_, _≤_, _<_}
-use mathlib.Core.Path.{_≡_, refl, sym, ap, ap₂, _∙_}
+use mathlib.Core.Path.{_≡_, refl, sym, ap, _∙_}
 use mathlib.Core.Bool.{Bool, true, false, cond, _&&_}
 use mathlib.Core.List.{List}
 use mathlib.Core.Logic.{_⊎_, inl, inr}
@@ -18,18 +18,18 @@ use Rattle.migration.proofs.Shifts.{shares-fit}
 use Rattle.tariff.proofs.Lists.{at-list-to}
 use Rattle.migration.proofs.Pairs.{pair-of-cells}
 use Rattle.ledger.proofs.Bounds.{one-fits, share-product-fits}
-use Rattle.slots.specs.Cells.{readAt, Shows}
 use Rattle.slots.specs.Layout.{figureSlots}
 use Rattle.slots.proofs.CellLaws.{shows-agree}
 use Rattle.migrate.specs.declared.transfers.Transfer.{Transfer}
+use Rattle.migration.proofs.ShareCells.{share-with-nothing}
 use Rattle.migrate.specs.Columns.{HasColumn, inColumn, columnAt, columnStored, Transferred}
 use Rattle.migrate.specs.Transfers.{loadColumn, shareColumn, columnWhere, Covered, ColumnFits}
 use Rattle.migrate.proofs.ColumnLaws.{column-holder, column-cell, shows-column}
 
 -- with no m goes no share
 no-share : (m : ℕ → ℕ → ℕ) (L v : ℕ → ℕ) (i j : ℕ) → m i j ≡ 0 → shares m L v i j ≡ 0
-unfolding shares share
-no-share m L v i j e = ap (λ x. v i * x / L i) e ∙ ap (λ x. x / L i) (mul-zero (v i)) ∙ zero-div (L i)
+unfolding shares
+no-share m L v i j e = sym (share-with-nothing (v i) (m i j) (L i) e)
 
 share-of-nothing : (m : ℕ → ℕ → ℕ) (L v : ℕ → ℕ) (i j : ℕ) → v i ≡ 0 → shares m L v i j ≡ 0
 unfolding shares share

@@ -6,7 +6,6 @@ use mathlib.Core.List.{List}
 use mathlib.Core.Logic.{_⊎_, inl, inr}
 use lib.ListN.{length}
 use Rattle.tariff.proofs.Tests.{decided}
-use Rattle.slots.specs.Cells.{HasCell, Shows}
 use Rattle.slots.specs.Layout.{figureSlots, figureCount}
 use Rattle.slots.proofs.CellLaws.{shows-agree}
 use Rattle.migrate.specs.Columns.{Transferred}

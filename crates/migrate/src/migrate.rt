@@ -26,7 +26,7 @@ use slots::calendar::last_closed;
 use slots::layout::LOAD;
 ghost use mathlib.Core.Path.{_≡_};
 ghost use Prim.Native.Nat.{ℕ, _+_, _^_, _<_, _≤_};
-ghost use lib.ListN.{length, take};
+ghost use lib.ListN.{take};
 ghost use lib.Dec.{ltb};
 ghost use Rattle.tariff.specs.Sum.{sumTo, anyBelow};
 ghost use Rattle.migration.specs.Netting.{pairAt, holderAt, classLinesOf, sameCounts, SameLengths};

@@ -1,6 +1,6 @@
 -- What an accepted carry asks of the arrays, and what it leaves in them. Assumes nothing.
-use Prim.Native.Nat.{ℕ, _≤_, _<_, zero-le}
-use mathlib.Core.Path.{_≡_, refl, sym, _∙_, subst}
+use Prim.Native.Nat.{ℕ, _<_}
+use mathlib.Core.Path.{_≡_, refl, _∙_}
 use mathlib.Core.Bool.{Bool, true, false}
 use mathlib.Core.List.{List, []}
 use native.Mathlib.Nat.{le-trans}
@@ -15,8 +15,8 @@ use Rattle.ledger.specs.Effects.{afterCarry, effect}
 use Rattle.ledger.proofs.PostingFacts.{CarryFacts, carry-facts}
 use Rattle.records.specs.declared.answers.Answer.the-variants.{Done}
 use Rattle.records.specs.Opening.{openingIn}
-use Rattle.slots.specs.Cells.{HasCell, storedAt, Shows}
-use Rattle.slots.specs.Groups.{slotsOf, inSlot}
+use Rattle.slots.specs.Cells.{HasCell, storedAt}
+use Rattle.slots.specs.Groups.{slotsOf}
 use Rattle.slots.specs.Layout.{figureSlots, postedSlots, postedCount, figureGroups, postedGroups, evidenceGroups, calendarOf, figuresOf, postedOf, evidenceOf, ledgerIn}
 use Rattle.slots.specs.Months.{addedInTerm, HasRoom}
 use Rattle.slots.specs.Steps.{Reachable, Steps}

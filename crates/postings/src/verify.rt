@@ -14,6 +14,7 @@ use slots::cells::cell;
 use slots::cells::is_posted;
 use slots::cells::set_posted;
 use slots::cells::store;
+use slots::layout::EVIDENCE;
 use slots::layout::EVIDENCE_POSTED;
 use slots::layout::EVIDENCE_SLOTS;
 use slots::layout::VERIFIED;
@@ -38,7 +39,7 @@ ghost use Rattle.postings.specs.Verified.{storedByTerm, HasTerms};
 // An answer beside the book's evidence after it.
 pub struct VerifyOutcome {
     pub answer: Answer,
-    pub evidence: [Entry; 256],
+    pub evidence: [Entry; EVIDENCE],
 }
 
 // The first cause that evidence meets, 0 for none.
@@ -94,7 +95,7 @@ fn store_by_term(f: &mut [u64], h: u64, s: u64, from: u64, entry: Entry)
 }
 
 // An entry put in the cell of a holder, a source and a slot.
-fn file(old: [Entry; 256], h: u64, s: u64, slot: u64, entry: Entry) -> [Entry; 256]
+fn file(old: [Entry; EVIDENCE], h: u64, s: u64, slot: u64, entry: Entry) -> [Entry; EVIDENCE]
     requires { ⌜ HasCell evidenceSlots h s slot ⌝ }
     ensures { λ r. ⌜ r ≡ storedAt evidenceSlots old h s slot entry ⌝ }
 {
@@ -109,7 +110,7 @@ pub fn verify(
     o: &[u64],
     f: &mut [u64],
     m: &mut [bool],
-    evidence: [Entry; 256],
+    evidence: [Entry; EVIDENCE],
     h: u64,
     s: u64,
     kind: u64,

@@ -1,11 +1,10 @@
 -- A list that stands behind others: what is taken of it. Assumes nothing.
-use Prim.Native.Nat.{ℕ, suc, _+_}
+use Prim.Native.Nat.{ℕ, _+_}
 use mathlib.Core.Path.{_≡_, refl, sym, ap, _∙_}
-use mathlib.Core.List.{List, [], _∷_, _++_, append-assoc}
-use native.Mathlib.Nat.{add-assoc, le-of-eq}
-use native.Mathlib.Omega.{arith}
-use lib.ListN.{length, take, drop, getD, set, length-append}
-use lib.Seq.{take-all, take-append-add, drop-append-add, getD-append-add, take-at, drop-at}
+use mathlib.Core.List.{List, [], _∷_, _++_}
+use native.Mathlib.Nat.{le-of-eq}
+use lib.ListN.{length, take, drop}
+use lib.Seq.{take-all, drop-append-add, take-at}
 use borrow.Rule.Slice.PartMut.{midOf}
 
 module _ {A : Type 0} where

@@ -19,15 +19,6 @@ pub no-more : 0 ≡ firstMet []
 unfolding firstMet
 no-more = refl
 
--- a cause put before later ones that are only asked where it is not met
-pub link-unless : (number : ℕ) (met test : Bool) (rows : List Cause) {later r : ℕ} → r ≡ cond met number later → met ≡ test → (test ≡ false → later ≡ firstMet rows) → r ≡ firstMet (cause number test ∷ rows)
-unfolding firstMet
-link-unless number met test rows {later} e t l = e ∙ ap (λ b. cond b number later) t ∙ go test l
-  where
-    go : (b : Bool) → (b ≡ false → later ≡ firstMet rows) → cond b number later ≡ cond b number (firstMet rows)
-    go true k = refl
-    go false k = k refl
-
 -- the first causes of a list, where one of them is met
 pub first-part : (k : ℕ) (rows : List Cause) → (firstMet (take k rows) ≡ 0 → ⊥) → firstMet (take k rows) ≡ firstMet rows
 unfolding firstMet

@@ -1,6 +1,6 @@
 -- Laws of flat arrays: one cell to a holder, a place and a slot; the array of a function shows it, two arrays that show the same are equal, and
 -- one stored cell changes the function in one place. One law for every width. Assumes nothing.
-use Prim.Native.Nat.{ℕ, suc, _+_, _-_, _*_, _/_, _%_, _^_, _≤_, _<_}
+use Prim.Native.Nat.{ℕ, suc, _+_, _-_, _*_, _/_, _%_, _≤_, _<_}
 use mathlib.Core.Path.{_≡_, refl, sym, ap, _∙_}
 use mathlib.Core.Bool.{true, false, cond, _&&_}
 use mathlib.Core.List.{List, _++_}
@@ -11,11 +11,10 @@ use lib.ListN.{length, getD, set, length-set, length-append, List·getD-append}
 use lib.Seq.{ext-getD, getD-set-same, getD-set-other, getD-append-add}
 use lib.Dec.{ltb}
 use borrow.Author.Tests.{ltb-true, ltb-false, lt-ltb, le-ltb, eq-eqb}
-use Rattle.tariff.specs.Sum.{countIf, listTo}
-use Rattle.tariff.proofs.Sums.{count-true, count-false}
+use Rattle.tariff.specs.Sum.{listTo}
 use Rattle.tariff.proofs.Tests.{and-join, and-right-false, decided, both-ways}
 use Rattle.tariff.proofs.Lists.{length-list-to, at-list-to}
-use Rattle.ledger.specs.Effects.{same3, plusAt3}
+use Rattle.ledger.specs.Effects.{same3}
 use Rattle.ledger.proofs.TiersSound.{same-place}
 use Rattle.slots.specs.Cells.{rows, cellOf, HasCell, readAt, lookAt, storedAt, addedAt, arrayOf, Shows}
 
@@ -164,23 +163,6 @@ module _ {A : Type 0} where
       past : (k : ℕ) → getD (storedAt width xs a b c v) (rows * width + k) none ≡ getD xs (rows * width + k) none
       past k = getD-set-other xs (cellOf width a b c) (rows * width + k) v none (λ e. let l = cell-below width a b c there in omega (arith, e))
 
--- kW more in one cell
-pub shows-added : (width : ℕ) (f : ℕ → ℕ → ℕ → ℕ) (xs rest : List ℕ) (a b c kw : ℕ) → Shows width 0 xs f rest → HasCell width a b c → Shows width 0 (addedAt width xs a b c kw) (plusAt3 a b c kw f) rest
-unfolding addedAt plusAt3
-shows-added width f xs rest a b c kw s there =
-    shows-agree width 0 _ (plusAt3 a b c kw f) (addedAt width xs a b c kw) rest
-    (shows-stored width 0 (readAt width 0 xs a b c + kw) f xs rest a b c s there)
-    (λ h p slot here. go h p slot (decided (same3 a b c h p slot)))
-  where
-    go : (h p slot : ℕ) → (same3 a b c h p slot ≡ true) ⊎ (same3 a b c h p slot ≡ false) → cond (same3 a b c h p slot) (readAt width 0 xs a b c + kw) (f h p slot) ≡ f h p slot + countIf (same3 a b c h p slot) kw
-    go h p slot (inl t) =
-        let w = same-place a b c h p slot t in
-        ap (λ u. cond u (readAt width 0 xs a b c + kw) (f h p slot)) t
-        ∙ (λ i. (s .each a b c there ∙ (λ j. f (sym (w .0) j) (sym (w .1) j) (sym (w .2) j))) i + sym (count-true kw t) i)
-    go h p slot (inr t) =
-        ap (λ u. cond u (readAt width 0 xs a b c + kw) (f h p slot)) t
-        ∙ (let none = count-false kw t in omega arith)
-
 -- a width of at most 64 keeps the numbers of cells small
 pub cell-small : (width h p slot : ℕ) → width ≤ 64 → HasCell width h p slot → (h * 16 + p) * width + slot < 8192
 unfolding cellOf
@@ -216,10 +198,6 @@ module _ {A : Type 0} (width : ℕ) (none : A) (cells : List A) (h p slot : ℕ)
 pub added-is : (width : ℕ) (cells next : List ℕ) (h p slot kw v : ℕ) → next ≡ storedAt width cells h p slot (v + kw) → v ≡ readAt width 0 cells h p slot → next ≡ addedAt width cells h p slot kw
 unfolding addedAt
 added-is width cells next h p slot kw v e r = e ∙ ap (λ u. storedAt width cells h p slot (u + kw)) r
-
--- a number read from a cell has room for kw more where the cell has
-pub room-is : (v w kw : ℕ) → v ≡ w → w + kw < 2 ^ 64 → v + kw < 2 ^ 64
-room-is v w kw e l = omega arith
 
 -- an addition leaves the array's length, and the other slots of its row
 pub added-long : (width : ℕ) (cells : List ℕ) (h p slot kw : ℕ) → length (addedAt width cells h p slot kw) ≡ length cells

@@ -1,5 +1,5 @@
 -- What stands in each slot of a book's figures, and how large it can be. Assumes nothing.
-use Prim.Native.Nat.{ℕ, suc, _+_, _-_, _*_, _^_, _≤_, _<_, zero-le}
+use Prim.Native.Nat.{ℕ, suc, _+_, _-_, _^_, _≤_, _<_, zero-le}
 use mathlib.Core.Path.{_≡_, refl, sym, ap, _∙_}
 use mathlib.Core.Bool.{Bool, true, false, cond}
 use mathlib.Core.List.{List, [], _∷_, _++_}
@@ -23,9 +23,9 @@ use Rattle.ledger.proofs.Conserved.{carriedSum, awardedSum, loadSum}
 use Rattle.ledger.proofs.TierBounds.{nominatedSum}
 use Rattle.ledger.proofs.Bounds.{mostTogether, one-fits}
 use Rattle.records.specs.Opening.{openingIn}
-use Rattle.slots.specs.Cells.{HasCell, readAt, Shows}
+use Rattle.slots.specs.Cells.{readAt}
 use Rattle.slots.specs.Groups.{Group, group, slotsOf, inSlot, figureFrom}
-use Rattle.slots.specs.Layout.{figureSlots, figureGroups, calendarOf, figureIn, ledgerIn}
+use Rattle.slots.specs.Layout.{figureSlots, figureGroups, calendarOf, figureIn, ledgerIn, ownershipSlot, contractSlot}
 use Rattle.slots.specs.Sums.{maxFigure, Summable}
 use Rattle.slots.specs.Steps.{Reachable}
 use Rattle.slots.proofs.GroupLaws.{in-group}
@@ -87,11 +87,11 @@ module _ (o f : List ℕ) (m : List Bool) (x : List Entry) (r : Reachable o f m 
       le-trans (nominated-at-base O L h p t k) (one-fits (λ y. nominatedAt O L y (pathBase O p) t) (O .holders) mostTogether h l (fits o f m x r .nominatedFit (pathBase O p) t))
 
   -- what evidence gives for a term stands at the source, ownership and contract apart
-  pub ownership-read : (h s term : ℕ) → h < 8 → s < 16 → term < 4 → readAt figureSlots 0 f h s (23 + term) ≡ entryKw term (L .papers .entry h s 1)
+  pub ownership-read : (h s term : ℕ) → h < 8 → s < 16 → term < 4 → readAt figureSlots 0 f h s (ownershipSlot + term) ≡ entryKw term (L .papers .entry h s 1)
   unfolding figureGroups slotsOf
   ownership-read h s term a b l = shown 7 23 4 0 (λ h s n. entryKw n (L .papers .entry h s 1)) refl (omega arith) refl h s term a b l ∙ ap (λ n. entryKw n (L .papers .entry h s 1)) (add-zero term)
 
-  pub contract-read : (h s term : ℕ) → h < 8 → s < 16 → term < 4 → readAt figureSlots 0 f h s (27 + term) ≡ entryKw term (L .papers .entry h s 2)
+  pub contract-read : (h s term : ℕ) → h < 8 → s < 16 → term < 4 → readAt figureSlots 0 f h s (contractSlot + term) ≡ entryKw term (L .papers .entry h s 2)
   unfolding figureGroups slotsOf
   contract-read h s term a b l = shown 8 27 4 0 (λ h s n. entryKw n (L .papers .entry h s 2)) refl (omega arith) refl h s term a b l ∙ ap (λ n. entryKw n (L .papers .entry h s 2)) (add-zero term)
 

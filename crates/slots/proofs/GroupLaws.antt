@@ -1,6 +1,6 @@
 -- Laws of groups of slots: what stands in a group's slots, and groups of which one has another figure. Assumes nothing.
 use Prim.Native.Nat.{ℕ, _+_, _-_, _≤_, _<_}
-use mathlib.Core.Path.{_≡_, refl, sym, ap, _∙_}
+use mathlib.Core.Path.{_≡_, sym, ap, _∙_}
 use mathlib.Core.Bool.{Bool, true, false, cond, _&&_}
 use mathlib.Core.List.{List, [], _∷_, _++_}
 use mathlib.Core.Logic.{_⊎_, inl, inr}
@@ -9,7 +9,6 @@ use lib.Dec.{leb, ltb, eqb}
 use borrow.Author.Tests.{ltb-true, ltb-false, leb-true, lt-ltb, le-leb, le-ltb, ne-eqb, eq-eqb, eqb-true, eqb-false}
 use Rattle.tariff.proofs.Tests.{and-both, and-join, and-right-false, decided}
 use Rattle.ledger.specs.Effects.{same3}
-use Rattle.slots.specs.Cells.{HasCell}
 use Rattle.slots.specs.Groups.{Group, group, slotsOf, inSlot, inGroup}
 
 -- what the numbers of a group's slot are

@@ -1,6 +1,6 @@
 -- kW added month by month: the array that three additions leave, and what it then shows. Assumes nothing.
 use Prim.Native.Nat.{ℕ, _+_, _≤_, _<_}
-use mathlib.Core.Path.{_≡_, refl, sym, ap, _∙_, subst}
+use mathlib.Core.Path.{_≡_, refl, ap, _∙_, subst}
 use mathlib.Core.Bool.{Bool, true, false, _&&_}
 use mathlib.Core.List.{List, _∷_, _++_}
 use mathlib.Core.Logic.{_⊎_, inl, inr}
@@ -10,7 +10,7 @@ use lib.Dec.{eqb}
 use borrow.Author.Tests.{eqb-true, eqb-false, eq-eqb, ne-eqb}
 use Rattle.tariff.specs.Sum.{countIf}
 use Rattle.tariff.specs.Terms.{hasMonth}
-use Rattle.tariff.proofs.Sums.{count-true, count-false, count-le}
+use Rattle.tariff.proofs.Sums.{count-false, count-le}
 use Rattle.tariff.proofs.Tests.{decided, and-right-false}
 use Rattle.ledger.specs.Effects.{same2, same3, plusAt3, plusInTerm}
 use Rattle.slots.specs.Cells.{addedAt, Shows}

@@ -1,5 +1,5 @@
 -- A migration moves nothing to where there is no slot. Assumes nothing.
-use Prim.Native.Nat.{ℕ, _-_, _*_, _/_, _≤_, _<_, zero-le}
+use Prim.Native.Nat.{ℕ, _*_, _/_, _≤_, _<_, zero-le}
 use mathlib.Core.Path.{_≡_, ap, _∙_}
 use mathlib.Core.Bool.{Bool, true, false, cond, _&&_}
 use mathlib.Core.List.{List}

@@ -1,20 +1,19 @@
 -- Sums over the paths of a book, as a loop forms them. Assumes nothing.
 use Prim.Native.Nat.{ℕ, _+_, _*_, _≤_, _<_}
-use mathlib.Core.Path.{_≡_, refl, sym, ap, _∙_}
+use mathlib.Core.Path.{_≡_, _∙_}
 use mathlib.Core.Bool.{Bool}
 use mathlib.Core.List.{List}
 use native.Mathlib.Nat.{le-trans}
 use native.Mathlib.Omega.{arith}
 use lib.Dec.{eqb}
 use Rattle.tariff.specs.Sum.{countIf, sumTo}
-use Rattle.tariff.specs.Ranges.{mostKw}
 use Rattle.tariff.proofs.Sums.{count-le, sum-part-le}
 use Rattle.ledger.specs.Opening.{Opening, pathBase, pathSource, endsAt, comesFrom}
 use Rattle.ledger.specs.Limits.{sumAtBase}
 use Rattle.ledger.specs.Verification.{sumFromSource}
 use Rattle.ledger.proofs.Bounds.{paths-fit}
 use Rattle.records.specs.Opening.{openingIn}
-use Rattle.slots.specs.Cells.{readAt, HasCell}
+use Rattle.slots.specs.Cells.{HasCell}
 use Rattle.slots.specs.Layout.{figureSlots}
 use Rattle.slots.specs.Sums.{onPath, maxFigure, Summable}
 

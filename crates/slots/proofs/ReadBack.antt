@@ -1,5 +1,5 @@
 -- Out of the arrays of a ledger that calls lead to comes that ledger. Assumes nothing.
-use Prim.Native.Nat.{ℕ, suc, _+_, _-_, _≤_, _<_}
+use Prim.Native.Nat.{ℕ, suc, _+_, _-_, _≤_}
 use mathlib.Core.Path.{_≡_, refl, sym, ap, _∙_}
 use mathlib.Core.Bool.{Bool, true, false, cond}
 use mathlib.Core.List.{List, [], _∷_, _++_}
@@ -9,16 +9,14 @@ use lib.ListN.{take, drop}
 use lib.Dec.{leb, eqb}
 use borrow.Author.Tests.{eqb-true, eqb-false, leb-true, leb-false}
 use Rattle.tariff.proofs.Tests.{decided, both-ways}
-use Rattle.tariff.specs.declared.evidence.Entry.{Entry}
-use Rattle.tariff.specs.Evidence.{noEntry, entryKw}
+use Rattle.tariff.specs.Evidence.{noEntry}
 use Rattle.ledger.specs.Ledger.{Ledger, Tiers}
 use Rattle.ledger.proofs.TiersSound.{TiersSound}
-use Rattle.slots.specs.Cells.{HasCell, readAt, arrayOf, Shows}
+use Rattle.slots.specs.Cells.{readAt, arrayOf}
 use Rattle.slots.specs.Groups.{Group, group, slotsOf, inSlot, inGroup, figureFrom}
 use Rattle.slots.specs.Layout.{figureSlots, postedSlots, evidenceSlots, figureGroups, postedGroups, evidenceGroups, calendarOf, figuresOf, postedOf, evidenceOf, lastClosedIn, currentTierIn, figureIn, postedIn, ledgerIn}
 use Rattle.slots.proofs.CellLaws.{array-shows}
 use Rattle.slots.proofs.GroupLaws.{group-facts, in-group, group-slot}
-use Rattle.slots.proofs.Inside.{Inside, Inside2}
 use Rattle.slots.proofs.Confined.{Confined}
 
 -- what is read of a group in the array of groups is the group's figure, where that has nothing without a slot

@@ -1,6 +1,6 @@
 -- `migrate::transfers::is_empty` meets its contract: the entries passed so far are 0. Assumes nothing.
 use Prim.Native.Nat.{_≤_, _-_, zero-le}
-use mathlib.Core.Path.{_≡_, refl, sym, ap, _∙_}
+use mathlib.Core.Path.{_≡_, refl}
 use mathlib.Core.Bool.{true}
 use native.Mathlib.Omega.{arith}
 use lib.Dec.{eqb}
