@@ -11,3 +11,4 @@ pub mod CountedLaws
 pub mod BookLines
 pub mod DigitLaws
 pub mod WritingLaws
+pub mod FeedLaws

@@ -123,15 +123,3 @@ module _ (bytes : List ℕ) (i v : ℕ) (done : ReadTo bytes i v) where
   pub digits-end : length bytes ≤ i → Value v ≡ digitsRead 0 bytes
   unfolding digitsRead allDigits valueAfter
   digits-end l = sym (done ∙ ap (digitsRead v) (drop-of-length-le bytes l))
-
--- one byte earlier in a script, a line more or none
-pub lines-before : (script : List ℕ) (i n : ℕ) (t : Bool) → 0 < i → i ≤ length script → n ≡ length (linesOf (drop i script)) → (eqb (getD script (i - 1) 0) lineFeed || eqb n 0) ≡ t → cond t (n + 1) n ≡ length (linesOf (drop (i - 1) script))
-lines-before script i n t some in-script count test =
-    let here : i - 1 + 1 ≡ i = omega arith in
-    let after : drop (i - 1 + 1) script ≡ drop i script = ap (λ k. drop k script) here in
-    sym
-    (at-byte (λ bytes. length (linesOf bytes)) script (i - 1) (omega arith)
-    ∙ ap (λ bytes. length (linesOf (getD script (i - 1) 0 ∷ bytes))) after
-    ∙ lines-more (getD script (i - 1) 0) (drop i script)
-    ∙ ap (λ k. cond (eqb (getD script (i - 1) 0) lineFeed || eqb k 0) (k + 1) k) (sym count)
-    ∙ ap (λ u. cond u (n + 1) n) test)

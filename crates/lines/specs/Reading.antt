@@ -10,13 +10,22 @@ use Rattle.lines.specs.declared.text.Numeral.the-variants.{No, Value}
 use Rattle.lines.specs.declared.rows.Row.{Row}
 use Rattle.lines.specs.declared.rows.Fields.{Fields}
 use Rattle.lines.specs.declared.lines.NextRow.{NextRow}
-use Rattle.lines.specs.Text.{Line, ended, unended, linesOf, fieldsOf, allDigits, isNumber, valueAfter, valueOf}
+use Rattle.lines.specs.Text.{lineFeed, Line, ended, unended, linesOf, fieldsOf, allDigits, isNumber, valueAfter, valueOf}
 use Rattle.lines.specs.Rows.{allNumbers, unreadableRow, rowOf}
 
 -- how many bytes stand before the first that is the stop, all of them if none is
 unfoldable pub lengthUpTo : ℕ → List ℕ → ℕ
 lengthUpTo stop [] = 0
 lengthUpTo stop (b ∷ bytes) = cond (eqb b stop) 0 (suc (lengthUpTo stop bytes))
+
+-- how many bytes are LF
+unfoldable pub feedsIn : List ℕ → ℕ
+feedsIn [] = 0
+feedsIn (b ∷ bytes) = cond (eqb b lineFeed) (suc (feedsIn bytes)) (feedsIn bytes)
+
+-- the most bytes whose LFs are counted together
+abbrev pub chunkBytes : ℕ
+chunkBytes = 128
 
 -- what digits write after others of value v: none where a byte is no digit
 unfoldable pub digitsRead : ℕ → List ℕ → Numeral

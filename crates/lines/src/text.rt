@@ -3,7 +3,7 @@ ghost use mathlib.Core.Path.{_≡_};
 ghost use Prim.Native.Nat.{_≤_};
 ghost use lib.ListN.{length};
 ghost use Rattle.lines.specs.Text.{lineFeed, linesOf};
-ghost use Rattle.lines.specs.Reading.{lengthUpTo, numeral, digitsRead};
+ghost use Rattle.lines.specs.Reading.{chunkBytes, feedsIn, lengthUpTo, numeral, digitsRead};
 
 // The most bytes that a run takes.
 pub const MAX_BYTES: usize = 65536;
@@ -12,6 +12,9 @@ pub const MAX_BYTES: usize = 65536;
 pub const MAX_LINES: usize = 4096;
 
 const LINE_FEED: u8 = 10;
+
+// The bytes whose LFs are counted together: few enough for a count of one byte.
+const CHUNK_BYTES: usize = 128;
 
 // What a field writes: a number, or none.
 pub enum Numeral {
@@ -40,19 +43,48 @@ pub fn line_length(rest: &[u8]) -> usize
     bytes_before(rest, LINE_FEED)
 }
 
-// How many lines a script has. From its last byte to its first: a line ends at the last byte, and at each LF before it.
+// How many of a few bytes are LF. The count takes one byte, so that many are compared at once.
+fn feeds_in(chunk: &[u8]) -> u8
+    requires { ⌜ length (now chunk) ≤ chunkBytes ⌝ }
+    ensures { λ r. ⌜ r ≡ feedsIn (now (chunk .entry)) ⌝ }
+{
+    let mut feeds: u8 = 0;
+    let mut i = 0;
+    while i < chunk.len() {
+        if chunk[i] == LINE_FEED {
+            feeds += 1;
+        }
+        i += 1;
+    }
+    feeds
+}
+
+// How many bytes of a script are LF: whole chunks, and what is left.
+fn count_feeds(script: &[u8]) -> u64
+    ensures { λ r. ⌜ r ≡ feedsIn (now (script .entry)) ⌝ }
+{
+    let mut feeds: u64 = 0;
+    let mut i = 0;
+    while CHUNK_BYTES <= script.len() - i {
+        feeds += feeds_in(&script[i..i + CHUNK_BYTES]) as u64;
+        i += CHUNK_BYTES;
+    }
+    feeds + feeds_in(&script[i..]) as u64
+}
+
+// How many lines a script has: one to each LF, and one more if bytes follow the last LF.
 pub fn count_lines(script: &[u8]) -> u64
     ensures { λ r. ⌜ r ≡ length (linesOf (now (script .entry))) ⌝ }
 {
-    let mut lines: u64 = 0;
-    let mut i = script.len();
-    while 0 < i {
-        i -= 1;
-        if (script[i] == LINE_FEED) | (lines == 0) {
-            lines += 1;
-        }
+    let length = script.len();
+    if length == 0 {
+        return 0;
     }
-    lines
+    let feeds = count_feeds(script);
+    if script[length - 1] == LINE_FEED {
+        return feeds;
+    }
+    feeds + 1
 }
 
 // The value of at most 9 bytes, where all of them are digits.
