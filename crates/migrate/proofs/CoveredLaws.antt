@@ -29,7 +29,7 @@ use Rattle.records.specs.Opening.{openingIn}
 use Rattle.slots.specs.Cells.{readAt}
 use Rattle.slots.specs.Layout.{figureSlots, ledgerIn}
 use Rattle.slots.specs.Steps.{Reachable}
-use Rattle.slots.proofs.Reachable.{known, counts, fits, figures-long}
+use Rattle.slots.proofs.Reachable.{bases-known, known, counts, fits, figures-long}
 use Rattle.slots.proofs.Figures.{by-number, from-zero}
 use Rattle.migrate.specs.declared.transfers.Transfer.{Transfer}
 use Rattle.migrate.specs.Columns.{inColumn, Transferred}
@@ -128,16 +128,18 @@ module _ (o f : List ℕ) (m : List Bool) (e : List Entry) (r : Reachable o f m 
           together p slot (λ i. L .rights .awarded i p (slot - 8)) (10 * mostTogether) (λ i k. ap (readAt figureSlots 0 f i p) (let s : slot ≡ 9 + (slot - 8 - 1) = omega arith in s) ∙ by-number f 9 3 i p (slot - 8) k place 1 (omega arith) (omega arith)) (awarded-sum p (slot - 8)) (omega arith)
 
   -- the loads have gone over, and the rights are as they were
-  pub rights-fit : (next : List ℕ) → Transferred (columnWhere (loadAt term sink) (loadColumn x)) f next → RightsFit O next term sink x
-  rights-fit next a =
+  pub rights-fit : (next : List ℕ) → Transferred (columnWhere (loadAt term sink) (loadColumn x)) f next → RightsFit o next term sink x
+  rights-fit next a p place =
       record {
         long = where-long (loadColumn x) (loadAt term sink) f next (figures-long o f m e r) a;
+        bases = bases-known o f m e r;
         inTerm = facts .termInRange;
         covered = covered;
-        fits = λ p slot place high on. let low = moving-slot O term sink p slot (facts .termInRange) on in le-trans (le-of-eq (sum-ext {f = inColumn next p slot} {g = inColumn f p slot} (x .holders) (λ i l. as-it-was p slot place (low .0) (low .1) i (let n = covered .few in omega arith)))) (columns-fit p slot place (low .0) (low .1));
+        place = place;
+        fits = λ slot high on. let low = moving-slot O term sink p slot (facts .termInRange) on in le-trans (le-of-eq (sum-ext {f = inColumn next p slot} {g = inColumn f p slot} (x .holders) (λ i l. as-it-was slot (low .0) (low .1) i (let n = covered .few in omega arith)))) (columns-fit p slot place (low .0) (low .1));
       }
     where
-      as-it-was : (p slot : ℕ) → p < 16 → 4 ≤ slot → slot < 12 → (i : ℕ) → i < 8 → inColumn next p slot i ≡ inColumn f p slot i
-      as-it-was p slot place low high i l =
+      as-it-was : (slot : ℕ) → 4 ≤ slot → slot < 12 → (i : ℕ) → i < 8 → inColumn next p slot i ≡ inColumn f p slot i
+      as-it-was slot low high i l =
           transferred-read (columnWhere (loadAt term sink) (loadColumn x)) f next (figures-long o f m e r) a i p slot (record { holder = l; place = place; inRow = omega arith })
           ∙ where-off (loadColumn x) (loadAt term sink) p slot (inColumn f p slot) i (no-load term sink p slot (facts .termInRange) low)

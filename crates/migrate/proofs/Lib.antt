@@ -3,6 +3,7 @@ pub mod EmptyLaws
 pub mod ShareLaws
 pub mod WhereLaws
 pub mod MovingLaws
+pub mod PathMoves
 pub mod LineLaws
 pub mod LineCauses
 pub mod GroupMoves

@@ -164,8 +164,8 @@ module _ (o f : List ℕ) (term sink : ℕ) (froms tos classes customers watts :
                 unfolding transferOf
                 load-needs = (load-there, subst Covered (sym is) (covered o f m e reach term sink froms tos classes customers watts lengths facts), ap (λ z. z .load) is)
 
-                pub rights-needs : (one : List ℕ) → Transferred (columnWhere (loadAt term sink) (loadColumn y)) f one → RightsFit O one term sink y
-                rights-needs one a = subst (RightsFit O one term sink) (sym is) (rights-fit o f m e reach term sink froms tos classes customers watts lengths facts one (subst (λ z. Transferred (columnWhere (loadAt term sink) (loadColumn z)) f one) is a))
+                pub rights-needs : (one : List ℕ) → Transferred (columnWhere (loadAt term sink) (loadColumn y)) f one → RightsFit o one term sink y
+                rights-needs one a = subst (RightsFit o one term sink) (sym is) (rights-fit o f m e reach term sink froms tos classes customers watts lengths facts one (subst (λ z. Transferred (columnWhere (loadAt term sink) (loadColumn z)) f one) is a))
 
                 stay : (postedOf L ≡ postedOf (effect O L (migrate term sink lines))) × (evidenceOf L ≡ evidenceOf (effect O L (migrate term sink lines)))
                 unfolding postedOf postedGroups evidenceOf evidenceGroups effect migrated loadsAfter rightsAfter priorsAfter

@@ -11,9 +11,11 @@ use Rattle.tariff.specs.Ranges.{mostKw}
 use Rattle.migration.specs.Migration.{shares, shifted}
 use Rattle.migration.specs.Netting.{pairAt, holderAt}
 use Rattle.ledger.specs.Opening.{Opening, endsAt}
+use Rattle.records.specs.Opening.{openingIn, KeepsBases}
+use Rattle.slots.specs.Cells.{maxPlaces}
 use Rattle.slots.specs.Layout.{figureCount, loadSlot, priorSlot, carriedSlot, awardedSlot, nominatedSlot}
 use Rattle.migrate.specs.declared.transfers.Transfer.{Transfer}
-use Rattle.migrate.specs.Columns.{inColumn}
+use Rattle.migrate.specs.Columns.{HasColumn, inColumn}
 
 -- a column after m has gone over, and after its shares have
 unfoldable pub loadColumn : Transfer → (ℕ → ℕ) → ℕ → ℕ
@@ -50,9 +52,22 @@ pub record Covered (x : Transfer) : Type 0 where
 abbrev pub ColumnFits : Transfer → (ℕ → ℕ) → Type 0
 ColumnFits x v = sumTo (x .holders) v ≤ 80 * mostKw
 
--- figures of which the rights and allocations can move
-pub record RightsFit (o : Opening) (f : List ℕ) (term sink : ℕ) (x : Transfer) : Type 0 where
-  pub long : length f ≡ figureCount
+-- a slot of a path: what stands in it can move, if it is one that does
+pub record SlotFits (f : List ℕ) (term p slot : ℕ) (x : Transfer) : Type 0 where
+  pub column : HasColumn f p slot
   pub inTerm : term ≤ 3
   pub covered : Covered x
-  pub fits : (p slot : ℕ) → p < 16 → slot < nominatedSlot → movesAt o term sink p slot ≡ true → ColumnFits x (inColumn f p slot)
+  pub fits : slotMoves term slot ≡ true → ColumnFits x (inColumn f p slot)
+
+-- a path of which the rights and allocations can move
+pub record PathFits (o f : List ℕ) (term sink : ℕ) (x : Transfer) (p : ℕ) : Type 0 where
+  pub long : length f ≡ figureCount
+  pub bases : KeepsBases o
+  pub inTerm : term ≤ 3
+  pub covered : Covered x
+  pub place : p < maxPlaces
+  pub fits : (slot : ℕ) → slot < nominatedSlot → movesAt (openingIn o) term sink p slot ≡ true → ColumnFits x (inColumn f p slot)
+
+-- and every path
+abbrev pub RightsFit : (o f : List ℕ) (term sink : ℕ) → Transfer → Type 0
+RightsFit o f term sink x = (p : ℕ) → p < maxPlaces → PathFits o f term sink x p

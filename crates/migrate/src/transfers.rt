@@ -7,9 +7,10 @@ use slots::cells::store;
 use slots::layout::AWARDED;
 use slots::layout::CARRIED;
 use slots::layout::LOAD;
+use slots::layout::NOMINATED;
 use slots::layout::PRIOR;
 ghost use mathlib.Core.Path.{_≡_};
-ghost use mathlib.Core.Bool.{true, false, _&&_};
+ghost use mathlib.Core.Bool.{_&&_};
 ghost use Prim.Native.Nat.{_+_, _≤_};
 ghost use Rattle.tariff.specs.Sum.{allBelow};
 ghost use lib.Dec.{eqb};
@@ -17,7 +18,7 @@ ghost use Rattle.migration.specs.Netting.{holderAt};
 ghost use Rattle.records.specs.Opening.{openingIn};
 ghost use Rattle.slots.specs.Layout.{loadSlot};
 ghost use Rattle.migrate.specs.Columns.{HasColumn, inColumn, columnAt, columnStored, Transferred};
-ghost use Rattle.migrate.specs.Transfers.{loadColumn, shareColumn, slotMoves, movesAt, columnWhere, loadAt, Covered, ColumnFits, RightsFit};
+ghost use Rattle.migrate.specs.Transfers.{loadColumn, shareColumn, slotMoves, movesAt, columnWhere, loadAt, Covered, ColumnFits, SlotFits, PathFits, RightsFit};
 
 // What a migration transfers: the kW from holder i to holder j at i * 8 + j, each holder's load at the sink and term before it,
 // and how many holders there are.
@@ -94,37 +95,41 @@ fn slot_moves(term: u64, slot: u64) -> bool
     (slot == CARRIED + term - 1) | (slot == AWARDED + term - 1)
 }
 
-// The shares of one column gone over, if it is one that moves.
-fn transfer_if_moving(
-    f: &mut [u64],
-    o: &[u64],
-    term: u64,
-    sink: u64,
-    p: u64,
-    slot: u64,
-    x: Transfer,
-)
-    requires { ⌜ HasColumn (now f) p slot × (term ≤ 3) × Covered x × (movesAt (openingIn (now o)) term sink p slot ≡ true → ColumnFits x (inColumn (now f) p slot)) ⌝ }
-    ensures { λ r. ⌜ Transferred (columnWhere (λ q j. (eqb q p && eqb j slot) && movesAt (openingIn (now (o .entry))) term sink q j) (shareColumn x)) (now (f .entry)) (now (f .exit)) ⌝ }
+// The shares of one slot of a path gone over, if it is one that moves.
+fn transfer_slot(f: &mut [u64], term: u64, p: u64, slot: u64, x: Transfer)
+    requires { ⌜ SlotFits (now f) term p slot x ⌝ }
+    ensures { λ r. ⌜ Transferred (columnWhere (λ q j. (eqb q p && slotMoves term j) && eqb j slot) (shareColumn x)) (now (f .entry)) (now (f .exit)) ⌝ }
 {
-    if path_base(o, p) != sink {
-        return;
-    }
     if !slot_moves(term, slot) {
         return;
     }
     transfer_column(f, p, slot, x);
 }
 
-// The shares of every column that moves gone over. Eight slots of each of 16 paths can move: prior's, and the carried and awarded holdings.
+// The shares of a path's slots gone over, if its sink has this base. The slots that can move stand side by side: prior's, carried and awarded holdings.
+fn transfer_path(f: &mut [u64], o: &[u64], term: u64, sink: u64, p: u64, x: Transfer)
+    requires { ⌜ PathFits (now o) (now f) term sink x p ⌝ }
+    ensures { λ r. ⌜ Transferred (columnWhere (λ q j. movesAt (openingIn (now (o .entry))) term sink q j && eqb q p) (shareColumn x)) (now (f .entry)) (now (f .exit)) ⌝ }
+{
+    if path_base(o, p) != sink {
+        return;
+    }
+    let mut slot = PRIOR;
+    while slot < NOMINATED {
+        transfer_slot(f, term, p, slot, x);
+        slot += 1;
+    }
+}
+
+// The shares of every slot that moves gone over, path by path.
 pub fn transfer_rights(f: &mut [u64], o: &[u64], term: u64, sink: u64, x: Transfer)
-    requires { ⌜ RightsFit (openingIn (now o)) (now f) term sink x ⌝ }
+    requires { ⌜ RightsFit (now o) (now f) term sink x ⌝ }
     ensures { λ r. ⌜ Transferred (columnWhere (movesAt (openingIn (now (o .entry))) term sink) (shareColumn x)) (now (f .entry)) (now (f .exit)) ⌝ }
 {
-    let mut n: u64 = 0;
-    while n < 128 {
-        transfer_if_moving(f, o, term, sink, n / 8, PRIOR + n % 8, x);
-        n += 1;
+    let mut p: u64 = 0;
+    while p < 16 {
+        transfer_path(f, o, term, sink, p, x);
+        p += 1;
     }
 }
 

@@ -4,12 +4,13 @@ use mathlib.Core.Path.{_≡_, refl, sym, ap, _∙_}
 use mathlib.Core.List.{List, [], _∷_, _++_, append-assoc}
 use native.Mathlib.Nat.{le-of-eq}
 use native.Mathlib.Omega.{arith}
-use lib.ListN.{length, take, drop, set, length-append, length-set, length-drop}
+use lib.ListN.{length, getD, take, drop, set, length-append, length-set, length-drop}
 use lib.Seq.{length-take-le, take-all, take-at}
 use borrow.Rule.Slice.PartMut.{midOf, postOf, putMid, same-len-mid}
 use Rattle.tariff.specs.Sum.{listTo}
-use Rattle.tariff.proofs.Lists.{length-list-to}
-use Rattle.records.specs.Opening.{withRoom, openingArray, openingFrom, emptyOpening}
+use Rattle.tariff.proofs.Lists.{length-list-to, list-is}
+use Rattle.records.specs.Opening.{openingCount, basesAt, openingIn, withRoom, openingLists, pathBases, openingArray, openingFrom, emptyOpening}
+use Rattle.ledger.specs.Opening.{base, pathSink, pathBase}
 
 -- the four counts stored
 counts-first : (o : List ℕ) (holders sources sinks paths : ℕ) → 4 ≤ length o → take 4 (set (set (set (set o 0 holders) 1 sources) 2 sinks) 3 paths) ≡ holders ∷ sources ∷ sinks ∷ paths ∷ []
@@ -20,14 +21,14 @@ counts-first (a ∷ b ∷ c ∷ []) holders sources sinks paths l = absurd (omeg
 counts-first (a ∷ b ∷ c ∷ d ∷ rest) holders sources sinks paths l = refl
 
 -- a list copied in behind what stands there
-module _ (a k : ℕ) (xs from ys : List ℕ) (size : length xs ≡ 76) (fits : a + k ≤ 76) (copied : ys ≡ withRoom (length (midOf a k xs)) from) where
+module _ (a k : ℕ) (xs from ys : List ℕ) (size : length xs ≡ openingCount) (fits : a + k ≤ openingCount) (copied : ys ≡ withRoom (length (midOf a k xs)) from) where
   room : length (midOf a k xs) ≡ k
   room = length-take-le k (drop a xs) (let left = length-drop a xs in omega arith)
 
   copied-list : ys ≡ withRoom k from
   copied-list = copied ∙ ap (λ n. withRoom n from) room
 
-  copied-size : length (putMid a k xs ys) ≡ 76
+  copied-size : length (putMid a k xs ys) ≡ openingCount
   copied-size = same-len-mid a k xs ys (ap length copied ∙ length-list-to _ _) ∙ size
 
   copied-take : take (a + k) (putMid a k xs ys) ≡ take a xs ++ withRoom k from
@@ -36,64 +37,74 @@ module _ (a k : ℕ) (xs from ys : List ℕ) (size : length xs ≡ 76) (fits : a
       ∙ take-at (take a xs ++ ys) (postOf a k xs) (a + k) (let many = length-append (take a xs) ys in let before = length-take-le a xs (omega arith) in let new = ap length copied-list ∙ length-list-to k _ in omega arith)
       ∙ ap (λ z. take a xs ++ z) copied-list
 
-module _ (o : List ℕ) (size : length o ≡ 76) (holders sources sinks paths : ℕ) where
+-- bases copied in behind the lists
+pub bases-stored : (o bases ys : List ℕ) → length o ≡ openingCount → length bases ≡ 16 → ys ≡ withRoom (length (midOf basesAt 16 o)) bases → putMid basesAt 16 o ys ≡ take basesAt o ++ bases
+bases-stored o bases ys size many copied =
+    sym (take-all openingCount (putMid basesAt 16 o ys) (le-of-eq (copied-size basesAt 16 o bases ys size (omega arith) copied)))
+    ∙ copied-take basesAt 16 o bases ys size (omega arith) copied
+    ∙ ap (λ z. take basesAt o ++ z) (sym (list-is 16 (λ k. getD bases k 0) bases many (λ k l. refl)))
+
+pub bases-many : (o : List ℕ) → length (pathBases (openingIn o)) ≡ 16
+unfolding pathBases
+bases-many o = length-list-to 16 _
+
+module _ (o : List ℕ) (size : length o ≡ openingCount) (holders sources sinks paths : ℕ) where
   abbrev counted : List ℕ
   counted = set (set (set (set o 0 holders) 1 sources) 2 sinks) 3 paths
 
-  pub counted-size : length counted ≡ 76
+  pub counted-size : length counted ≡ openingCount
   counted-size = simp length-set size
 
   module _ (holderKinds ys1 : List ℕ) (first : ys1 ≡ withRoom (length (midOf 4 8 counted)) holderKinds) where
-    pub size-1 : length (putMid 4 8 counted ys1) ≡ 76
+    pub size-1 : length (putMid 4 8 counted ys1) ≡ openingCount
     size-1 = copied-size 4 8 counted holderKinds ys1 counted-size (omega arith) first
 
     module _ (sinkKinds ys2 : List ℕ) (second : ys2 ≡ withRoom (length (midOf 12 16 (putMid 4 8 counted ys1))) sinkKinds) where
       abbrev to2 : List ℕ
       to2 = putMid 12 16 (putMid 4 8 counted ys1) ys2
 
-      pub size-2 : length to2 ≡ 76
+      pub size-2 : length to2 ≡ openingCount
       size-2 = copied-size 12 16 (putMid 4 8 counted ys1) sinkKinds ys2 size-1 (omega arith) second
 
       module _ (sinkParents ys3 : List ℕ) (third : ys3 ≡ withRoom (length (midOf 28 16 to2)) sinkParents) where
         abbrev to3 : List ℕ
         to3 = putMid 28 16 to2 ys3
 
-        pub size-3 : length to3 ≡ 76
+        pub size-3 : length to3 ≡ openingCount
         size-3 = copied-size 28 16 to2 sinkParents ys3 size-2 (omega arith) third
 
         module _ (pathSources ys4 : List ℕ) (fourth : ys4 ≡ withRoom (length (midOf 44 16 to3)) pathSources) where
           abbrev to4 : List ℕ
           to4 = putMid 44 16 to3 ys4
 
-          pub size-4 : length to4 ≡ 76
+          pub size-4 : length to4 ≡ openingCount
           size-4 = copied-size 44 16 to3 pathSources ys4 size-3 (omega arith) fourth
 
           module _ (pathSinks ys5 : List ℕ) (fifth : ys5 ≡ withRoom (length (midOf 60 16 to4)) pathSinks) where
             abbrev to5 : List ℕ
             to5 = putMid 60 16 to4 ys5
 
-            pub size-5 : length to5 ≡ 76
+            pub size-5 : length to5 ≡ openingCount
             size-5 = copied-size 60 16 to4 pathSinks ys5 size-4 (omega arith) fifth
 
             abbrev front : List ℕ
             front = holders ∷ sources ∷ sinks ∷ paths ∷ []
 
             -- the lists stand behind the counts
-            copied-all : to5 ≡ ((((front ++ withRoom 8 holderKinds) ++ withRoom 16 sinkKinds) ++ withRoom 16 sinkParents) ++ withRoom 16 pathSources) ++ withRoom 16 pathSinks
+            copied-all : take basesAt to5 ≡ ((((front ++ withRoom 8 holderKinds) ++ withRoom 16 sinkKinds) ++ withRoom 16 sinkParents) ++ withRoom 16 pathSources) ++ withRoom 16 pathSinks
             copied-all =
-                sym (take-all 76 to5 (le-of-eq size-5))
-                ∙ copied-take 60 16 to4 pathSinks ys5 size-4 (omega arith) fifth
+                copied-take 60 16 to4 pathSinks ys5 size-4 (omega arith) fifth
                 ∙ ap (λ z. z ++ withRoom 16 pathSinks) (copied-take 44 16 to3 pathSources ys4 size-3 (omega arith) fourth)
                 ∙ ap (λ z. (z ++ withRoom 16 pathSources) ++ withRoom 16 pathSinks) (copied-take 28 16 to2 sinkParents ys3 size-2 (omega arith) third)
                 ∙ ap (λ z. ((z ++ withRoom 16 sinkParents) ++ withRoom 16 pathSources) ++ withRoom 16 pathSinks) (copied-take 12 16 (putMid 4 8 counted ys1) sinkKinds ys2 size-1 (omega arith) second)
                 ∙ ap (λ z. (((z ++ withRoom 16 sinkKinds) ++ withRoom 16 sinkParents) ++ withRoom 16 pathSources) ++ withRoom 16 pathSinks) (copied-take 4 8 counted holderKinds ys1 counted-size (omega arith) first)
                 ∙ ap (λ z. ((((z ++ withRoom 8 holderKinds) ++ withRoom 16 sinkKinds) ++ withRoom 16 sinkParents) ++ withRoom 16 pathSources) ++ withRoom 16 pathSinks) (counts-first o holders sources sinks paths (omega arith))
 
-            pub opening-kept : to5 ≡ openingArray (openingFrom holders sources sinks paths holderKinds sinkKinds sinkParents pathSources pathSinks)
-            unfolding openingArray openingFrom
+            pub opening-kept : take basesAt to5 ≡ openingLists (openingFrom holders sources sinks paths holderKinds sinkKinds sinkParents pathSources pathSinks)
+            unfolding openingLists openingFrom
             opening-kept = copied-all ∙ simp append-assoc
 
 -- an array with nothing but 0 keeps the opening with nothing in it
-pub empty-kept : listTo 76 (λ k. 0) ≡ openingArray emptyOpening
-unfolding openingArray emptyOpening listTo
+pub empty-kept : listTo openingCount (λ k. 0) ≡ openingArray emptyOpening
+unfolding openingArray openingLists pathBases pathBase base pathSink emptyOpening listTo
 empty-kept = refl

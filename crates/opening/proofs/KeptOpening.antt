@@ -2,7 +2,7 @@
 use Prim.Native.Nat.{ℕ, _≤_}
 use mathlib.Core.Path.{_≡_, refl, sym, ap, _∙_}
 use mathlib.Core.Bool.{Bool, true, false, cond, _&&_}
-use mathlib.Core.List.{List}
+use mathlib.Core.List.{List, _++_}
 use native.Mathlib.Omega.{arith}
 use lib.ListN.{length, getD, take, drop}
 use lib.Seq.{length-take-le}
@@ -12,8 +12,8 @@ use Rattle.tariff.specs.Sum.{allBelow, listTo}
 use Rattle.tariff.proofs.Tests.{and-join, and-right-false}
 use Rattle.ledger.specs.Opening.{Opening, countsFit, listsFit, holderLegal, sinkLegal, pathLegal, pathNew, legal, openingRefusal}
 use Rattle.records.specs.declared.answers.Answer.the-variants.{Done, Refused}
-use Rattle.records.specs.Opening.{openingCount, openingIn, openingArray, emptyOpening}
-use Rattle.records.proofs.OpeningLaws.{counts-small, fitting-back}
+use Rattle.records.specs.Opening.{openingCount, basesAt, openingIn, openingLists, pathBases, openingArray, emptyOpening}
+use Rattle.records.proofs.OpeningLaws.{counts-small, legal-fits, opening-before, opening-by-lists}
 use Rattle.opening.specs.Opened.{openedAnswer, openedOpening}
 use Rattle.opening.proofs.KeptArray.{empty-kept}
 
@@ -50,29 +50,37 @@ unfolding legal openingIn
 legal-by-lines o size e = rw (e, array-lists o size e)
 
 -- an array keeps the counts as they are
-counts-same : (o : Opening) → countsFit (openingIn (openingArray o)) ≡ countsFit o
-unfolding countsFit openingIn openingArray
+counts-same : (o : Opening) → countsFit (openingIn (openingLists o)) ≡ countsFit o
+unfolding countsFit openingIn openingLists
 counts-same o = refl
 
-module _ (o : Opening) (kept : List ℕ) (keeps : kept ≡ openingArray o) where
+module _ (o : Opening) (kept : List ℕ) (keeps : take basesAt kept ≡ openingLists o) where
   -- the lists fit and the array is legal just where the opening is
   legal-kept : (listsFit o && legal (openingIn kept)) ≡ legal o
-  legal-kept = ap (λ x. listsFit o && legal (openingIn x)) keeps ∙ go (listsFit o) (countsFit o) refl refl
+  legal-kept = go (listsFit o) (countsFit o) refl refl
     where
-      go : (l n : Bool) → listsFit o ≡ l → countsFit o ≡ n → (l && legal (openingIn (openingArray o))) ≡ legal o
+      go : (l n : Bool) → listsFit o ≡ l → countsFit o ≡ n → (l && legal (openingIn kept)) ≡ legal o
       go false n p q = sym (unfit-lists o p)
-      go true true p q = ap legal (fitting-back o q p)
-      go true false p q = unfit-counts (openingIn (openingArray o)) (counts-same o ∙ q) ∙ sym (unfit-counts o q)
+      go true true p q = ap legal (opening-by-lists o kept keeps q p)
+      go true false p q = unfit-counts (openingIn kept) (ap countsFit (sym (opening-before kept) ∙ ap openingIn keeps) ∙ counts-same o ∙ q) ∙ sym (unfit-counts o q)
 
   module _ {lists lines : Bool} (ofLists : lists ≡ listsFit o) (ofLines : lines ≡ legal (openingIn kept)) where
     tested : {t : Bool} → (lists && lines) ≡ t → legal o ≡ t
     tested e = sym ((λ i. ofLists i && ofLines i) ∙ legal-kept) ∙ e
 
-    pub opened-done : (lists && lines) ≡ true → (Done ≡ openedAnswer o) × (kept ≡ openingArray (openedOpening o))
+    -- the lists and the bases of a legal opening are its array
+    with-bases : (left : List ℕ) → legal o ≡ true → left ≡ take basesAt kept ++ pathBases (openingIn kept) → left ≡ openingArray o
+    unfolding openingArray
+    with-bases left ok bases = bases ∙ (λ i. keeps i ++ pathBases (legal-by-lists-kept ok i))
+      where
+        legal-by-lists-kept : legal o ≡ true → openingIn kept ≡ o
+        legal-by-lists-kept ok = let fits = legal-fits o ok in opening-by-lists o kept keeps (fits .0) (fits .1)
+
+    pub opened-done : (left : List ℕ) → (lists && lines) ≡ true → left ≡ take basesAt kept ++ pathBases (openingIn kept) → (Done ≡ openedAnswer o) × (left ≡ openingArray (openedOpening o))
     unfolding openedAnswer openedOpening
-    opened-done e =
+    opened-done left e bases =
         let t = tested e in
-        (sym (ap (λ t. cond t Done (Refused (openingRefusal o))) t), keeps ∙ sym (ap (λ t. openingArray (cond t o emptyOpening)) t))
+        (sym (ap (λ t. cond t Done (Refused (openingRefusal o))) t), with-bases left t bases ∙ sym (ap (λ t. openingArray (cond t o emptyOpening)) t))
 
     pub opened-refused : (left : List ℕ) → (lists && lines) ≡ false → left ≡ listTo openingCount (λ k. 0) → (Refused 16 ≡ openedAnswer o) × (left ≡ openingArray (openedOpening o))
     unfolding openedAnswer openedOpening openingRefusal

@@ -1,10 +1,19 @@
 // The counts and lists that a book is opened with, kept in an array (01, The book).
+use records::setup::BASES;
+use records::setup::HOLDER_KINDS;
+use records::setup::OPENING;
+use records::setup::PATH_SINKS;
+use records::setup::PATH_SOURCES;
+use records::setup::SINK_KINDS;
+use records::setup::SINK_PARENTS;
+use records::setup::base_by_sink;
 ghost use mathlib.Core.Path.{_≡_};
+ghost use mathlib.Core.List.{_++_};
 ghost use Prim.Native.Nat.{ℕ};
-ghost use lib.ListN.{length, getD};
+ghost use lib.ListN.{length, getD, take};
 ghost use Rattle.tariff.specs.Sum.{listTo};
 ghost use Rattle.ledger.specs.Opening.{listsFit};
-ghost use Rattle.records.specs.Opening.{openingCount, openingArray, openingFrom};
+ghost use Rattle.records.specs.Opening.{openingCount, basesAt, openingIn, openingLists, pathBases, openingFrom};
 
 // A list copied into an array: 0 past the list's end, and what finds no room is left out.
 fn copy_into(to: &mut [u64], from: &[u64])
@@ -17,7 +26,7 @@ fn copy_into(to: &mut [u64], from: &[u64])
     }
 }
 
-// What a book is opened with, kept in an array.
+// The counts and lists that a book is opened with, kept in an array.
 pub fn keep_opening(
     o: &mut [u64],
     holders: u64,
@@ -31,17 +40,39 @@ pub fn keep_opening(
     path_sinks: &[u64],
 )
     requires { ⌜ length (now o) ≡ openingCount ⌝ }
-    ensures { λ r. ⌜ now (o .exit) ≡ openingArray (openingFrom holders sources sinks paths (now («holder_kinds» .entry)) (now («sink_kinds» .entry)) (now («sink_parents» .entry)) (now («path_sources» .entry)) (now («path_sinks» .entry))) ⌝ }
+    ensures { λ r. ⌜ take basesAt (now (o .exit)) ≡ openingLists (openingFrom holders sources sinks paths (now («holder_kinds» .entry)) (now («sink_kinds» .entry)) (now («sink_parents» .entry)) (now («path_sources» .entry)) (now («path_sinks» .entry))) ⌝ }
 {
     o[0] = holders;
     o[1] = sources;
     o[2] = sinks;
     o[3] = paths;
-    copy_into(&mut o[4..12], holder_kinds);
-    copy_into(&mut o[12..28], sink_kinds);
-    copy_into(&mut o[28..44], sink_parents);
-    copy_into(&mut o[44..60], path_sources);
-    copy_into(&mut o[60..76], path_sinks);
+    copy_into(&mut o[HOLDER_KINDS..SINK_KINDS], holder_kinds);
+    copy_into(&mut o[SINK_KINDS..SINK_PARENTS], sink_kinds);
+    copy_into(&mut o[SINK_PARENTS..PATH_SOURCES], sink_parents);
+    copy_into(&mut o[PATH_SOURCES..PATH_SINKS], path_sources);
+    copy_into(&mut o[PATH_SINKS..BASES], path_sinks);
+}
+
+// The base of each path of the opening that an array keeps.
+fn path_bases(o: &[u64]) -> [u64; 16]
+    ensures { λ r. ⌜ r ≡ pathBases (openingIn (now (o .entry))) ⌝ }
+{
+    let mut bases = [0u64; 16];
+    let mut p = 0;
+    while p < 16 {
+        bases[p] = base_by_sink(o, p as u64);
+        p += 1;
+    }
+    bases
+}
+
+// The bases kept behind the lists.
+pub fn keep_bases(o: &mut [u64])
+    requires { ⌜ length (now o) ≡ openingCount ⌝ }
+    ensures { λ r. ⌜ now (o .exit) ≡ take basesAt (now (o .entry)) ++ pathBases (openingIn (now (o .entry))) ⌝ }
+{
+    let bases = path_bases(o);
+    copy_into(&mut o[BASES..OPENING], &bases);
 }
 
 // Each list has as many entries as are counted.

@@ -1,9 +1,11 @@
 // Opening a book (01, The book; cause 16).
 use crate::legality::is_legal;
+use crate::lists::keep_bases;
 use crate::lists::keep_opening;
 use crate::lists::lists_fit;
 use records::answers::Answer;
 use records::lists::clear;
+use records::numbers::BREAKS_RULES;
 ghost use mathlib.Core.Path.{_≡_};
 ghost use lib.ListN.{length};
 ghost use Rattle.records.specs.Opening.{openingCount, openingArray, openingFrom};
@@ -23,7 +25,8 @@ pub fn open(
     path_sinks: &[u64],
 ) -> Answer
     requires { ⌜ length (now o) ≡ openingCount ⌝ }
-    ensures { λ r. ⌜ (r ≡ openedAnswer (openingFrom holders sources sinks paths (now («holder_kinds» .entry)) (now («sink_kinds» .entry)) (now («sink_parents» .entry)) (now («path_sources» .entry)) (now («path_sinks» .entry)))) × (now (o .exit) ≡ openingArray (openedOpening (openingFrom holders sources sinks paths (now («holder_kinds» .entry)) (now («sink_kinds» .entry)) (now («sink_parents» .entry)) (now («path_sources» .entry)) (now («path_sinks» .entry))))) ⌝ }
+    ensures answered { λ r. ⌜ r ≡ openedAnswer (openingFrom holders sources sinks paths (now («holder_kinds» .entry)) (now («sink_kinds» .entry)) (now («sink_parents» .entry)) (now («path_sources» .entry)) (now («path_sinks» .entry))) ⌝ }
+    ensures kept { λ r. ⌜ now (o .exit) ≡ openingArray (openedOpening (openingFrom holders sources sinks paths (now («holder_kinds» .entry)) (now («sink_kinds» .entry)) (now («sink_parents» .entry)) (now («path_sources» .entry)) (now («path_sinks» .entry)))) ⌝ }
 {
     keep_opening(
         o,
@@ -48,8 +51,9 @@ pub fn open(
         path_sinks,
     );
     if lists & is_legal(o) {
+        keep_bases(o);
         return Answer::Done;
     }
     clear(o);
-    Answer::Refused(16)
+    Answer::Refused(BREAKS_RULES)
 }

@@ -1,17 +1,17 @@
 -- Openings: an array keeps the whole of a legal one. Assumes nothing.
-use Prim.Native.Nat.{ℕ, _≤_, _<_}
+use Prim.Native.Nat.{ℕ, zero, suc, _+_, _≤_, _<_}
 use mathlib.Core.Path.{_≡_, refl, sym, ap, _∙_}
 use mathlib.Core.Bool.{true}
 use mathlib.Core.List.{List, [], _∷_, _++_}
 use native.Mathlib.Omega.{arith}
-use lib.ListN.{length, getD, take, drop}
-use lib.Seq.{ext-getD, getD-take, length-take-le}
+use lib.ListN.{length, getD, take, drop, length-append, length-drop}
+use lib.Seq.{ext-getD, getD-take, getD-drop, length-take-le, take-take, take-at, drop-at}
 use borrow.Author.Tests.{eqb-true, leb-true}
 use Rattle.tariff.specs.Sum.{listTo, allBelow}
 use Rattle.tariff.proofs.Tests.{and-both}
 use Rattle.tariff.proofs.Lists.{length-list-to, at-list-to}
-use Rattle.ledger.specs.Opening.{Opening, countsFit, listsFit, legal}
-use Rattle.records.specs.Opening.{openingIn, openingArray, withRoom, emptyOpening}
+use Rattle.ledger.specs.Opening.{Opening, pathBase, countsFit, listsFit, legal}
+use Rattle.records.specs.Opening.{openingCount, basesAt, openingIn, openingLists, pathBases, openingArray, KeepsBases, withRoom, emptyOpening}
 use Rattle.records.proofs.Behind.{mid-behind, last-behind}
 
 -- the first n of a list that was copied into n places or more are the list
@@ -56,10 +56,10 @@ module _ (v w x y z : List ℕ) (a : length v ≡ 8) (b : length w ≡ 16) (c : 
     last-behind (v ∷ w ∷ x ∷ y ∷ []) z 56 16 (omega (arith, a, b, c, d)) e,
   )
 
--- an array keeps the whole of an opening whose counts and lists fit
-pub fitting-back : (o : Opening) → countsFit o ≡ true → listsFit o ≡ true → openingIn (openingArray o) ≡ o
-unfolding openingIn openingArray
-fitting-back o counts lists =
+-- the lists keep the whole of an opening whose counts and lists fit
+pub lists-back : (o : Opening) → countsFit o ≡ true → listsFit o ≡ true → openingIn (openingLists o) ≡ o
+unfolding openingIn openingLists
+lists-back o counts lists =
     let n = counts-small o counts in
     let l = lists-long o lists in
     let apart = lists-apart (withRoom 8 (o .holderKinds)) (withRoom 16 (o .sinkKinds)) (withRoom 16 (o .sinkParents)) (withRoom 16 (o .pathSources)) (withRoom 16 (o .pathSinks)) (length-list-to 8 _) (length-list-to 16 _) (length-list-to 16 _) (length-list-to 16 _) (length-list-to 16 _) in
@@ -76,13 +76,64 @@ fitting-back o counts lists =
       pathSinks = (ap (take (o .paths)) (apart .4) ∙ copied-back (o .paths) 16 (o .pathSinks) (l .4) (n .2)) i;
     }
 
+-- what stands before the bases is all of the opening
+part-before : (a k n : ℕ) (xs : List ℕ) → a + k ≤ n → take k (drop a (take n xs)) ≡ take k (drop a xs)
+part-before zero k n xs l = take-take k n xs (omega arith)
+part-before (suc a) k zero xs l = absurd (omega (arith, l))
+part-before (suc a) k (suc n) [] l = refl
+part-before (suc a) k (suc n) (x ∷ xs) l = part-before a k n xs (omega arith)
+
+pub opening-before : (o : List ℕ) → openingIn (take basesAt o) ≡ openingIn o
+unfolding openingIn
+opening-before o =
+    let count : (k : ℕ) → k < 4 → getD (take basesAt o) k 0 ≡ getD o k 0 = λ k l. getD-take basesAt o k 0 (omega arith) in
+    λ i.
+    record {
+      holders = count 0 (omega arith) i;
+      sources = count 1 (omega arith) i;
+      sinks = count 2 (omega arith) i;
+      paths = count 3 (omega arith) i;
+      holderKinds = take (count 0 (omega arith) i) (part-before 4 8 basesAt o (omega arith) i);
+      sinkKinds = take (count 2 (omega arith) i) (part-before 12 16 basesAt o (omega arith) i);
+      sinkParents = take (count 2 (omega arith) i) (part-before 28 16 basesAt o (omega arith) i);
+      pathSources = take (count 3 (omega arith) i) (part-before 44 16 basesAt o (omega arith) i);
+      pathSinks = take (count 3 (omega arith) i) (part-before 60 16 basesAt o (omega arith) i);
+    }
+
+lists-size : (o : Opening) → length (openingLists o) ≡ basesAt
+unfolding openingLists listTo
+lists-size o = refl
+
+pub array-size : (o : Opening) → length (openingArray o) ≡ openingCount
+unfolding openingArray pathBases
+array-size o = let all = length-append (openingLists o) (listTo 16 (pathBase o)) in let lists = lists-size o in let bases = length-list-to 16 (pathBase o) in omega arith
+
+-- an array of which the lists are an opening's keeps that opening
+pub opening-by-lists : (o : Opening) (kept : List ℕ) → take basesAt kept ≡ openingLists o → countsFit o ≡ true → listsFit o ≡ true → openingIn kept ≡ o
+opening-by-lists o kept keeps counts lists = sym (opening-before kept) ∙ ap openingIn keeps ∙ lists-back o counts lists
+
 -- the counts and lists of a legal opening fit
-legal-fits : (o : Opening) → legal o ≡ true → (countsFit o ≡ true) × (listsFit o ≡ true)
+pub legal-fits : (o : Opening) → legal o ≡ true → (countsFit o ≡ true) × (listsFit o ≡ true)
 unfolding legal
 legal-fits o e = and-both _ _ (and-both _ _ (and-both _ _ (and-both _ _ (and-both _ _ e .0) .0) .0) .0)
 
 pub opening-back : (o : Opening) → legal o ≡ true → openingIn (openingArray o) ≡ o
-opening-back o e = let fits = legal-fits o e in fitting-back o (fits .0) (fits .1)
+unfolding openingArray
+opening-back o e = let fits = legal-fits o e in opening-by-lists o (openingArray o) (take-at (openingLists o) (pathBases o) basesAt (lists-size o)) (fits .0) (fits .1)
+
+-- and its array keeps the bases of its paths
+pub bases-kept : (o : Opening) → legal o ≡ true → KeepsBases (openingArray o)
+unfolding openingArray
+bases-kept o e = drop-at (openingLists o) (pathBases o) basesAt (lists-size o) ∙ ap pathBases (sym (opening-back o e))
+
+-- the base that is kept for a path
+pub base-at : (o : List ℕ) → KeepsBases o → (p : ℕ) → p < 16 → getD o (basesAt + p) 0 ≡ pathBase (openingIn o) p
+unfolding pathBases
+base-at o keeps p l = sym (getD-drop basesAt o p 0) ∙ ap (λ xs. getD xs p 0) keeps ∙ at-list-to 16 (pathBase (openingIn o)) 0 p l
+
+pub bases-size : (o : List ℕ) → KeepsBases o → length o ≡ openingCount
+unfolding pathBases
+bases-size o keeps = let left = length-drop basesAt o in let many = ap length keeps ∙ length-list-to 16 (pathBase (openingIn o)) in omega arith
 
 -- an opening with nothing in it breaks no rule
 pub empty-legal : legal emptyOpening ≡ true

@@ -1,13 +1,19 @@
 -- The opening that a book keeps in an array.
 use Prim.Native.Nat.{ℕ}
+use mathlib.Core.Path.{_≡_}
 use mathlib.Core.List.{List, [], _∷_, _++_}
 use lib.ListN.{take, drop, getD}
 use Rattle.tariff.specs.Sum.{listTo}
-use Rattle.ledger.specs.Opening.{Opening}
+use Rattle.ledger.specs.Opening.{Opening, pathBase}
 
--- how many numbers keep an opening: four counts, then the kinds of 8 holders and 16 sinks, the parents of the sinks, the sources and the sinks of 16 paths
+-- how many numbers keep an opening: four counts, then the kinds of 8 holders and 16 sinks, the parents of the sinks, the sources and the sinks of 16 paths,
+-- and last the base of each path
 abbrev pub openingCount : ℕ
-openingCount = 76
+openingCount = 92
+
+-- where the bases stand
+abbrev pub basesAt : ℕ
+basesAt = 76
 
 -- the opening that stands in an array: as many entries of each list as are counted
 unfoldable pub openingIn : List ℕ → Opening
@@ -28,9 +34,9 @@ openingIn o =
 abbrev pub withRoom : ℕ → List ℕ → List ℕ
 withRoom room xs = listTo room (λ k. getD xs k 0)
 
--- the array of an opening
-unfoldable pub openingArray : Opening → List ℕ
-openingArray o =
+-- the counts and lists of an opening, as they stand in its array
+unfoldable pub openingLists : Opening → List ℕ
+openingLists o =
     o .holders
     ∷ o .sources
     ∷ o .sinks
@@ -40,6 +46,18 @@ openingArray o =
     ++ (withRoom 16 (o .sinkParents)
     ++ (withRoom 16 (o .pathSources)
     ++ withRoom 16 (o .pathSinks)))))
+
+-- the base of each path
+unfoldable pub pathBases : Opening → List ℕ
+pathBases o = listTo 16 (pathBase o)
+
+-- the array of an opening: bases follow from the lists, and are kept so that nobody looks them up twice
+unfoldable pub openingArray : Opening → List ℕ
+openingArray o = openingLists o ++ pathBases o
+
+-- an array that keeps the bases of its own paths
+abbrev pub KeepsBases : List ℕ → Type 0
+KeepsBases o = drop basesAt o ≡ pathBases (openingIn o)
 
 -- the counts and lists that a caller opens with
 unfoldable pub openingFrom : ℕ → ℕ → ℕ → ℕ → List ℕ → List ℕ → List ℕ → List ℕ → List ℕ → Opening

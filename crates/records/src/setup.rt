@@ -1,14 +1,29 @@
 // What a book was opened with, kept in an array (01, The book): the four counts, then what stands on the line of each holder, sink and path.
 use crate::lists::listed;
 use crate::lists::number_at;
+ghost use Prim.Native.Nat.{_<_};
 ghost use mathlib.Core.Path.{_≡_};
 ghost use Rattle.ledger.specs.Opening.{holderKind, sinkKind, base, pathSource, pathSink, pathBase};
 ghost use Rattle.ledger.specs.Ranges.{noHolder, noSource, noSink, noPath};
 ghost use Rattle.ledger.specs.Causes.{sinkNotFor, isSubLap};
-ghost use Rattle.records.specs.Opening.{openingIn};
+ghost use Rattle.records.specs.Opening.{openingIn, KeepsBases};
+
+// Where the lists stand behind the four counts, each with room for as many as a book can have.
+pub const HOLDER_KINDS: usize = 4;
+
+pub const SINK_KINDS: usize = 12;
+
+pub const SINK_PARENTS: usize = 28;
+
+pub const PATH_SOURCES: usize = 44;
+
+pub const PATH_SINKS: usize = 60;
+
+// Where the base of each path stands, behind the lists.
+pub const BASES: usize = 76;
 
 // How many numbers keep an opening.
-pub const OPENING: usize = 76;
+pub const OPENING: usize = 92;
 
 pub fn holders(o: &[u64]) -> u64
     ensures { λ r. ⌜ r ≡ openingIn (now (o .entry)) .holders ⌝ }
@@ -61,38 +76,47 @@ pub fn no_path(o: &[u64], p: u64) -> bool
 pub fn holder_kind(o: &[u64], h: u64) -> u64
     ensures { λ r. ⌜ r ≡ holderKind (openingIn (now (o .entry))) h ⌝ }
 {
-    listed(o, 4, 8, holders(o), h)
+    listed(o, HOLDER_KINDS, 8, holders(o), h)
 }
 
 pub fn sink_kind(o: &[u64], s: u64) -> u64
     ensures { λ r. ⌜ r ≡ sinkKind (openingIn (now (o .entry))) s ⌝ }
 {
-    listed(o, 12, 16, sinks(o), s)
+    listed(o, SINK_KINDS, 16, sinks(o), s)
 }
 
 pub fn sink_base(o: &[u64], s: u64) -> u64
     ensures { λ r. ⌜ r ≡ base (openingIn (now (o .entry))) s ⌝ }
 {
-    listed(o, 28, 16, sinks(o), s)
+    listed(o, SINK_PARENTS, 16, sinks(o), s)
 }
 
 pub fn path_source(o: &[u64], p: u64) -> u64
     ensures { λ r. ⌜ r ≡ pathSource (openingIn (now (o .entry))) p ⌝ }
 {
-    listed(o, 44, 16, paths(o), p)
+    listed(o, PATH_SOURCES, 16, paths(o), p)
 }
 
 pub fn path_sink(o: &[u64], p: u64) -> u64
     ensures { λ r. ⌜ r ≡ pathSink (openingIn (now (o .entry))) p ⌝ }
 {
-    listed(o, 60, 16, paths(o), p)
+    listed(o, PATH_SINKS, 16, paths(o), p)
 }
 
-pub fn path_base(o: &[u64], p: u64) -> u64
+// The base of a path's sink, looked up by way of the sink.
+pub fn base_by_sink(o: &[u64], p: u64) -> u64
     ensures { λ r. ⌜ r ≡ pathBase (openingIn (now (o .entry))) p ⌝ }
 {
     let sink = path_sink(o, p);
     sink_base(o, sink)
+}
+
+// The base of a path's sink, as it is kept.
+pub fn path_base(o: &[u64], p: u64) -> u64
+    requires { ⌜ KeepsBases (now o) × (p < 16) ⌝ }
+    ensures { λ r. ⌜ r ≡ pathBase (openingIn (now (o .entry))) p ⌝ }
+{
+    o[BASES + p as usize]
 }
 
 // A scheduling point is not for a load-serving entity, and nothing else is for an outside entity.

@@ -30,7 +30,7 @@ use Rattle.slots.specs.Sums.{maxFigure, Summable}
 use Rattle.slots.specs.Steps.{Reachable}
 use Rattle.slots.proofs.GroupLaws.{in-group}
 use Rattle.slots.proofs.StoreLaws.{slot-shown}
-use Rattle.slots.proofs.Reachable.{counts, fits, figures-shown, figures-long}
+use Rattle.slots.proofs.Reachable.{bases-known, counts, fits, figures-shown, figures-long}
 
 -- every figure of groups at a holder and a place is within a bound ..
 abbrev pub EachWithin : ℕ → List (Group ℕ) → (h p : ℕ) → Type 0
@@ -147,6 +147,7 @@ module _ (o f : List ℕ) (m : List Bool) (x : List Entry) (r : Reachable o f m 
   pub summable : (h slot : ℕ) → h < O .holders → slot < figureSlots → Summable o f h slot
   summable h slot l inRow =
       record {
+        bases = bases-known o f m x r;
         few = counts o f m x r .3;
         long = figures-long o f m x r;
         holder = le-trans l (counts o f m x r .0);

@@ -12,7 +12,7 @@ use Rattle.ledger.specs.Opening.{Opening, pathBase, pathSource, endsAt, comesFr
 use Rattle.ledger.specs.Limits.{sumAtBase}
 use Rattle.ledger.specs.Verification.{sumFromSource}
 use Rattle.ledger.proofs.Bounds.{paths-fit}
-use Rattle.records.specs.Opening.{openingIn}
+use Rattle.records.specs.Opening.{openingIn, KeepsBases}
 use Rattle.slots.specs.Cells.{HasCell}
 use Rattle.slots.specs.Layout.{figureSlots}
 use Rattle.slots.specs.Sums.{onPath, maxFigure, Summable}
@@ -65,3 +65,7 @@ module _ (o f : List ℕ) (h slot place : ℕ) (s : Summable o f h slot) where
   -- the cell on a path
   pub path-cell : (p n : ℕ) → n ≡ openingIn o .paths → p < n → HasCell figureSlots h p slot
   path-cell p n e l = record { holder = s .holder; place = let a = s .few in omega arith; inRow = s .inRow }
+
+  -- the base of a path
+  pub base-asked : (p n : ℕ) → n ≡ openingIn o .paths → p < n → KeepsBases o × (p < 16)
+  base-asked p n e l = (s .bases, let a = s .few in omega arith)

@@ -11,8 +11,8 @@ use Rattle.ledger.specs.Call.{Call}
 use Rattle.ledger.specs.Season.{after}
 use Rattle.ledger.proofs.Bounds.{legal-counts, Fits, figures-fit}
 use Rattle.ledger.proofs.TiersSound.{TiersSound, tiers-sound}
-use Rattle.records.specs.Opening.{openingIn}
-use Rattle.records.proofs.OpeningLaws.{opening-back}
+use Rattle.records.specs.Opening.{openingIn, KeepsBases}
+use Rattle.records.proofs.OpeningLaws.{opening-back, bases-kept}
 use Rattle.slots.specs.Cells.{Shows}
 use Rattle.slots.specs.Groups.{inSlot}
 use Rattle.slots.specs.Layout.{figureSlots, figureCount, postedSlots, postedCount, figureGroups, postedGroups, calendarOf, figuresOf, postedOf, evidenceOf, ledgerIn}
@@ -31,6 +31,9 @@ module _ (o f : List ℕ) (m : List Bool) (x : List Entry) (r : Reachable o f m 
   pub opening-known : openingIn o ≡ r .opening
   unfolding openingIn
   opening-known = ap openingIn (r .ofOpening) ∙ opening-back (r .opening) (r .isLegal)
+
+  pub bases-known : KeepsBases o
+  bases-known = subst KeepsBases (sym (r .ofOpening)) (bases-kept (r .opening) (r .isLegal))
 
   -- what holds after every list of calls from a legal opening, holds of what stands in the arrays
   pub known : (P : Opening → Ledger → Type 0) → ((O : Opening) → legal O ≡ true → (cs : List Call) → P O (after O cs)) → P (openingIn o) (ledgerIn f m x)

@@ -1,10 +1,10 @@
--- What a sum over the paths needs to be of its figures: each is small, and there are few paths.
+-- What a sum over the paths asks: there are few paths, each has its base in the opening's array, and each figure is small.
 use Prim.Native.Nat.{ℕ, _*_, _≤_, _<_}
 use mathlib.Core.Path.{_≡_}
 use mathlib.Core.List.{List}
 use lib.ListN.{length}
 use Rattle.tariff.specs.Ranges.{mostKw}
-use Rattle.records.specs.Opening.{openingIn}
+use Rattle.records.specs.Opening.{openingIn, KeepsBases}
 use Rattle.slots.specs.Cells.{maxHolders, maxPlaces, readAt}
 use Rattle.slots.specs.Layout.{figureSlots, figureCount}
 
@@ -17,6 +17,7 @@ abbrev pub maxFigure : ℕ
 maxFigure = 10 * (8 * mostKw)
 
 pub record Summable (o f : List ℕ) (h slot : ℕ) : Type 0 where
+  pub bases : KeepsBases o
   pub few : openingIn o .paths ≤ maxPlaces
   pub long : length f ≡ figureCount
   pub holder : h < maxHolders

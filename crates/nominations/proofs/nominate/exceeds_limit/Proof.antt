@@ -1,8 +1,10 @@
 -- `nominations::nominate::exceeds_limit` meets its contract. Assumes nothing.
 use Prim.Native.Nat.{_<_}
 use mathlib.Core.Path.{sym, subst}
+use native.Mathlib.Nat.{le-trans}
 use native.Mathlib.Omega.{arith}
 use Rattle.slots.proofs.Figures.{summable}
+use Rattle.slots.proofs.Reachable.{bases-known, counts}
 use Rattle.slots.proofs.Places.{path-base-place}
 use Rattle.nominations.proofs.LimitLaws.{open-last}
 use Rattle.nominations.proofs.NominateCauses.{base-room, limit-test}
@@ -11,7 +13,7 @@ use Rattle.nominations.proofs.nominate.exceeds_limit.Statement.{stateme
 use Rattle.nominations.proofs.nominate.exceeds_limit.Tie as tie
 
 path-base-requires : tie.Need-path-base-requires
-path-base-requires c κs = search needs
+path-base-requires c κs = let k = c .before .before .pre in (bases-known _ _ _ _ (k .figures .reachable), le-trans (k .path) (counts _ _ _ _ (k .figures .reachable) .3))
 
 current-tier-requires : tie.Need-current-tier-requires
 current-tier-requires c κs = search needs

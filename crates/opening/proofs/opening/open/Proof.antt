@@ -15,11 +15,14 @@ lists-fit-requires c κs = search needs
 is-legal-requires : tie.Need-is-legal-requires
 is-legal-requires c κs = search needs
 
+keep-bases-requires : tie.Need-keep-bases-requires
+keep-bases-requires c κs = search needs
+
 same-length : tie.Need-same-length
 same-length c = search needs
 
 returns : tie.Need-returns
-returns c = opened-done _ _ (c .before .before .before .before .before .before .keep-opening .ensures) (c .before .before .before .lists-fit .ensures (c .before .before .before .before .before .before .before .before .before .before .before .before .before .before .args .sources)) (c .before .is-legal .ensures) (c .if1 .taken)
+returns c = opened-done _ _ (c .before .before .before .before .before .before .before .before .before .before .keep-opening .ensures) (c .before .before .before .before .before .before .before .lists-fit .ensures (c .before .before .before .before .before .before .before .before .before .before .before .before .before .before .before .before .before .before .args .sources)) (c .before .before .before .before .before .is-legal .ensures) _ (c .before .before .before .before .if1 .taken) (c .before .before .keep-bases .ensures)
 
 clear-requires : tie.Need-clear-requires
 clear-requires c κs = search needs
@@ -37,6 +40,7 @@ open-spec =
     keep-opening-requires
     lists-fit-requires
     is-legal-requires
+    keep-bases-requires
     same-length
     returns
     clear-requires

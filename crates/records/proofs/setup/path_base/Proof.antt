@@ -1,20 +1,21 @@
--- `records::setup::path_base` meets its contract, from those of the two that it calls. Assumes nothing.
-use mathlib.Core.Path.{ap, _∙_}
-use Rattle.records.specs.Opening.{openingIn}
-use Rattle.ledger.specs.Opening.{base, pathBase}
+-- `records::setup::path_base` meets its contract: the bases of the paths stand behind the lists. Assumes nothing.
+use native.Mathlib.Omega.{arith}
+use Rattle.records.proofs.OpeningLaws.{bases-size, base-at}
 use borrow.Author.Needs.{needs}
 use Rattle.records.proofs.setup.path_base.Statement.{statement}
 use Rattle.records.proofs.setup.path_base.Tie as tie
 
-path-sink-requires : tie.Need-path-sink-requires
-path-sink-requires c κs = search needs
+add-result : tie.Need-add-result
+add-result c = search needs
 
-sink-base-requires : tie.Need-sink-base-requires
-sink-base-requires c κs = search needs
+mul-result : tie.Need-mul-result
+mul-result c = search needs
+
+shared-slice-read-result : tie.Need-shared-slice-read-result
+shared-slice-read-result c = let size = bases-size (c .before .args .o .now) (c .before .pre .0) in search needs
 
 returns : tie.Need-returns
-unfolding pathBase
-returns c = c .sink-base .ensures ∙ ap (base (openingIn (c .before .before .before .args .o .now))) (c .before .path-sink .ensures)
+returns c = base-at _ (c .before .pre .0) _ (c .before .pre .1)
 
 pub path-base-spec : {M : Type 1} → statement M
-path-base-spec = tie.close (tie.spec path-sink-requires sink-base-requires returns)
+path-base-spec = tie.close (tie.spec add-result mul-result shared-slice-read-result returns)

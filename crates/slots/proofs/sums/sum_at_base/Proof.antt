@@ -7,7 +7,7 @@ use Rattle.tariff.proofs.Sums.{sum-more, sum-whole}
 use Rattle.ledger.specs.Limits.{sumAtBase}
 use Rattle.records.specs.Opening.{openingIn}
 use Rattle.slots.specs.Sums.{onPath}
-use Rattle.slots.proofs.PathSums.{atBase, next-at-base, room-at-base, path-cell}
+use Rattle.slots.proofs.PathSums.{atBase, next-at-base, room-at-base, path-cell, base-asked}
 use borrow.Author.Needs.{needs}
 use Rattle.slots.proofs.sums.sum_at_base.Statement.{statement}
 use Rattle.slots.proofs.sums.sum_at_base.Tie as tie
@@ -26,7 +26,7 @@ unfolding sumTo
 loop-holds c = (search needs, refl)
 
 path-base-requires : tie.Need-path-base-requires Inv-loop μ-loop
-path-base-requires c κs = search needs
+path-base-requires c κs = base-asked _ _ _ _ 0 (c .before .before .before .before .before .pre) _ _ (c .before .before .paths .ensures) (c .loop-test .taken)
 
 read-requires : tie.Need-read-requires Inv-loop μ-loop
 read-requires c κs = (path-cell _ _ _ _ 0 (c .before .before .before .before .before .before .pre) _ _ (c .before .before .before .paths .ensures) (c .before .loop-test .taken), c .before .before .before .before .before .before .pre .long)
