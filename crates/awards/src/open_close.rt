@@ -15,13 +15,12 @@ use slots::layout::NOMINATED;
 ghost use mathlib.Core.Path.{_≡_};
 ghost use mathlib.Core.Bool.{Bool};
 ghost use mathlib.Core.List.{List};
-ghost use lib.ListN.{length};
 ghost use Rattle.tariff.specs.declared.evidence.Entry.{Entry};
 ghost use Rattle.ledger.specs.Call.{openTier, closeTier};
 ghost use Rattle.ledger.specs.Causes.{refusal};
 ghost use Rattle.ledger.specs.Opening.{Opening};
-ghost use Rattle.slots.specs.Layout.{figureCount, ledgerIn};
-ghost use Rattle.slots.specs.Steps.{TierStep};
+ghost use Rattle.slots.specs.Layout.{ledgerIn};
+ghost use Rattle.slots.specs.Steps.{ReachableTier, TierStep};
 
 // The first cause that an open meets, 0 for none.
 fn open_refusal(f: &[u64], tier: u64) -> u64
@@ -42,7 +41,7 @@ fn close_refusal(f: &[u64]) -> u64
 
 // Opens a tier, which has no nominations yet.
 pub fn open_tier(f: &mut [u64], tier: u64) -> Answer
-    requires { ⌜ length (now f) ≡ figureCount ⌝ }
+    requires { ⌜ ReachableTier (now f) ⌝ }
     ensures { λ r. ⌜ TierStep (now (f .entry)) (openTier tier) r (now (f .exit)) ⌝ }
 {
     let number = open_refusal(f, tier);
@@ -56,7 +55,7 @@ pub fn open_tier(f: &mut [u64], tier: u64) -> Answer
 
 // Closes the open tier: what was not awarded is dropped.
 pub fn close_tier(f: &mut [u64]) -> Answer
-    requires { ⌜ length (now f) ≡ figureCount ⌝ }
+    requires { ⌜ ReachableTier (now f) ⌝ }
     ensures { λ r. ⌜ TierStep (now (f .entry)) closeTier r (now (f .exit)) ⌝ }
 {
     let number = close_refusal(f);

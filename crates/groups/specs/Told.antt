@@ -1,12 +1,16 @@
 -- The first group of a script's rest: what it asks, the bytes that it takes, and what it leads to.
 use Prim.Native.Nat.{ℕ, _+_}
 use mathlib.Core.Path.{_≡_}
+use mathlib.Core.Bool.{Bool}
 use mathlib.Core.List.{List}
 use lib.ListN.{drop}
+use Rattle.tariff.specs.declared.evidence.Entry.{Entry}
 use Rattle.ledger.specs.Season.{call, query}
 use Rattle.records.specs.declared.answers.Answer.{Answer}
+use Rattle.slots.specs.Steps.{Reachable}
 use Rattle.book.specs.declared.book.Book.{Book}
 use Rattle.book.specs.declared.book.Answered.{Answered}
+use Rattle.book.specs.Reading.{bookIn}
 use Rattle.book.specs.Handed.{refusedWith, handed, told}
 use Rattle.lines.specs.declared.rows.Row.{Row}
 use Rattle.lines.specs.Reading.{nextRow}
@@ -36,3 +40,11 @@ answeredTo b (asked (query q)) = record { answer = told b q; book = b }
 -- an answer and the book beside it are those that a group, put to a book, leads to
 abbrev pub Answers : Book → Asked → Answer → Book → Type 0
 Answers b g answer next = _≡_ {A = Answered} (record { answer = answer; book = next }) (answeredTo b g)
+
+-- the same where the opening and the figures are lent, whatever stands in the arrays that are not
+abbrev pub FiguresAnswers : (o f : List ℕ) → Asked → Answer → List ℕ → Type 0
+FiguresAnswers o f g answer f′ = (m : List Bool) (x : List Entry) → Reachable o f m x → Answers (bookIn o f m x) g answer (bookIn o f′ m x)
+
+-- and where the postings are lent too
+abbrev pub PostingsAnswers : (o f : List ℕ) (m : List Bool) → Asked → Answer → List ℕ → List Bool → Type 0
+PostingsAnswers o f m g answer f′ m′ = (x : List Entry) → Reachable o f m x → Answers (bookIn o f m x) g answer (bookIn o f′ m′ x)

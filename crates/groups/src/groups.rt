@@ -9,16 +9,14 @@ use lines::rows::Row;
 use migrate::migrate::migrate;
 use postings::load::load;
 use records::answers::Answer;
+use records::numbers::UNREADABLE;
 ghost use mathlib.Core.Path.{_≡_};
-ghost use mathlib.Core.Bool.{Bool};
-ghost use mathlib.Core.List.{List};
 ghost use Prim.Native.Nat.{_≤_};
 ghost use lib.ListN.{length};
-ghost use Rattle.tariff.specs.declared.evidence.Entry.{Entry};
-ghost use Rattle.slots.specs.Steps.{Reachable, ReachableFigures, ReachablePostings};
-ghost use Rattle.book.specs.Reading.{bookIn};
+ghost use Rattle.slots.specs.Steps.{ReachableFigures, ReachablePostings};
 ghost use Rattle.lines.specs.Rows.{rowsOf, loadLine, verifyLine, migrateLine};
-ghost use Rattle.groups.specs.Told.{headAsks, headBytes, Answers};
+ghost use Rattle.groups.specs.Columns.{Columns};
+ghost use Rattle.groups.specs.Told.{headAsks, headBytes, FiguresAnswers, PostingsAnswers};
 ghost use Rattle.lines.specs.Text.{maxLines};
 
 // What a group is answered, and how many bytes the lines behind its head take.
@@ -40,15 +38,20 @@ fn tell_load(
     d: &mut [u64],
     e: &mut [u64],
 ) -> Told
-    requires { ⌜ (ReachablePostings (now o) (now f) (now m) × (head .kind ≡ loadLine)) × (length (rowsOf (now behind)) ≤ maxLines) × (length (now a) ≡ maxLines) × (length (now b) ≡ maxLines) × (length (now c) ≡ maxLines) × (length (now d) ≡ maxLines) × (length (now e) ≡ maxLines) ⌝ }
-    ensures { λ r. ⌜ ((x : List Entry) → Reachable (now (o .entry)) (now (f .entry)) (now (m .entry)) x → Answers (bookIn (now (o .entry)) (now (f .entry)) (now (m .entry)) x) (headAsks head (now (behind .entry))) (r .answer) (bookIn (now (o .entry)) (now (f .exit)) (now (m .exit)) x)) × (r .used ≡ headBytes head (now (behind .entry))) × (length (now (a .exit)) ≡ maxLines) × (length (now (b .exit)) ≡ maxLines) × (length (now (c .exit)) ≡ maxLines) × (length (now (d .exit)) ≡ maxLines) × (length (now (e .exit)) ≡ maxLines) ⌝ }
+    requires reachable { ⌜ ReachablePostings (now o) (now f) (now m) ⌝ }
+    requires load { ⌜ head .kind ≡ loadLine ⌝ }
+    requires few { ⌜ length (rowsOf (now behind)) ≤ maxLines ⌝ }
+    requires columns { ⌜ Columns (now a) (now b) (now c) (now d) (now e) ⌝ }
+    ensures answer { λ r. ⌜ PostingsAnswers (now (o .entry)) (now (f .entry)) (now (m .entry)) (headAsks head (now (behind .entry))) (r .answer) (now (f .exit)) (now (m .exit)) ⌝ }
+    ensures used { λ r. ⌜ r .used ≡ headBytes head (now (behind .entry)) ⌝ }
+    ensures columns { λ _. ⌜ Columns (now (a .exit)) (now (b .exit)) (now (c .exit)) (now (d .exit)) (now (e .exit)) ⌝ }
 {
     let n = head.fields;
     let count = n[5];
     let read = read_counted(behind, BLOCK, count, a, b, c, d, e);
     let used = read.used;
     if !read.whole {
-        let answer = Answer::Refused(1);
+        let answer = Answer::Refused(UNREADABLE);
         return Told { answer, used };
     }
     let k = count as usize;
@@ -80,15 +83,20 @@ fn tell_migrate(
     d: &mut [u64],
     e: &mut [u64],
 ) -> Told
-    requires { ⌜ (ReachableFigures (now o) (now f) × (head .kind ≡ migrateLine)) × (length (rowsOf (now behind)) ≤ maxLines) × (length (now a) ≡ maxLines) × (length (now b) ≡ maxLines) × (length (now c) ≡ maxLines) × (length (now d) ≡ maxLines) × (length (now e) ≡ maxLines) ⌝ }
-    ensures { λ r. ⌜ ((m : List Bool) (x : List Entry) → Reachable (now (o .entry)) (now (f .entry)) m x → Answers (bookIn (now (o .entry)) (now (f .entry)) m x) (headAsks head (now (behind .entry))) (r .answer) (bookIn (now (o .entry)) (now (f .exit)) m x)) × (r .used ≡ headBytes head (now (behind .entry))) × (length (now (a .exit)) ≡ maxLines) × (length (now (b .exit)) ≡ maxLines) × (length (now (c .exit)) ≡ maxLines) × (length (now (d .exit)) ≡ maxLines) × (length (now (e .exit)) ≡ maxLines) ⌝ }
+    requires reachable { ⌜ ReachableFigures (now o) (now f) ⌝ }
+    requires migrate { ⌜ head .kind ≡ migrateLine ⌝ }
+    requires few { ⌜ length (rowsOf (now behind)) ≤ maxLines ⌝ }
+    requires columns { ⌜ Columns (now a) (now b) (now c) (now d) (now e) ⌝ }
+    ensures answer { λ r. ⌜ FiguresAnswers (now (o .entry)) (now (f .entry)) (headAsks head (now (behind .entry))) (r .answer) (now (f .exit)) ⌝ }
+    ensures used { λ r. ⌜ r .used ≡ headBytes head (now (behind .entry)) ⌝ }
+    ensures columns { λ _. ⌜ Columns (now (a .exit)) (now (b .exit)) (now (c .exit)) (now (d .exit)) (now (e .exit)) ⌝ }
 {
     let n = head.fields;
     let count = n[2];
     let read = read_counted(behind, CLASS, count, a, b, c, d, e);
     let used = read.used;
     if !read.whole {
-        let answer = Answer::Refused(1);
+        let answer = Answer::Refused(UNREADABLE);
         return Told { answer, used };
     }
     let k = count as usize;
@@ -119,8 +127,13 @@ pub fn tell_head(
     d: &mut [u64],
     e: &mut [u64],
 ) -> Told
-    requires { ⌜ (ReachablePostings (now o) (now f) (now m) × (head .kind ≡ verifyLine → ⊥)) × (length (rowsOf (now behind)) ≤ maxLines) × (length (now a) ≡ maxLines) × (length (now b) ≡ maxLines) × (length (now c) ≡ maxLines) × (length (now d) ≡ maxLines) × (length (now e) ≡ maxLines) ⌝ }
-    ensures { λ r. ⌜ ((x : List Entry) → Reachable (now (o .entry)) (now (f .entry)) (now (m .entry)) x → Answers (bookIn (now (o .entry)) (now (f .entry)) (now (m .entry)) x) (headAsks head (now (behind .entry))) (r .answer) (bookIn (now (o .entry)) (now (f .exit)) (now (m .exit)) x)) × (r .used ≡ headBytes head (now (behind .entry))) × (length (now (a .exit)) ≡ maxLines) × (length (now (b .exit)) ≡ maxLines) × (length (now (c .exit)) ≡ maxLines) × (length (now (d .exit)) ≡ maxLines) × (length (now (e .exit)) ≡ maxLines) ⌝ }
+    requires reachable { ⌜ ReachablePostings (now o) (now f) (now m) ⌝ }
+    requires no_verify { ⌜ (head .kind ≡ verifyLine → ⊥) ⌝ }
+    requires few { ⌜ length (rowsOf (now behind)) ≤ maxLines ⌝ }
+    requires columns { ⌜ Columns (now a) (now b) (now c) (now d) (now e) ⌝ }
+    ensures answer { λ r. ⌜ PostingsAnswers (now (o .entry)) (now (f .entry)) (now (m .entry)) (headAsks head (now (behind .entry))) (r .answer) (now (f .exit)) (now (m .exit)) ⌝ }
+    ensures used { λ r. ⌜ r .used ≡ headBytes head (now (behind .entry)) ⌝ }
+    ensures columns { λ _. ⌜ Columns (now (a .exit)) (now (b .exit)) (now (c .exit)) (now (d .exit)) (now (e .exit)) ⌝ }
 {
     if head.kind == LOAD {
         return tell_load(o, f, m, head, behind, a, b, c, d, e);

@@ -21,23 +21,23 @@ use postings::prior::prior;
 use postings::verify::VerifyOutcome;
 use postings::verify::verify;
 use records::answers::Answer;
+use records::numbers::UNREADABLE;
 use slots::layout::EVIDENCE;
 use tariff::evidence::Entry;
 ghost use mathlib.Core.Path.{_≡_};
-ghost use mathlib.Core.Bool.{Bool};
-ghost use mathlib.Core.List.{List, []};
-ghost use Rattle.tariff.specs.declared.evidence.Entry.{Entry};
+ghost use mathlib.Core.List.{[]};
 ghost use Rattle.slots.specs.Steps.{Reachable, ReachableFigures, ReachablePostings};
 ghost use Rattle.book.specs.Reading.{bookIn};
 ghost use Rattle.lines.specs.Rows.{verifyLine};
 ghost use Rattle.groups.specs.Groups.{asksOf};
 ghost use Rattle.groups.specs.Heads.{NoCall, InOneRow};
-ghost use Rattle.groups.specs.Told.{Answers};
+ghost use Rattle.groups.specs.Told.{Answers, FiguresAnswers, PostingsAnswers};
 
 // What a query is answered; a line that is no head is unreadable.
 fn query_answer(o: &[u64], f: &[u64], r: Row) -> Answer
-    requires { ⌜ ReachableFigures (now o) (now f) × NoCall (r .kind) ⌝ }
-    ensures { λ a. ⌜ ((m : List Bool) (x : List Entry) → Reachable (now (o .entry)) (now (f .entry)) m x → Answers (bookIn (now (o .entry)) (now (f .entry)) m x) (asksOf r []) a (bookIn (now (o .entry)) (now (f .entry)) m x)) ⌝ }
+    requires reachable { ⌜ ReachableFigures (now o) (now f) ⌝ }
+    requires no_call { ⌜ NoCall (r .kind) ⌝ }
+    ensures { λ a. ⌜ FiguresAnswers (now (o .entry)) (now (f .entry)) (asksOf r []) a (now (f .entry)) ⌝ }
 {
     let kind = r.kind;
     let n = r.fields;
@@ -45,14 +45,15 @@ fn query_answer(o: &[u64], f: &[u64], r: Row) -> Answer
         LIMIT => limit(o, f, n[0], n[1]),
         HELD => held(o, f, n[0], n[1], n[2]),
         NET => net(o, f, n[0], n[1]),
-        _ => Answer::Refused(1),
+        _ => Answer::Refused(UNREADABLE),
     }
 }
 
 // A head that counts no lines and is no verify.
 pub fn ask_row(o: &[u64], f: &mut [u64], m: &mut [bool], r: Row) -> Answer
-    requires { ⌜ ReachablePostings (now o) (now f) (now m) × InOneRow (r .kind) ⌝ }
-    ensures { λ a. ⌜ ((x : List Entry) → Reachable (now (o .entry)) (now (f .entry)) (now (m .entry)) x → Answers (bookIn (now (o .entry)) (now (f .entry)) (now (m .entry)) x) (asksOf r []) a (bookIn (now (o .entry)) (now (f .exit)) (now (m .exit)) x)) ⌝ }
+    requires reachable { ⌜ ReachablePostings (now o) (now f) (now m) ⌝ }
+    requires in_one_row { ⌜ InOneRow (r .kind) ⌝ }
+    ensures { λ a. ⌜ PostingsAnswers (now (o .entry)) (now (f .entry)) (now (m .entry)) (asksOf r []) a (now (f .exit)) (now (m .exit)) ⌝ }
 {
     let kind = r.kind;
     let n = r.fields;
@@ -75,7 +76,8 @@ pub fn tell_verify(
     evidence: [Entry; EVIDENCE],
     r: Row,
 ) -> VerifyOutcome
-    requires { ⌜ Reachable (now o) (now f) (now m) evidence × (r .kind ≡ verifyLine) ⌝ }
+    requires reachable { ⌜ Reachable (now o) (now f) (now m) evidence ⌝ }
+    requires verify { ⌜ r .kind ≡ verifyLine ⌝ }
     ensures { λ v. ⌜ Answers (bookIn (now (o .entry)) (now (f .entry)) (now (m .entry)) evidence) (asksOf r []) (v .answer) (bookIn (now (o .entry)) (now (f .exit)) (now (m .exit)) (v .evidence)) ⌝ }
 {
     let n = r.fields;

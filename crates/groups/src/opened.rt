@@ -5,12 +5,14 @@ use lines::rows::BOOK;
 use lines::rows::Row;
 use opening::opening::open;
 use records::answers::Answer;
+use records::numbers::UNREADABLE;
 ghost use Prim.Native.Nat.{_≤_};
 ghost use mathlib.Core.Path.{_≡_};
 ghost use lib.ListN.{length, take};
 ghost use Rattle.records.specs.Opening.{openingArray, openingFrom, openingCount};
 ghost use Rattle.opening.specs.Opened.{openedAnswer, openedOpening};
 ghost use Rattle.lines.specs.Rows.{rowsOf, field};
+ghost use Rattle.groups.specs.Columns.{Columns};
 ghost use Rattle.groups.specs.Started.{isDone, startedOf, openingAfter};
 ghost use Rattle.lines.specs.Text.{maxLines};
 
@@ -31,8 +33,12 @@ fn open_read(
     d: &[u64],
     e: &[u64],
 ) -> Answer
-    requires { ⌜ (length (now o) ≡ openingCount) × (field 0 head ≤ length (now a)) × (field 2 head ≤ length (now b)) × (field 2 head ≤ length (now c)) × (field 3 head ≤ length (now d)) × (field 3 head ≤ length (now e)) ⌝ }
-    ensures { λ r. ⌜ (r ≡ openedAnswer (openingFrom (field 0 head) (field 1 head) (field 2 head) (field 3 head) (take (field 0 head) (now (a .entry))) (take (field 2 head) (now (b .entry))) (take (field 2 head) (now (c .entry))) (take (field 3 head) (now (d .entry))) (take (field 3 head) (now (e .entry))))) × (now (o .exit) ≡ openingArray (openedOpening (openingFrom (field 0 head) (field 1 head) (field 2 head) (field 3 head) (take (field 0 head) (now (a .entry))) (take (field 2 head) (now (b .entry))) (take (field 2 head) (now (c .entry))) (take (field 3 head) (now (d .entry))) (take (field 3 head) (now (e .entry)))))) ⌝ }
+    requires opening { ⌜ length (now o) ≡ openingCount ⌝ }
+    requires holders { ⌜ field 0 head ≤ length (now a) ⌝ }
+    requires sinks { ⌜ (field 2 head ≤ length (now b)) × (field 2 head ≤ length (now c)) ⌝ }
+    requires paths { ⌜ (field 3 head ≤ length (now d)) × (field 3 head ≤ length (now e)) ⌝ }
+    ensures answer { λ r. ⌜ r ≡ openedAnswer (openingFrom (field 0 head) (field 1 head) (field 2 head) (field 3 head) (take (field 0 head) (now (a .entry))) (take (field 2 head) (now (b .entry))) (take (field 2 head) (now (c .entry))) (take (field 3 head) (now (d .entry))) (take (field 3 head) (now (e .entry)))) ⌝ }
+    ensures opening { λ _. ⌜ now (o .exit) ≡ openingArray (openedOpening (openingFrom (field 0 head) (field 1 head) (field 2 head) (field 3 head) (take (field 0 head) (now (a .entry))) (take (field 2 head) (now (b .entry))) (take (field 2 head) (now (c .entry))) (take (field 3 head) (now (d .entry))) (take (field 3 head) (now (e .entry))))) ⌝ }
 {
     let fields = head.fields;
     let holders = fields[0] as usize;
@@ -72,8 +78,12 @@ pub fn start(
     d: &mut [u64],
     e: &mut [u64],
 ) -> Started
-    requires { ⌜ ((length (rowsOf (now script)) ≤ maxLines) × (length (now o) ≡ openingCount)) × (length (now a) ≡ maxLines) × (length (now b) ≡ maxLines) × (length (now c) ≡ maxLines) × (length (now d) ≡ maxLines) × (length (now e) ≡ maxLines) ⌝ }
-    ensures { λ r. ⌜ ((r ≡ startedOf (now (script .entry))) × (now (o .exit) ≡ openingAfter (now (script .entry)) (now (o .entry)))) × (length (now (a .exit)) ≡ maxLines) × (length (now (b .exit)) ≡ maxLines) × (length (now (c .exit)) ≡ maxLines) × (length (now (d .exit)) ≡ maxLines) × (length (now (e .exit)) ≡ maxLines) ⌝ }
+    requires few { ⌜ length (rowsOf (now script)) ≤ maxLines ⌝ }
+    requires opening { ⌜ length (now o) ≡ openingCount ⌝ }
+    requires columns { ⌜ Columns (now a) (now b) (now c) (now d) (now e) ⌝ }
+    ensures started { λ r. ⌜ r ≡ startedOf (now (script .entry)) ⌝ }
+    ensures opening { λ _. ⌜ now (o .exit) ≡ openingAfter (now (script .entry)) (now (o .entry)) ⌝ }
+    ensures columns { λ _. ⌜ Columns (now (a .exit)) (now (b .exit)) (now (c .exit)) (now (d .exit)) (now (e .exit)) ⌝ }
 {
     let first = next_row(script);
     let head = first.row;
@@ -90,7 +100,7 @@ pub fn start(
         };
     }
     Started {
-        answer: Answer::Refused(1),
+        answer: Answer::Refused(UNREADABLE),
         used,
         goes_on: false,
     }

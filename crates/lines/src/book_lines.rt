@@ -17,8 +17,11 @@ ghost use Rattle.lines.specs.Text.{maxLines};
 
 // Reads lines of at most two fields, as holder, sink and path lines are, and keeps both.
 fn read_pairs(rest: &[u8], kind: u64, count: u64, a: &mut [u64], b: &mut [u64]) -> Counted
-    requires { ⌜ (length (rowsOf (now rest)) ≤ maxLines) × (length (now a) ≡ maxLines) × (length (now b) ≡ maxLines) ⌝ }
-    ensures { λ r. ⌜ (r ≡ countedOf kind count (now (rest .entry))) × (now (a .exit) ≡ withField 0 (rowsCounted count (now (rest .entry))) (now (a .entry))) × (now (b .exit) ≡ withField 1 (rowsCounted count (now (rest .entry))) (now (b .entry))) ⌝ }
+    requires few { ⌜ length (rowsOf (now rest)) ≤ maxLines ⌝ }
+    requires columns { ⌜ (length (now a) ≡ maxLines) × (length (now b) ≡ maxLines) ⌝ }
+    ensures counted { λ r. ⌜ r ≡ countedOf kind count (now (rest .entry)) ⌝ }
+    ensures first_column { λ _. ⌜ now (a .exit) ≡ withField 0 (rowsCounted count (now (rest .entry))) (now (a .entry)) ⌝ }
+    ensures second_column { λ _. ⌜ now (b .exit) ≡ withField 1 (rowsCounted count (now (rest .entry))) (now (b .entry)) ⌝ }
 {
     // Room for the further fields, which nothing reads.
     let mut c = [0u64; MAX_LINES];
@@ -37,8 +40,14 @@ pub fn read_book_lines(
     d: &mut [u64],
     e: &mut [u64],
 ) -> Counted
-    requires { ⌜ (length (rowsOf (now rest)) ≤ maxLines) × (length (now a) ≡ maxLines) × (length (now b) ≡ maxLines) × (length (now c) ≡ maxLines) × (length (now d) ≡ maxLines) × (length (now e) ≡ maxLines) ⌝ }
-    ensures { λ r. ⌜ (r ≡ bookLinesOf head (now (rest .entry))) × keeps (map (field 0) (holderRows head (rowsOf (now (rest .entry))))) (now (a .exit)) × keeps (map (field 0) (sinkRows head (rowsOf (now (rest .entry))))) (now (b .exit)) × keeps (map (field 1) (sinkRows head (rowsOf (now (rest .entry))))) (now (c .exit)) × keeps (map (field 0) (pathRows head (rowsOf (now (rest .entry))))) (now (d .exit)) × keeps (map (field 1) (pathRows head (rowsOf (now (rest .entry))))) (now (e .exit)) ⌝ }
+    requires few { ⌜ length (rowsOf (now rest)) ≤ maxLines ⌝ }
+    requires columns { ⌜ (length (now a) ≡ maxLines) × (length (now b) ≡ maxLines) × (length (now c) ≡ maxLines) × (length (now d) ≡ maxLines) × (length (now e) ≡ maxLines) ⌝ }
+    ensures counted { λ r. ⌜ r ≡ bookLinesOf head (now (rest .entry)) ⌝ }
+    ensures holder_kinds { λ _. ⌜ keeps (map (field 0) (holderRows head (rowsOf (now (rest .entry))))) (now (a .exit)) ⌝ }
+    ensures sink_kinds { λ _. ⌜ keeps (map (field 0) (sinkRows head (rowsOf (now (rest .entry))))) (now (b .exit)) ⌝ }
+    ensures sink_parents { λ _. ⌜ keeps (map (field 1) (sinkRows head (rowsOf (now (rest .entry))))) (now (c .exit)) ⌝ }
+    ensures path_sources { λ _. ⌜ keeps (map (field 0) (pathRows head (rowsOf (now (rest .entry))))) (now (d .exit)) ⌝ }
+    ensures path_sinks { λ _. ⌜ keeps (map (field 1) (pathRows head (rowsOf (now (rest .entry))))) (now (e .exit)) ⌝ }
 {
     let fields = head.fields;
     // A holder line has one field; where its second goes, the sinks' kinds come next.

@@ -24,8 +24,14 @@ pub fn read_counted(
     d: &mut [u64],
     e: &mut [u64],
 ) -> Counted
-    requires { ⌜ (length (rowsOf (now rest)) ≤ maxLines) × (length (now a) ≡ maxLines) × (length (now b) ≡ maxLines) × (length (now c) ≡ maxLines) × (length (now d) ≡ maxLines) × (length (now e) ≡ maxLines) ⌝ }
-    ensures { λ r. ⌜ (r ≡ countedOf kind count (now (rest .entry))) × (now (a .exit) ≡ withField 0 (rowsCounted count (now (rest .entry))) (now (a .entry))) × (now (b .exit) ≡ withField 1 (rowsCounted count (now (rest .entry))) (now (b .entry))) × (now (c .exit) ≡ withField 2 (rowsCounted count (now (rest .entry))) (now (c .entry))) × (now (d .exit) ≡ withField 3 (rowsCounted count (now (rest .entry))) (now (d .entry))) × (now (e .exit) ≡ withField 4 (rowsCounted count (now (rest .entry))) (now (e .entry))) ⌝ }
+    requires few { ⌜ length (rowsOf (now rest)) ≤ maxLines ⌝ }
+    requires columns { ⌜ (length (now a) ≡ maxLines) × (length (now b) ≡ maxLines) × (length (now c) ≡ maxLines) × (length (now d) ≡ maxLines) × (length (now e) ≡ maxLines) ⌝ }
+    ensures counted { λ r. ⌜ r ≡ countedOf kind count (now (rest .entry)) ⌝ }
+    ensures first_column { λ _. ⌜ now (a .exit) ≡ withField 0 (rowsCounted count (now (rest .entry))) (now (a .entry)) ⌝ }
+    ensures second_column { λ _. ⌜ now (b .exit) ≡ withField 1 (rowsCounted count (now (rest .entry))) (now (b .entry)) ⌝ }
+    ensures third_column { λ _. ⌜ now (c .exit) ≡ withField 2 (rowsCounted count (now (rest .entry))) (now (c .entry)) ⌝ }
+    ensures fourth_column { λ _. ⌜ now (d .exit) ≡ withField 3 (rowsCounted count (now (rest .entry))) (now (d .entry)) ⌝ }
+    ensures fifth_column { λ _. ⌜ now (e .exit) ≡ withField 4 (rowsCounted count (now (rest .entry))) (now (e .entry)) ⌝ }
 {
     let mut whole = true;
     let mut used = 0;

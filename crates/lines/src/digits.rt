@@ -16,8 +16,10 @@ pub fn digit_byte(d: u64) -> u8
 
 // Writes a number of at most twelve digits into the output at a place, and says where the next text goes.
 pub fn write_decimal(out: &mut [u8], at: usize, v: u64) -> usize
-    requires { ⌜ (at + 12 ≤ length (now out)) × (v < leastOfThirteenDigits) ⌝ }
-    ensures { λ r. ⌜ (r ≡ at + length (decimal v)) × (now (out .exit) ≡ writtenAt (now (out .entry)) at (decimal v)) ⌝ }
+    requires room { ⌜ at + 12 ≤ length (now out) ⌝ }
+    requires twelve_digits { ⌜ v < leastOfThirteenDigits ⌝ }
+    ensures end { λ r. ⌜ r ≡ at + length (decimal v) ⌝ }
+    ensures written { λ _. ⌜ now (out .exit) ≡ writtenAt (now (out .entry)) at (decimal v) ⌝ }
 {
     // The digits are found from the last to the first.
     let mut digits = [0u8; 12];

@@ -14,8 +14,10 @@ ghost use Rattle.script.specs.Writing.{Writable};
 
 // Writes `ok,` and a value.
 fn write_value(out: &mut [u8], at: usize, v: u64) -> usize
-    requires { ⌜ (at + 16 ≤ length (now out)) × (v < leastOfThirteenDigits) ⌝ }
-    ensures { λ r. ⌜ (r ≡ at + length (textOf (value v))) × (now (out .exit) ≡ writtenAt (now (out .entry)) at (textOf (value v))) ⌝ }
+    requires room { ⌜ at + 16 ≤ length (now out) ⌝ }
+    requires twelve_digits { ⌜ v < leastOfThirteenDigits ⌝ }
+    ensures end { λ r. ⌜ r ≡ at + length (textOf (value v)) ⌝ }
+    ensures written { λ _. ⌜ now (out .exit) ≡ writtenAt (now (out .entry)) at (textOf (value v)) ⌝ }
 {
     let digits_at = write_bytes(out, at, b"ok,");
     let end = write_decimal(out, digits_at, v);
@@ -24,8 +26,10 @@ fn write_value(out: &mut [u8], at: usize, v: u64) -> usize
 
 // Writes `no,` and the two digits of a refusal's number.
 fn write_refusal(out: &mut [u8], at: usize, number: u64) -> usize
-    requires { ⌜ (at + 16 ≤ length (now out)) × (number < 100) ⌝ }
-    ensures { λ r. ⌜ (r ≡ at + length (textOf (refused number))) × (now (out .exit) ≡ writtenAt (now (out .entry)) at (textOf (refused number))) ⌝ }
+    requires room { ⌜ at + 16 ≤ length (now out) ⌝ }
+    requires two_digits { ⌜ number < 100 ⌝ }
+    ensures end { λ r. ⌜ r ≡ at + length (textOf (refused number)) ⌝ }
+    ensures written { λ _. ⌜ now (out .exit) ≡ writtenAt (now (out .entry)) at (textOf (refused number)) ⌝ }
 {
     let tens = digit_byte(number / 10 % 10);
     let ones = digit_byte(number % 10);
@@ -35,8 +39,10 @@ fn write_refusal(out: &mut [u8], at: usize, number: u64) -> usize
 
 // Writes the line of an answer into the output at a place, and says where the next one goes.
 pub fn write_answer(out: &mut [u8], at: usize, answer: Answer) -> usize
-    requires { ⌜ (at + 16 ≤ length (now out)) × Writable (answerIn answer) ⌝ }
-    ensures { λ r. ⌜ (r ≡ at + length (textOf (answerIn answer))) × (now (out .exit) ≡ writtenAt (now (out .entry)) at (textOf (answerIn answer))) ⌝ }
+    requires room { ⌜ at + 16 ≤ length (now out) ⌝ }
+    requires writable { ⌜ Writable (answerIn answer) ⌝ }
+    ensures end { λ r. ⌜ r ≡ at + length (textOf (answerIn answer)) ⌝ }
+    ensures written { λ _. ⌜ now (out .exit) ≡ writtenAt (now (out .entry)) at (textOf (answerIn answer)) ⌝ }
 {
     match answer {
         Answer::Done => write_bytes(out, at, b"ok\n"),

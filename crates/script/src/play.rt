@@ -15,6 +15,7 @@ ghost use Rattle.book.specs.Reading.{bookOf};
 ghost use Rattle.book.specs.Reachable.{Reachable};
 ghost use Rattle.lines.specs.Rows.{rowsOf};
 ghost use Rattle.lines.specs.Writing.{writtenAt};
+ghost use Rattle.groups.specs.Columns.{Columns};
 ghost use Rattle.script.specs.Played.{textFrom};
 ghost use Rattle.lines.specs.Text.{maxLines, maxBytes};
 
@@ -32,8 +33,15 @@ pub fn play(
     d: &mut [u64],
     e: &mut [u64],
 ) -> usize
-    requires { ⌜ (Reachable (bookOf (now o) emptyLedger) × (from ≤ length (now script)) × (length (now script) ≤ maxBytes) × (length (rowsOf (drop from (now script))) ≤ maxLines) × (start + 16 * length (rowsOf (drop from (now script))) ≤ length (now out))) × (length (now a) ≡ maxLines) × (length (now b) ≡ maxLines) × (length (now c) ≡ maxLines) × (length (now d) ≡ maxLines) × (length (now e) ≡ maxLines) ⌝ }
-    ensures { λ r. ⌜ (r ≡ start + length (textFrom (bookOf (now (o .entry)) emptyLedger) (drop from (now (script .entry))))) × (now (out .exit) ≡ writtenAt (now (out .entry)) start (textFrom (bookOf (now (o .entry)) emptyLedger) (drop from (now (script .entry))))) × (r ≤ length (now (out .entry))) ⌝ }
+    requires reachable { ⌜ Reachable (bookOf (now o) emptyLedger) ⌝ }
+    requires in_script { ⌜ from ≤ length (now script) ⌝ }
+    requires short { ⌜ length (now script) ≤ maxBytes ⌝ }
+    requires few { ⌜ length (rowsOf (drop from (now script))) ≤ maxLines ⌝ }
+    requires room { ⌜ start + 16 * length (rowsOf (drop from (now script))) ≤ length (now out) ⌝ }
+    requires columns { ⌜ Columns (now a) (now b) (now c) (now d) (now e) ⌝ }
+    ensures end { λ r. ⌜ r ≡ start + length (textFrom (bookOf (now (o .entry)) emptyLedger) (drop from (now (script .entry)))) ⌝ }
+    ensures written { λ _. ⌜ now (out .exit) ≡ writtenAt (now (out .entry)) start (textFrom (bookOf (now (o .entry)) emptyLedger) (drop from (now (script .entry)))) ⌝ }
+    ensures within { λ r. ⌜ r ≤ length (now (out .entry)) ⌝ }
 {
     let mut f = [0u64; FIGURES];
     let mut m = [false; POSTED];

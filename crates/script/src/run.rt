@@ -16,8 +16,12 @@ ghost use Rattle.lines.specs.Text.{maxLines, maxBytes};
 
 // Answers a script that is neither too long for a run nor too long for the buffer; says how many bytes were written.
 fn answer_script(script: &[u8], out: &mut [u8]) -> usize
-    requires { ⌜ (1 ≤ length (now script)) × (length (now script) ≤ maxBytes) × (length (rowsOf (now script)) ≤ maxLines) × (16 * length (rowsOf (now script)) ≤ length (now out)) ⌝ }
-    ensures { λ r. ⌜ (r ≡ length (answersText (now (script .entry)))) × (now (out .exit) ≡ writtenAt (now (out .entry)) 0 (answersText (now (script .entry)))) ⌝ }
+    requires some { ⌜ 1 ≤ length (now script) ⌝ }
+    requires short { ⌜ length (now script) ≤ maxBytes ⌝ }
+    requires few { ⌜ length (rowsOf (now script)) ≤ maxLines ⌝ }
+    requires room { ⌜ 16 * length (rowsOf (now script)) ≤ length (now out) ⌝ }
+    ensures end { λ r. ⌜ r ≡ length (answersText (now (script .entry))) ⌝ }
+    ensures written { λ _. ⌜ now (out .exit) ≡ writtenAt (now (out .entry)) 0 (answersText (now (script .entry))) ⌝ }
 {
     // A field of each counted line goes to an array; a script has no more lines.
     let mut a = [0u64; MAX_LINES];
@@ -50,7 +54,8 @@ fn answer_script(script: &[u8], out: &mut [u8]) -> usize
 // Runs a script: the refusal, 0 for a run, times 1,000,000, plus the written length. Nothing is asked of the two slices.
 #[no_mangle]
 pub extern "C" fn run(script: &[u8], out: &mut [u8]) -> u64
-    ensures { λ r. ⌜ (r ≡ runNumber (now (script .entry)) (now (out .entry))) × (now (out .exit) ≡ outputAfter (now (script .entry)) (now (out .entry))) ⌝ }
+    ensures number { λ r. ⌜ r ≡ runNumber (now (script .entry)) (now (out .entry)) ⌝ }
+    ensures output { λ _. ⌜ now (out .exit) ≡ outputAfter (now (script .entry)) (now (out .entry)) ⌝ }
 {
     if MAX_BYTES < script.len() {
         return 1_000_000;

@@ -24,7 +24,13 @@ pub record Reachable (o f : List ℕ) (m : List Bool) (x : List Entry) : Type 0 
   pub ofPosted : m ≡ postedOf (season.after opening calls)
   pub ofEvidence : x ≡ evidenceOf (season.after opening calls)
 
--- some of a book's arrays, beside others that are not lent
+-- some of a book's arrays, beside others that are not lent: the figures alone, with the opening, or with the opening and the postings
+pub record ReachableTier (f : List ℕ) : Type 0 where
+  pub opening : List ℕ
+  pub posted : List Bool
+  pub evidence : List Entry
+  pub reachable : Reachable opening f posted evidence
+
 pub record ReachableFigures (o f : List ℕ) : Type 0 where
   pub posted : List Bool
   pub evidence : List Entry

@@ -75,7 +75,8 @@ fn cut(used: usize, line: &[u8]) -> usize
 
 // The script's length after a line.
 fn after_line(script: &mut [u8; 65_600], used: usize, line: &[u8]) -> usize
-    requires { ⌜ (used ≤ 65600) × (0 < length (now line)) ⌝ }
+    requires used { ⌜ used ≤ 65600 ⌝ }
+    requires some { ⌜ 0 < length (now line) ⌝ }
     ensures { λ r. ⌜ r ≤ 65600 ⌝ }
 {
     let said = line_at(line, 0);
@@ -105,7 +106,8 @@ pub fn build(script: &mut [u8; 65_600], vector: &[u8]) -> usize
 
 // How many bytes are lent after a line.
 fn lent_after(lent: usize, line: &[u8]) -> usize
-    requires { ⌜ (lent ≤ 65536) × (0 < length (now line)) ⌝ }
+    requires lent { ⌜ lent ≤ 65536 ⌝ }
+    requires some { ⌜ 0 < length (now line) ⌝ }
     ensures { λ r. ⌜ r ≤ 65536 ⌝ }
 {
     let Line::Lend = line_at(line, 0) else {

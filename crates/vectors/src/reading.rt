@@ -18,7 +18,8 @@ pub enum Line {
 // The place after the line that starts at a place.
 pub fn line_end(text: &[u8], start: usize) -> usize
     requires { ⌜ start < length (now text) ⌝ }
-    ensures { λ r. ⌜ (start < r) × (r ≤ length (now (text .entry))) ⌝ }
+    ensures after { λ r. ⌜ start < r ⌝ }
+    ensures within { λ r. ⌜ r ≤ length (now (text .entry)) ⌝ }
 {
     let end = start + line_length(&text[start..]);
     if end < text.len() { end + 1 } else { end }
@@ -58,7 +59,8 @@ fn begins_vector(text: &[u8], start: usize) -> bool
 // Where the first line that begins a vector starts, from a line's start on: the text's end where none does.
 pub fn next_vector(text: &[u8], start: usize) -> usize
     requires { ⌜ start ≤ length (now text) ⌝ }
-    ensures { λ r. ⌜ (start ≤ r) × (r ≤ length (now (text .entry))) ⌝ }
+    ensures not_before { λ r. ⌜ start ≤ r ⌝ }
+    ensures within { λ r. ⌜ r ≤ length (now (text .entry)) ⌝ }
 {
     let mut at = start;
     while at < text.len() {

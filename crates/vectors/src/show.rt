@@ -21,7 +21,8 @@ fn answer(script: &[u8], out: &mut [u8]) {
 // Runs the script at the start of an array, with so many bytes for its output. The array comes by value because the checker covers no part of an
 // array behind a reference.
 fn run_built(script: [u8; 65_600], used: usize, lent: usize)
-    requires { ⌜ (used ≤ 65600) × (lent ≤ 65536) ⌝ }
+    requires used { ⌜ used ≤ 65600 ⌝ }
+    requires lent { ⌜ lent ≤ 65536 ⌝ }
 {
     let mut out = io::large_buffer();
     answer(&script[..used], &mut out[..lent]);

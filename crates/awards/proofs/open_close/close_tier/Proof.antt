@@ -1,6 +1,7 @@
 -- `awards::open_close::close_tier` meets its contract: a refusal leaves the figures, and an accepted call clears the nominations and notes the tier closed. Assumes nothing.
 use native.Mathlib.Omega.{arith}
 use lib.ListN.{length-set}
+use Rattle.slots.proofs.Reachable.{figures-long}
 use Rattle.slots.proofs.StepLaws.{steps-refused}
 use Rattle.awards.proofs.OpenCloseLaws.{close-steps}
 use borrow.Author.Needs.{needs}
@@ -20,13 +21,13 @@ current-tier-requires : tie.Need-current-tier-requires
 current-tier-requires c κs = search needs
 
 clear-requires : tie.Need-clear-requires
-clear-requires c κs = search needs
+clear-requires c κs = let long = figures-long _ _ _ _ (c .before .before .before .before .before .before .before .pre .reachable) in search needs
 
 slice-write-f : tie.Need-slice-write-f
-slice-write-f c = search needs
+slice-write-f c = let long = figures-long _ _ _ _ (c .before .before .before .before .before .before .before .before .before .before .pre .reachable) in search needs
 
 slice-write-f-2 : tie.Need-slice-write-f-2
-slice-write-f-2 c = simp length-set (omega arith)
+slice-write-f-2 c = let long = figures-long _ _ _ _ (c .before .before .before .before .before .before .before .before .before .before .pre .reachable) in simp length-set (omega arith)
 
 same-length-2 : tie.Need-same-length-2
 same-length-2 c = search needs

@@ -1,4 +1,5 @@
 -- `awards::open_close::open_tier` meets its contract: a refusal leaves the figures, and an accepted call clears the nominations and notes the tier. Assumes nothing.
+use Rattle.slots.proofs.Reachable.{figures-long}
 use Rattle.slots.proofs.StepLaws.{steps-refused}
 use Rattle.awards.proofs.OpenCloseLaws.{open-steps}
 use borrow.Author.Needs.{needs}
@@ -15,10 +16,10 @@ returns : tie.Need-returns
 returns c = λ o m x r. steps-refused o _ m x _ _ (c .before .open-refusal .ensures _ m x) r (c .if1 .taken)
 
 clear-requires : tie.Need-clear-requires
-clear-requires c κs = search needs
+clear-requires c κs = let long = figures-long _ _ _ _ (c .before .before .before .before .before .pre .reachable) in search needs
 
 slice-write-f : tie.Need-slice-write-f
-slice-write-f c = search needs
+slice-write-f c = let long = figures-long _ _ _ _ (c .before .before .before .before .before .before .before .before .pre .reachable) in search needs
 
 same-length-2 : tie.Need-same-length-2
 same-length-2 c = search needs

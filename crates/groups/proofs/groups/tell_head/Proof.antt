@@ -7,7 +7,7 @@ use Rattle.groups.proofs.groups.tell_head.Statement.{statement}
 use Rattle.groups.proofs.groups.tell_head.Tie as tie
 
 tell-load-requires : tie.Need-tell-load-requires
-tell-load-requires c κs = search needs
+tell-load-requires c κs = let s = c .before .before .before .before .before .before .before .before .before .before .before .before .before .before .before .before .before .before in (s .pre .0, (c .before .before .before .before .before .before .before .if1 .taken, s .pre .1 .1))
 
 same-length : tie.Need-same-length
 same-length c = search needs
@@ -31,10 +31,10 @@ same-length-7 : tie.Need-same-length-7
 same-length-7 c = search needs
 
 returns : tie.Need-returns
-returns c = let t = c .before .before .before .before .before .before .before .before .before .before .before .before .before .before .tell-load .ensures in (λ x k. t .0 x k, t .1, t .2, t .3, t .4, t .5, t .6)
+returns c = let t = c .before .before .before .before .before .before .before .before .before .before .before .before .before .before .tell-load .ensures in (λ x k. t .0 x k, t .1)
 
 tell-migrate-requires : tie.Need-tell-migrate-requires
-tell-migrate-requires c κs = let s = c .before .before .before .before .before .before .before .before .before .before .before .before .before .before .before .before .before .before .before in ((record { posted = _; evidence = _; reachable = s .pre .0 .0 .reachable }, c .before .before .before .before .before .before .if2 .taken), s .pre .1, s .pre .2, s .pre .3, s .pre .4, s .pre .5, s .pre .6)
+tell-migrate-requires c κs = let s = c .before .before .before .before .before .before .before .before .before .before .before .before .before .before .before .before .before .before .before in (record { posted = _; evidence = _; reachable = s .pre .0 .reachable }, (c .before .before .before .before .before .before .if2 .taken, s .pre .1 .1))
 
 same-length-8 : tie.Need-same-length-8
 same-length-8 c = search needs
@@ -55,7 +55,7 @@ same-length-13 : tie.Need-same-length-13
 same-length-13 c = search needs
 
 returns-2 : tie.Need-returns-2
-returns-2 c = let t = c .before .before .before .before .before .before .before .before .before .before .before .before .tell-migrate .ensures in (λ x k. t .0 _ x k, t .1, t .2, t .3, t .4, t .5, t .6)
+returns-2 c = let t = c .before .before .before .before .before .before .before .before .before .before .before .before .tell-migrate .ensures in (λ x k. t .0 _ x k, t .1)
 
 ask-row-requires : tie.Need-ask-row-requires
 ask-row-requires c κs = search needs
@@ -70,7 +70,7 @@ returns-3 : tie.Need-returns-3
 returns-3 c =
     let s = c .before .before .before .before .before .before .before .before .before .before .before .before .before .before .before .before .before .before .before .before in
     let none = counts-none _ (c .before .before .before .before .before .before .before .before .before .if1 .left) (c .before .before .before .before .before .before .before .if2 .left) in
-    (λ x k. row-told _ _ _ none _ _ (c .before .before .before .before .ask-row .ensures x k), row-bytes (bookIn [] [] [] []) _ _ none, s .pre .2, s .pre .3, s .pre .4, s .pre .5, s .pre .6)
+    (λ x k. row-told _ _ _ none _ _ (c .before .before .before .before .ask-row .ensures x k), (row-bytes (bookIn [] [] [] []) _ _ none, s .pre .1 .1 .1))
 
 pub tell-head-spec : {M : Type 1} → statement M
 tell-head-spec =

@@ -39,10 +39,18 @@ returns : tie.Need-returns
 unfolding field
 returns c =
     let s = c .before .before .before .before .before .before .before .before .before .before .before .before .before .before .before .before .before .before .before .before .before .before .before .before .before .before .before .before in
-    let r = c .before .before .before .before .before .before .before .before .before .before .before .before .read-counted .ensures in
-    let counts = load-counts _ (s .pre .0 .1) in
-    let asks = load-asks _ _ (s .pre .0 .1) in
-    (λ x k. broken-told _ _ _ _ _ _ _ (r .0) counts asks (not-true _ (c .if1 .taken)), told-bytes (bookIn (s .args .o .now) (s .args .f .now) (s .args .m .now) []) _ _ _ _ _ _ (r .0) counts asks, kept-size 0 _ _ _ _ (s .pre .1) (s .pre .2) (r .1), kept-size 1 _ _ _ _ (s .pre .1) (s .pre .3) (r .2), kept-size 2 _ _ _ _ (s .pre .1) (s .pre .4) (r .3), kept-size 3 _ _ _ _ (s .pre .1) (s .pre .5) (r .4), kept-size 4 _ _ _ _ (s .pre .1) (s .pre .6) (r .5))
+    let few = s .pre .1 .1 .0 in
+    let columns = s .pre .1 .1 .1 in
+    let read = c .before .before .before .before .before .before .before .before .before .before .before .before .read-counted .ensures in
+    let counted = read .0 in
+    let first-column = read .1 .0 in
+    let second-column = read .1 .1 .0 in
+    let third-column = read .1 .1 .1 .0 in
+    let fourth-column = read .1 .1 .1 .1 .0 in
+    let fifth-column = read .1 .1 .1 .1 .1 in
+    let counts = load-counts _ (s .pre .1 .0) in
+    let asks = load-asks _ _ (s .pre .1 .0) in
+    (λ x k. broken-told _ _ _ _ _ _ _ counted counts asks (not-true _ (c .if1 .taken)), (told-bytes (bookIn (s .args .o .now) (s .args .f .now) (s .args .m .now) []) _ _ _ _ _ _ counted counts asks, record { first = kept-size 0 _ _ _ _ few (columns .first) first-column; second = kept-size 1 _ _ _ _ few (columns .second) second-column; third = kept-size 2 _ _ _ _ few (columns .third) third-column; fourth = kept-size 3 _ _ _ _ few (columns .fourth) fourth-column; fifth = kept-size 4 _ _ _ _ few (columns .fifth) fifth-column }))
 
 array-read-load : tie.Need-array-read-load
 array-read-load c = search needs
@@ -63,43 +71,61 @@ slice-reshare-prefix-load : tie.Need-slice-reshare-prefix-load
 unfolding field
 slice-reshare-prefix-load c =
     let s = c .before .before .before .before .before .before .before .before .before .before .before .before .before .before .before .before .before .before .before .before .before .before .before .before .before .before .before .before .before .before in
-    let r = c .before .before .before .before .before .before .before .before .before .before .before .before .before .before .read-counted .ensures in
+    let few = s .pre .1 .1 .0 in
+    let columns = s .pre .1 .1 .1 in
+    let read = c .before .before .before .before .before .before .before .before .before .before .before .before .before .before .read-counted .ensures in
+    let counted = read .0 in
+    let first-column = read .1 .0 in
     let all = not-false _ (c .before .before .if1 .left) in
-    le-trans (count-few _ _ _ _ (r .0) all (s .pre .1)) (le-of-eq (sym (kept-size 0 _ _ _ _ (s .pre .1) (s .pre .2) (r .1))))
+    le-trans (count-few _ _ _ _ counted all few) (le-of-eq (sym (kept-size 0 _ _ _ _ few (columns .first) first-column)))
 
 slice-aggregate-load : tie.Need-slice-aggregate-load
 unfolding field
 slice-aggregate-load c =
-    let r = c .before .before .before .before .before .before .before .before .before .before .before .before .before .before .before .read-counted .ensures in
-    part-long _ _ _ _ (r .0) (not-false _ (c .before .before .before .if1 .left)) 0 _ _ (r .1)
+    let read = c .before .before .before .before .before .before .before .before .before .before .before .before .before .before .before .read-counted .ensures in
+    let counted = read .0 in
+    let first-column = read .1 .0 in
+    part-long _ _ _ _ counted (not-false _ (c .before .before .before .if1 .left)) 0 _ _ first-column
 
 slice-reshare-prefix-load-2 : tie.Need-slice-reshare-prefix-load-2
 unfolding field
 slice-reshare-prefix-load-2 c =
     let s = c .before .before .before .before .before .before .before .before .before .before .before .before .before .before .before .before .before .before .before .before .before .before .before .before .before .before .before .before .before .before .before in
-    let r = c .before .before .before .before .before .before .before .before .before .before .before .before .before .before .before .read-counted .ensures in
+    let few = s .pre .1 .1 .0 in
+    let columns = s .pre .1 .1 .1 in
+    let read = c .before .before .before .before .before .before .before .before .before .before .before .before .before .before .before .read-counted .ensures in
+    let counted = read .0 in
+    let second-column = read .1 .1 .0 in
     let all = not-false _ (c .before .before .before .if1 .left) in
-    le-trans (count-few _ _ _ _ (r .0) all (s .pre .1)) (le-of-eq (sym (kept-size 1 _ _ _ _ (s .pre .1) (s .pre .3) (r .2))))
+    le-trans (count-few _ _ _ _ counted all few) (le-of-eq (sym (kept-size 1 _ _ _ _ few (columns .second) second-column)))
 
 slice-aggregate-load-2 : tie.Need-slice-aggregate-load-2
 unfolding field
 slice-aggregate-load-2 c =
-    let r = c .before .before .before .before .before .before .before .before .before .before .before .before .before .before .before .before .read-counted .ensures in
-    part-long _ _ _ _ (r .0) (not-false _ (c .before .before .before .before .if1 .left)) 1 _ _ (r .2)
+    let read = c .before .before .before .before .before .before .before .before .before .before .before .before .before .before .before .before .read-counted .ensures in
+    let counted = read .0 in
+    let second-column = read .1 .1 .0 in
+    part-long _ _ _ _ counted (not-false _ (c .before .before .before .before .if1 .left)) 1 _ _ second-column
 
 slice-reshare-prefix-load-3 : tie.Need-slice-reshare-prefix-load-3
 unfolding field
 slice-reshare-prefix-load-3 c =
     let s = c .before .before .before .before .before .before .before .before .before .before .before .before .before .before .before .before .before .before .before .before .before .before .before .before .before .before .before .before .before .before .before .before in
-    let r = c .before .before .before .before .before .before .before .before .before .before .before .before .before .before .before .before .read-counted .ensures in
+    let few = s .pre .1 .1 .0 in
+    let columns = s .pre .1 .1 .1 in
+    let read = c .before .before .before .before .before .before .before .before .before .before .before .before .before .before .before .before .read-counted .ensures in
+    let counted = read .0 in
+    let third-column = read .1 .1 .1 .0 in
     let all = not-false _ (c .before .before .before .before .if1 .left) in
-    le-trans (count-few _ _ _ _ (r .0) all (s .pre .1)) (le-of-eq (sym (kept-size 2 _ _ _ _ (s .pre .1) (s .pre .4) (r .3))))
+    le-trans (count-few _ _ _ _ counted all few) (le-of-eq (sym (kept-size 2 _ _ _ _ few (columns .third) third-column)))
 
 slice-aggregate-load-3 : tie.Need-slice-aggregate-load-3
 unfolding field
 slice-aggregate-load-3 c =
-    let r = c .before .before .before .before .before .before .before .before .before .before .before .before .before .before .before .before .before .read-counted .ensures in
-    part-long _ _ _ _ (r .0) (not-false _ (c .before .before .before .before .before .if1 .left)) 2 _ _ (r .3)
+    let read = c .before .before .before .before .before .before .before .before .before .before .before .before .before .before .before .before .before .read-counted .ensures in
+    let counted = read .0 in
+    let third-column = read .1 .1 .1 .0 in
+    part-long _ _ _ _ counted (not-false _ (c .before .before .before .before .before .if1 .left)) 2 _ _ third-column
 
 load-requires : tie.Need-load-requires
 load-requires c κs = search needs
@@ -129,11 +155,19 @@ returns-2 : tie.Need-returns-2
 unfolding field handedBlocks
 returns-2 c =
     let s = c .before .before .before .before .before .before .before .before .before .before .before .before .before .before .before .before .before .before .before .before .before .before .before .before .before .before .before .before .before .before .before .before .before .before .before .before .before .before in
-    let r = c .before .before .before .before .before .before .before .before .before .before .before .before .before .before .before .before .before .before .before .before .before .before .read-counted .ensures in
+    let few = s .pre .1 .1 .0 in
+    let columns = s .pre .1 .1 .1 in
+    let read = c .before .before .before .before .before .before .before .before .before .before .before .before .before .before .before .before .before .before .before .before .before .before .read-counted .ensures in
+    let counted = read .0 in
+    let first-column = read .1 .0 in
+    let second-column = read .1 .1 .0 in
+    let third-column = read .1 .1 .1 .0 in
+    let fourth-column = read .1 .1 .1 .1 .0 in
+    let fifth-column = read .1 .1 .1 .1 .1 in
     let all = not-false _ (c .before .before .before .before .before .before .before .before .before .before .if1 .left) in
-    let counts = load-counts _ (s .pre .0 .1) in
-    let asks = load-asks _ _ (s .pre .0 .1) in
-    (λ x k. whole-told _ _ _ _ _ _ _ (r .0) counts asks all _ _ (load-is _ (s .args .head) (rowsCounted (field 5 (s .args .head)) (s .args .behind .now)) _ _ _ _ (handed-if _ _ _ _ _ _ _ _ _ _ k (c .before .before .before .before .load .ensures x k)) (part-is _ _ _ _ (r .0) all 0 _ _ (r .1)) (part-is _ _ _ _ (r .0) all 1 _ _ (r .2)) (part-is _ _ _ _ (r .0) all 2 _ _ (r .3))), told-bytes (bookIn (s .args .o .now) (s .args .f .now) (s .args .m .now) []) _ _ _ _ _ _ (r .0) counts asks, kept-size 0 _ _ _ _ (s .pre .1) (s .pre .2) (r .1), kept-size 1 _ _ _ _ (s .pre .1) (s .pre .3) (r .2), kept-size 2 _ _ _ _ (s .pre .1) (s .pre .4) (r .3), kept-size 3 _ _ _ _ (s .pre .1) (s .pre .5) (r .4), kept-size 4 _ _ _ _ (s .pre .1) (s .pre .6) (r .5))
+    let counts = load-counts _ (s .pre .1 .0) in
+    let asks = load-asks _ _ (s .pre .1 .0) in
+    (λ x k. whole-told _ _ _ _ _ _ _ counted counts asks all _ _ (load-is _ (s .args .head) (rowsCounted (field 5 (s .args .head)) (s .args .behind .now)) _ _ _ _ (handed-if _ _ _ _ _ _ _ _ _ _ k (c .before .before .before .before .load .ensures x k)) (part-is _ _ _ _ counted all 0 _ _ first-column) (part-is _ _ _ _ counted all 1 _ _ second-column) (part-is _ _ _ _ counted all 2 _ _ third-column)), (told-bytes (bookIn (s .args .o .now) (s .args .f .now) (s .args .m .now) []) _ _ _ _ _ _ counted counts asks, record { first = kept-size 0 _ _ _ _ few (columns .first) first-column; second = kept-size 1 _ _ _ _ few (columns .second) second-column; third = kept-size 2 _ _ _ _ few (columns .third) third-column; fourth = kept-size 3 _ _ _ _ few (columns .fourth) fourth-column; fifth = kept-size 4 _ _ _ _ few (columns .fifth) fifth-column }))
 
 pub tell-load-spec : {M : Type 1} → statement M
 tell-load-spec =

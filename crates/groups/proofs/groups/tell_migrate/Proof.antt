@@ -39,10 +39,18 @@ returns : tie.Need-returns
 unfolding field
 returns c =
     let s = c .before .before .before .before .before .before .before .before .before .before .before .before .before .before .before .before .before .before .before .before .before .before .before .before .before .before .before in
-    let r = c .before .before .before .before .before .before .before .before .before .before .before .before .read-counted .ensures in
-    let counts = migrate-counts _ (s .pre .0 .1) in
-    let asks = migrate-asks _ _ (s .pre .0 .1) in
-    (λ m x k. broken-told _ _ _ _ _ _ _ (r .0) counts asks (not-true _ (c .if1 .taken)), told-bytes (bookIn (s .args .o .now) (s .args .f .now) [] []) _ _ _ _ _ _ (r .0) counts asks, kept-size 0 _ _ _ _ (s .pre .1) (s .pre .2) (r .1), kept-size 1 _ _ _ _ (s .pre .1) (s .pre .3) (r .2), kept-size 2 _ _ _ _ (s .pre .1) (s .pre .4) (r .3), kept-size 3 _ _ _ _ (s .pre .1) (s .pre .5) (r .4), kept-size 4 _ _ _ _ (s .pre .1) (s .pre .6) (r .5))
+    let few = s .pre .1 .1 .0 in
+    let columns = s .pre .1 .1 .1 in
+    let read = c .before .before .before .before .before .before .before .before .before .before .before .before .read-counted .ensures in
+    let counted = read .0 in
+    let first-column = read .1 .0 in
+    let second-column = read .1 .1 .0 in
+    let third-column = read .1 .1 .1 .0 in
+    let fourth-column = read .1 .1 .1 .1 .0 in
+    let fifth-column = read .1 .1 .1 .1 .1 in
+    let counts = migrate-counts _ (s .pre .1 .0) in
+    let asks = migrate-asks _ _ (s .pre .1 .0) in
+    (λ m x k. broken-told _ _ _ _ _ _ _ counted counts asks (not-true _ (c .if1 .taken)), (told-bytes (bookIn (s .args .o .now) (s .args .f .now) [] []) _ _ _ _ _ _ counted counts asks, record { first = kept-size 0 _ _ _ _ few (columns .first) first-column; second = kept-size 1 _ _ _ _ few (columns .second) second-column; third = kept-size 2 _ _ _ _ few (columns .third) third-column; fourth = kept-size 3 _ _ _ _ few (columns .fourth) fourth-column; fifth = kept-size 4 _ _ _ _ few (columns .fifth) fifth-column }))
 
 array-read-migrate : tie.Need-array-read-migrate
 array-read-migrate c = search needs
@@ -54,71 +62,101 @@ slice-reshare-prefix-migrate : tie.Need-slice-reshare-prefix-migrate
 unfolding field
 slice-reshare-prefix-migrate c =
     let s = c .before .before .before .before .before .before .before .before .before .before .before .before .before .before .before .before .before .before .before .before .before .before .before .before .before .before .before .before in
-    let r = c .before .before .before .before .before .before .before .before .before .before .before .before .before .read-counted .ensures in
+    let few = s .pre .1 .1 .0 in
+    let columns = s .pre .1 .1 .1 in
+    let read = c .before .before .before .before .before .before .before .before .before .before .before .before .before .read-counted .ensures in
+    let counted = read .0 in
+    let first-column = read .1 .0 in
     let all = not-false _ (c .before .if1 .left) in
-    le-trans (count-few _ _ _ _ (r .0) all (s .pre .1)) (le-of-eq (sym (kept-size 0 _ _ _ _ (s .pre .1) (s .pre .2) (r .1))))
+    le-trans (count-few _ _ _ _ counted all few) (le-of-eq (sym (kept-size 0 _ _ _ _ few (columns .first) first-column)))
 
 slice-aggregate-migrate : tie.Need-slice-aggregate-migrate
 unfolding field
 slice-aggregate-migrate c =
-    let r = c .before .before .before .before .before .before .before .before .before .before .before .before .before .before .read-counted .ensures in
-    part-long _ _ _ _ (r .0) (not-false _ (c .before .before .if1 .left)) 0 _ _ (r .1)
+    let read = c .before .before .before .before .before .before .before .before .before .before .before .before .before .before .read-counted .ensures in
+    let counted = read .0 in
+    let first-column = read .1 .0 in
+    part-long _ _ _ _ counted (not-false _ (c .before .before .if1 .left)) 0 _ _ first-column
 
 slice-reshare-prefix-migrate-2 : tie.Need-slice-reshare-prefix-migrate-2
 unfolding field
 slice-reshare-prefix-migrate-2 c =
     let s = c .before .before .before .before .before .before .before .before .before .before .before .before .before .before .before .before .before .before .before .before .before .before .before .before .before .before .before .before .before in
-    let r = c .before .before .before .before .before .before .before .before .before .before .before .before .before .before .read-counted .ensures in
+    let few = s .pre .1 .1 .0 in
+    let columns = s .pre .1 .1 .1 in
+    let read = c .before .before .before .before .before .before .before .before .before .before .before .before .before .before .read-counted .ensures in
+    let counted = read .0 in
+    let second-column = read .1 .1 .0 in
     let all = not-false _ (c .before .before .if1 .left) in
-    le-trans (count-few _ _ _ _ (r .0) all (s .pre .1)) (le-of-eq (sym (kept-size 1 _ _ _ _ (s .pre .1) (s .pre .3) (r .2))))
+    le-trans (count-few _ _ _ _ counted all few) (le-of-eq (sym (kept-size 1 _ _ _ _ few (columns .second) second-column)))
 
 slice-aggregate-migrate-2 : tie.Need-slice-aggregate-migrate-2
 unfolding field
 slice-aggregate-migrate-2 c =
-    let r = c .before .before .before .before .before .before .before .before .before .before .before .before .before .before .before .read-counted .ensures in
-    part-long _ _ _ _ (r .0) (not-false _ (c .before .before .before .if1 .left)) 1 _ _ (r .2)
+    let read = c .before .before .before .before .before .before .before .before .before .before .before .before .before .before .before .read-counted .ensures in
+    let counted = read .0 in
+    let second-column = read .1 .1 .0 in
+    part-long _ _ _ _ counted (not-false _ (c .before .before .before .if1 .left)) 1 _ _ second-column
 
 slice-reshare-prefix-migrate-3 : tie.Need-slice-reshare-prefix-migrate-3
 unfolding field
 slice-reshare-prefix-migrate-3 c =
     let s = c .before .before .before .before .before .before .before .before .before .before .before .before .before .before .before .before .before .before .before .before .before .before .before .before .before .before .before .before .before .before in
-    let r = c .before .before .before .before .before .before .before .before .before .before .before .before .before .before .before .read-counted .ensures in
+    let few = s .pre .1 .1 .0 in
+    let columns = s .pre .1 .1 .1 in
+    let read = c .before .before .before .before .before .before .before .before .before .before .before .before .before .before .before .read-counted .ensures in
+    let counted = read .0 in
+    let third-column = read .1 .1 .1 .0 in
     let all = not-false _ (c .before .before .before .if1 .left) in
-    le-trans (count-few _ _ _ _ (r .0) all (s .pre .1)) (le-of-eq (sym (kept-size 2 _ _ _ _ (s .pre .1) (s .pre .4) (r .3))))
+    le-trans (count-few _ _ _ _ counted all few) (le-of-eq (sym (kept-size 2 _ _ _ _ few (columns .third) third-column)))
 
 slice-aggregate-migrate-3 : tie.Need-slice-aggregate-migrate-3
 unfolding field
 slice-aggregate-migrate-3 c =
-    let r = c .before .before .before .before .before .before .before .before .before .before .before .before .before .before .before .before .read-counted .ensures in
-    part-long _ _ _ _ (r .0) (not-false _ (c .before .before .before .before .if1 .left)) 2 _ _ (r .3)
+    let read = c .before .before .before .before .before .before .before .before .before .before .before .before .before .before .before .before .read-counted .ensures in
+    let counted = read .0 in
+    let third-column = read .1 .1 .1 .0 in
+    part-long _ _ _ _ counted (not-false _ (c .before .before .before .before .if1 .left)) 2 _ _ third-column
 
 slice-reshare-prefix-migrate-4 : tie.Need-slice-reshare-prefix-migrate-4
 unfolding field
 slice-reshare-prefix-migrate-4 c =
     let s = c .before .before .before .before .before .before .before .before .before .before .before .before .before .before .before .before .before .before .before .before .before .before .before .before .before .before .before .before .before .before .before in
-    let r = c .before .before .before .before .before .before .before .before .before .before .before .before .before .before .before .before .read-counted .ensures in
+    let few = s .pre .1 .1 .0 in
+    let columns = s .pre .1 .1 .1 in
+    let read = c .before .before .before .before .before .before .before .before .before .before .before .before .before .before .before .before .read-counted .ensures in
+    let counted = read .0 in
+    let fourth-column = read .1 .1 .1 .1 .0 in
     let all = not-false _ (c .before .before .before .before .if1 .left) in
-    le-trans (count-few _ _ _ _ (r .0) all (s .pre .1)) (le-of-eq (sym (kept-size 3 _ _ _ _ (s .pre .1) (s .pre .5) (r .4))))
+    le-trans (count-few _ _ _ _ counted all few) (le-of-eq (sym (kept-size 3 _ _ _ _ few (columns .fourth) fourth-column)))
 
 slice-aggregate-migrate-4 : tie.Need-slice-aggregate-migrate-4
 unfolding field
 slice-aggregate-migrate-4 c =
-    let r = c .before .before .before .before .before .before .before .before .before .before .before .before .before .before .before .before .before .read-counted .ensures in
-    part-long _ _ _ _ (r .0) (not-false _ (c .before .before .before .before .before .if1 .left)) 3 _ _ (r .4)
+    let read = c .before .before .before .before .before .before .before .before .before .before .before .before .before .before .before .before .before .read-counted .ensures in
+    let counted = read .0 in
+    let fourth-column = read .1 .1 .1 .1 .0 in
+    part-long _ _ _ _ counted (not-false _ (c .before .before .before .before .before .if1 .left)) 3 _ _ fourth-column
 
 slice-reshare-prefix-migrate-5 : tie.Need-slice-reshare-prefix-migrate-5
 unfolding field
 slice-reshare-prefix-migrate-5 c =
     let s = c .before .before .before .before .before .before .before .before .before .before .before .before .before .before .before .before .before .before .before .before .before .before .before .before .before .before .before .before .before .before .before .before in
-    let r = c .before .before .before .before .before .before .before .before .before .before .before .before .before .before .before .before .before .read-counted .ensures in
+    let few = s .pre .1 .1 .0 in
+    let columns = s .pre .1 .1 .1 in
+    let read = c .before .before .before .before .before .before .before .before .before .before .before .before .before .before .before .before .before .read-counted .ensures in
+    let counted = read .0 in
+    let fifth-column = read .1 .1 .1 .1 .1 in
     let all = not-false _ (c .before .before .before .before .before .if1 .left) in
-    le-trans (count-few _ _ _ _ (r .0) all (s .pre .1)) (le-of-eq (sym (kept-size 4 _ _ _ _ (s .pre .1) (s .pre .6) (r .5))))
+    le-trans (count-few _ _ _ _ counted all few) (le-of-eq (sym (kept-size 4 _ _ _ _ few (columns .fifth) fifth-column)))
 
 slice-aggregate-migrate-5 : tie.Need-slice-aggregate-migrate-5
 unfolding field
 slice-aggregate-migrate-5 c =
-    let r = c .before .before .before .before .before .before .before .before .before .before .before .before .before .before .before .before .before .before .read-counted .ensures in
-    part-long _ _ _ _ (r .0) (not-false _ (c .before .before .before .before .before .before .if1 .left)) 4 _ _ (r .5)
+    let read = c .before .before .before .before .before .before .before .before .before .before .before .before .before .before .before .before .before .before .read-counted .ensures in
+    let counted = read .0 in
+    let fifth-column = read .1 .1 .1 .1 .1 in
+    part-long _ _ _ _ counted (not-false _ (c .before .before .before .before .before .before .if1 .left)) 4 _ _ fifth-column
 
 migrate-requires : tie.Need-migrate-requires
 migrate-requires c κs = search needs
@@ -145,11 +183,19 @@ returns-2 : tie.Need-returns-2
 unfolding field handedLines
 returns-2 c =
     let s = c .before .before .before .before .before .before .before .before .before .before .before .before .before .before .before .before .before .before .before .before .before .before .before .before .before .before .before .before .before .before .before .before .before .before .before .before in
-    let r = c .before .before .before .before .before .before .before .before .before .before .before .before .before .before .before .before .before .before .before .before .before .read-counted .ensures in
+    let few = s .pre .1 .1 .0 in
+    let columns = s .pre .1 .1 .1 in
+    let read = c .before .before .before .before .before .before .before .before .before .before .before .before .before .before .before .before .before .before .before .before .before .read-counted .ensures in
+    let counted = read .0 in
+    let first-column = read .1 .0 in
+    let second-column = read .1 .1 .0 in
+    let third-column = read .1 .1 .1 .0 in
+    let fourth-column = read .1 .1 .1 .1 .0 in
+    let fifth-column = read .1 .1 .1 .1 .1 in
     let all = not-false _ (c .before .before .before .before .before .before .before .before .before .if1 .left) in
-    let counts = migrate-counts _ (s .pre .0 .1) in
-    let asks = migrate-asks _ _ (s .pre .0 .1) in
-    (λ m x k. whole-told _ _ _ _ _ _ _ (r .0) counts asks all _ _ (migrate-is _ (s .args .head) (rowsCounted (field 2 (s .args .head)) (s .args .behind .now)) _ _ _ _ _ _ (handed-if _ _ _ _ _ _ _ _ _ _ k (c .before .before .migrate .ensures m x k)) (part-is _ _ _ _ (r .0) all 0 _ _ (r .1)) (part-is _ _ _ _ (r .0) all 1 _ _ (r .2)) (part-is _ _ _ _ (r .0) all 2 _ _ (r .3)) (part-is _ _ _ _ (r .0) all 3 _ _ (r .4)) (part-is _ _ _ _ (r .0) all 4 _ _ (r .5))), told-bytes (bookIn (s .args .o .now) (s .args .f .now) [] []) _ _ _ _ _ _ (r .0) counts asks, kept-size 0 _ _ _ _ (s .pre .1) (s .pre .2) (r .1), kept-size 1 _ _ _ _ (s .pre .1) (s .pre .3) (r .2), kept-size 2 _ _ _ _ (s .pre .1) (s .pre .4) (r .3), kept-size 3 _ _ _ _ (s .pre .1) (s .pre .5) (r .4), kept-size 4 _ _ _ _ (s .pre .1) (s .pre .6) (r .5))
+    let counts = migrate-counts _ (s .pre .1 .0) in
+    let asks = migrate-asks _ _ (s .pre .1 .0) in
+    (λ m x k. whole-told _ _ _ _ _ _ _ counted counts asks all _ _ (migrate-is _ (s .args .head) (rowsCounted (field 2 (s .args .head)) (s .args .behind .now)) _ _ _ _ _ _ (handed-if _ _ _ _ _ _ _ _ _ _ k (c .before .before .migrate .ensures m x k)) (part-is _ _ _ _ counted all 0 _ _ first-column) (part-is _ _ _ _ counted all 1 _ _ second-column) (part-is _ _ _ _ counted all 2 _ _ third-column) (part-is _ _ _ _ counted all 3 _ _ fourth-column) (part-is _ _ _ _ counted all 4 _ _ fifth-column)), (told-bytes (bookIn (s .args .o .now) (s .args .f .now) [] []) _ _ _ _ _ _ counted counts asks, record { first = kept-size 0 _ _ _ _ few (columns .first) first-column; second = kept-size 1 _ _ _ _ few (columns .second) second-column; third = kept-size 2 _ _ _ _ few (columns .third) third-column; fourth = kept-size 3 _ _ _ _ few (columns .fourth) fourth-column; fifth = kept-size 4 _ _ _ _ few (columns .fifth) fifth-column }))
 
 pub tell-migrate-spec : {M : Type 1} → statement M
 tell-migrate-spec =

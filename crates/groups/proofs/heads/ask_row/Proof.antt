@@ -1,5 +1,4 @@
 -- `groups::heads::ask_row` meets its contract: each arm is the call that its kind asks. Assumes nothing.
-use Rattle.slots.proofs.Reachable.{figures-long}
 use Rattle.book.proofs.HandedBooks.{handed-book}
 use Rattle.lines.specs.Rows.{field}
 use Rattle.groups.proofs.HeadLaws.{carry-asks, prior-asks, open-asks, nominate-asks, award-asks, close-asks, by-call}
@@ -38,7 +37,7 @@ array-read-open-tier : tie.Need-array-read-open-tier
 array-read-open-tier c = search needs
 
 open-tier-requires : tie.Need-open-tier-requires
-open-tier-requires c κs = figures-long _ _ _ _ (c .before .before .before .before .before .before .pre .0 .reachable)
+open-tier-requires c κs = record { opening = _; posted = _; evidence = _; reachable = c .before .before .before .before .before .before .pre .0 .reachable }
 
 array-read-nominate : tie.Need-array-read-nominate
 array-read-nominate c = search needs
@@ -65,7 +64,7 @@ award-requires : tie.Need-award-requires
 award-requires c κs = search needs
 
 close-tier-requires : tie.Need-close-tier-requires
-close-tier-requires c κs = figures-long _ _ _ _ (c .before .before .before .before .before .before .pre .0 .reachable)
+close-tier-requires c κs = record { opening = _; posted = _; evidence = _; reachable = c .before .before .before .before .before .before .pre .0 .reachable }
 
 query-answer-requires : tie.Need-query-answer-requires
 query-answer-requires c κs = search needs

@@ -29,23 +29,23 @@ array-read-open-4 c = search needs
 
 slice-aggregate-open : tie.Need-slice-aggregate-open
 unfolding field
-slice-aggregate-open c = sym (length-take-le _ _ (c .before .before .before .before .before .before .before .before .before .pre .1))
+slice-aggregate-open c = sym (length-take-le _ _ (c .before .before .before .before .before .before .before .before .before .pre .1 .0))
 
 slice-aggregate-open-2 : tie.Need-slice-aggregate-open-2
 unfolding field
-slice-aggregate-open-2 c = sym (length-take-le _ _ (c .before .before .before .before .before .before .before .before .before .before .pre .2))
+slice-aggregate-open-2 c = sym (length-take-le _ _ (c .before .before .before .before .before .before .before .before .before .before .pre .1 .1 .0 .0))
 
 slice-aggregate-open-3 : tie.Need-slice-aggregate-open-3
 unfolding field
-slice-aggregate-open-3 c = sym (length-take-le _ _ (c .before .before .before .before .before .before .before .before .before .before .before .pre .3))
+slice-aggregate-open-3 c = sym (length-take-le _ _ (c .before .before .before .before .before .before .before .before .before .before .before .pre .1 .1 .0 .1))
 
 slice-aggregate-open-4 : tie.Need-slice-aggregate-open-4
 unfolding field
-slice-aggregate-open-4 c = sym (length-take-le _ _ (c .before .before .before .before .before .before .before .before .before .before .before .before .pre .4))
+slice-aggregate-open-4 c = sym (length-take-le _ _ (c .before .before .before .before .before .before .before .before .before .before .before .before .pre .1 .1 .1 .0))
 
 slice-aggregate-open-5 : tie.Need-slice-aggregate-open-5
 unfolding field
-slice-aggregate-open-5 c = sym (length-take-le _ _ (c .before .before .before .before .before .before .before .before .before .before .before .before .before .pre .5))
+slice-aggregate-open-5 c = sym (length-take-le _ _ (c .before .before .before .before .before .before .before .before .before .before .before .before .before .pre .1 .1 .1 .1))
 
 open-requires : tie.Need-open-requires
 open-requires c κs = search needs

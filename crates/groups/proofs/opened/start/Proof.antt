@@ -26,7 +26,7 @@ part-read-book-lines-end : tie.Need-part-read-book-lines-end
 part-read-book-lines-end c = search needs
 
 read-book-lines-requires : tie.Need-read-book-lines-requires
-read-book-lines-requires c κs = let few = rest-few _ _ _ (after-head _ _ (c .before .before .before .before .before .before .before .next-row .ensures)) (c .before .before .before .before .before .before .before .before .before .before .before .before .before .before .before .pre .0 .0) in search needs
+read-book-lines-requires c κs = let few = rest-few _ _ _ (after-head _ _ (c .before .before .before .before .before .before .before .next-row .ensures)) (c .before .before .before .before .before .before .before .before .before .before .before .before .before .before .before .pre .0) in search needs
 
 add-used : tie.Need-add-used
 add-used c = let within = lines-fit _ _ _ (c .before .before .before .before .before .before .before .before .before .before .before .before .before .before .before .before .before .before .before .next-row .ensures) (c .before .before .before .before .before .before .before .before .before .before .before .read-book-lines .ensures .0) in search needs
@@ -34,11 +34,12 @@ add-used c = let within = lines-fit _ _ _ (c .before .before .before .before .be
 open-read-requires : tie.Need-open-read-requires
 open-read-requires c κs =
     let start = c .before .before .before .before .before .before .before .before .before .before .before .before .before .before .before .before .before .before .before .before .before .before .before .before .before .before .before .before .before .before .before .before .before .before .before .before in
+    let columns = start .pre .1 .1 in
     let first = c .before .before .before .before .before .before .before .before .before .before .before .before .before .before .before .before .before .before .before .before .before .before .before .before .before .before .before .before .next-row in
     let lines = c .before .before .before .before .before .before .before .before .before .before .before .before .before .before .before .before .before .before .before .before .read-book-lines in
-    let few = rest-few _ _ _ (after-head _ _ (first .ensures)) (start .pre .0 .0) in
+    let few = rest-few _ _ _ (after-head _ _ (first .ensures)) (start .pre .0) in
     let fit = counts-fit (first .result .row) _ (lines .result) (lines .ensures .0) (c .before .before .before .before .before .before .if1 .taken) few in
-    (start .pre .0 .1, fits-in (fit .0) (start .pre .1) (c .before .before .before .before .before .before .before .before .before .before .before .before .before .before .before .before .before .before .before .a .given), fits-in (fit .1) (start .pre .2) (c .before .before .before .before .before .before .before .before .before .before .before .before .before .before .before .before .before .b .given), fits-in (fit .1) (start .pre .3) (c .before .before .before .before .before .before .before .before .before .before .before .before .before .before .before .c .given), fits-in (fit .2) (start .pre .4) (c .before .before .before .before .before .before .before .before .before .before .before .before .before .d .given), fits-in (fit .2) (start .pre .5) (c .before .before .before .before .before .before .before .before .before .before .before .e .given))
+    (start .pre .1 .0, (fits-in (fit .0) (columns .first) (c .before .before .before .before .before .before .before .before .before .before .before .before .before .before .before .before .before .before .before .a .given), ((fits-in (fit .1) (columns .second) (c .before .before .before .before .before .before .before .before .before .before .before .before .before .before .before .before .before .b .given), fits-in (fit .1) (columns .third) (c .before .before .before .before .before .before .before .before .before .before .before .before .before .before .before .c .given)), (fits-in (fit .2) (columns .fourth) (c .before .before .before .before .before .before .before .before .before .before .before .before .before .d .given), fits-in (fit .2) (columns .fifth) (c .before .before .before .before .before .before .before .before .before .before .before .e .given)))))
 
 is-done-requires : tie.Need-is-done-requires
 is-done-requires c κs = search needs
@@ -64,13 +65,22 @@ same-length-6 c = search needs
 returns : tie.Need-returns
 returns c =
     let start = c .before .before .before .before .before .before .before .before .before .before .before .before .before .before .before .before .before .before .before .before .before .before .before .before .before .before .before .before .before .before .before .before .before .before .before .before .before .before .before .before in
+    let columns = start .pre .1 .1 in
     let first = c .before .before .before .before .before .before .before .before .before .before .before .before .before .before .before .before .before .before .before .before .before .before .before .before .before .before .before .before .before .before .before .before .next-row in
     let lines = c .before .before .before .before .before .before .before .before .before .before .before .before .before .before .before .before .before .before .before .before .before .before .before .before .read-book-lines in
     let test = c .before .before .before .before .before .before .before .before .before .before .if1 in
     let opened = c .before .before .before .open-read .ensures in
+    let answer = opened .0 in
+    let opening = opened .1 in
     let done = c .is-done in
     let kept = lines .ensures in
-    ((started-opened (first .result .row) _ (lines .result) (kept .0) (test .taken) _ _ _ _ _ (kept .1) (kept .2) (kept .3) (kept .4) (kept .5) (first .result .used) _ (done .result) (opened .0) (done .ensures) ∙ whole-start _ (first .result) (first .ensures), opening-put (first .result .row) _ (lines .result) (kept .0) (test .taken) _ _ _ _ _ (kept .1) (kept .2) (kept .3) (kept .4) (kept .5) _ _ (opened .1) ∙ whole-opening _ _ (first .result) (first .ensures)), c .before .before .before .before .before .before .before .before .before .before .before .before .before .before .before .before .before .before .before .before .before .before .before .a .given ∙ start .pre .1, c .before .before .before .before .before .before .before .before .before .before .before .before .before .before .before .before .before .before .before .before .before .b .given ∙ start .pre .2, c .before .before .before .before .before .before .before .before .before .before .before .before .before .before .before .before .before .before .before .c .given ∙ start .pre .3, c .before .before .before .before .before .before .before .before .before .before .before .before .before .before .before .before .before .d .given ∙ start .pre .4, c .before .before .before .before .before .before .before .before .before .before .before .before .before .before .before .e .given ∙ start .pre .5)
+    let counted = kept .0 in
+    let holder-kinds = kept .1 .0 in
+    let sink-kinds = kept .1 .1 .0 in
+    let sink-parents = kept .1 .1 .1 .0 in
+    let path-sources = kept .1 .1 .1 .1 .0 in
+    let path-sinks = kept .1 .1 .1 .1 .1 in
+    (started-opened (first .result .row) _ (lines .result) counted (test .taken) _ _ _ _ _ holder-kinds sink-kinds sink-parents path-sources path-sinks (first .result .used) _ (done .result) answer (done .ensures) ∙ whole-start _ (first .result) (first .ensures), (opening-put (first .result .row) _ (lines .result) counted (test .taken) _ _ _ _ _ holder-kinds sink-kinds sink-parents path-sources path-sinks _ _ opening ∙ whole-opening _ _ (first .result) (first .ensures), record { first = c .before .before .before .before .before .before .before .before .before .before .before .before .before .before .before .before .before .before .before .before .before .before .before .a .given ∙ columns .first; second = c .before .before .before .before .before .before .before .before .before .before .before .before .before .before .before .before .before .before .before .before .before .b .given ∙ columns .second; third = c .before .before .before .before .before .before .before .before .before .before .before .before .before .before .before .before .before .before .before .c .given ∙ columns .third; fourth = c .before .before .before .before .before .before .before .before .before .before .before .before .before .before .before .before .before .d .given ∙ columns .fourth; fifth = c .before .before .before .before .before .before .before .before .before .before .before .before .before .before .before .e .given ∙ columns .fifth }))
 
 same-length-7 : tie.Need-same-length-7
 same-length-7 c = search needs
@@ -90,10 +100,11 @@ same-length-11 c = search needs
 returns-2 : tie.Need-returns-2
 returns-2 c =
     let start = c .before .before .before .before .before .before .before .before .before .before .before .before .before .before .before .before .before .before .before .before .before .before .before .before .before .before .before .before .before .before in
+    let columns = start .pre .1 .1 in
     let first = c .before .before .before .before .before .before .before .before .before .before .before .before .before .before .before .before .before .before .before .before .before .before .next-row in
     let lines = c .before .before .before .before .before .before .before .before .before .before .before .before .before .before .read-book-lines in
     let test = c .if1 in
-    ((started-refused (first .result .row) _ (lines .result) (lines .ensures .0) (test .left) (first .result .used) ∙ whole-start _ (first .result) (first .ensures), opening-stays (first .result .row) _ (lines .result) (lines .ensures .0) (test .left) _ ∙ whole-opening _ _ (first .result) (first .ensures)), c .before .before .before .before .before .before .before .before .before .before .before .before .before .a .given ∙ start .pre .1, c .before .before .before .before .before .before .before .before .before .before .before .b .given ∙ start .pre .2, c .before .before .before .before .before .before .before .before .before .c .given ∙ start .pre .3, c .before .before .before .before .before .before .before .d .given ∙ start .pre .4, c .before .before .before .before .before .e .given ∙ start .pre .5)
+    (started-refused (first .result .row) _ (lines .result) (lines .ensures .0) (test .left) (first .result .used) ∙ whole-start _ (first .result) (first .ensures), (opening-stays (first .result .row) _ (lines .result) (lines .ensures .0) (test .left) _ ∙ whole-opening _ _ (first .result) (first .ensures), record { first = c .before .before .before .before .before .before .before .before .before .before .before .before .before .a .given ∙ columns .first; second = c .before .before .before .before .before .before .before .before .before .before .before .b .given ∙ columns .second; third = c .before .before .before .before .before .before .before .before .before .c .given ∙ columns .third; fourth = c .before .before .before .before .before .before .before .d .given ∙ columns .fourth; fifth = c .before .before .before .before .before .e .given ∙ columns .fifth }))
 
 pub start-spec : {M : Type 1} → statement M
 start-spec =

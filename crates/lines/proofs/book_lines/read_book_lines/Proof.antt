@@ -103,7 +103,11 @@ returns c =
     let x = c .before .before .before .before .before .before .before .before .before .before .before .before .before .before .before .before .before .before .before .before .before .before .before .before .before .read-pairs in
     let y = c .before .before .before .before .before .before .before .before .before .before .before .before .before .before .before .before .before .read-pairs2 in
     let z = c .before .before .before .before .before .before .before .before .read-pairs3 in
-    (lines-read _ (start .args .head) (x .result) (y .result) (z .result) (x .ensures .0) (y .ensures .0) (z .ensures .0), holders-kept _ (start .args .head) (x .result) (y .result) (z .result) (x .ensures .0) (y .ensures .0) _ _ (x .ensures .1), sinks-kept _ (start .args .head) (x .result) (y .result) (z .result) (x .ensures .0) (y .ensures .0) 0 _ _ (y .ensures .1), sinks-kept _ (start .args .head) (x .result) (y .result) (z .result) (x .ensures .0) (y .ensures .0) 1 _ _ (y .ensures .2), paths-kept _ (start .args .head) (x .result) (y .result) (z .result) (x .ensures .0) (y .ensures .0) (z .ensures .0) 0 _ _ (z .ensures .1), paths-kept _ (start .args .head) (x .result) (y .result) (z .result) (x .ensures .0) (y .ensures .0) (z .ensures .0) 1 _ _ (z .ensures .2))
+    let head = start .args .head in
+    let holders = x .ensures .0 in
+    let sinks = y .ensures .0 in
+    let paths = z .ensures .0 in
+    (lines-read _ head (x .result) (y .result) (z .result) holders sinks paths, (holders-kept _ head (x .result) (y .result) (z .result) holders sinks _ _ (x .ensures .1 .0), (sinks-kept _ head (x .result) (y .result) (z .result) holders sinks 0 _ _ (y .ensures .1 .0), (sinks-kept _ head (x .result) (y .result) (z .result) holders sinks 1 _ _ (y .ensures .1 .1), (paths-kept _ head (x .result) (y .result) (z .result) holders sinks paths 0 _ _ (z .ensures .1 .0), paths-kept _ head (x .result) (y .result) (z .result) holders sinks paths 1 _ _ (z .ensures .1 .1))))))
 
 pub read-book-lines-spec : {M : Type 1} → statement M
 read-book-lines-spec =

@@ -20,22 +20,26 @@ loop-holds : tie.Need-loop-holds Inv-loop μ-loop
 loop-holds c = (none-read _ _ _, none-kept 0 _, none-kept 1 _, none-kept 2 _, none-kept 3 _, none-kept 4 _)
 
 same-length : tie.Need-same-length Inv-loop μ-loop
-same-length c = let s = c .before .before .before .before .before .before .before .before .before in let inv = c .before .before .loop .inv in kept-length _ _ _ _ _ _ (inv .0) 0 _ _ (s .pre .1) (s .pre .0) (inv .1)
+same-length c = let s = c .before .before .before .before .before .before .before .before .before in let inv = c .before .before .loop .inv in kept-length _ _ _ _ _ _ (inv .0) 0 _ _ (s .pre .1 .0) (s .pre .0) (inv .1)
 
 same-length-2 : tie.Need-same-length-2 Inv-loop μ-loop
-same-length-2 c = let s = c .before .before .before .before .before .before .before .before .before in let inv = c .before .before .loop .inv in kept-length _ _ _ _ _ _ (inv .0) 1 _ _ (s .pre .2) (s .pre .0) (inv .2)
+same-length-2 c = let s = c .before .before .before .before .before .before .before .before .before in let inv = c .before .before .loop .inv in kept-length _ _ _ _ _ _ (inv .0) 1 _ _ (s .pre .1 .1) (s .pre .0) (inv .2)
 
 same-length-3 : tie.Need-same-length-3 Inv-loop μ-loop
-same-length-3 c = let s = c .before .before .before .before .before .before .before .before .before in let inv = c .before .before .loop .inv in kept-length _ _ _ _ _ _ (inv .0) 2 _ _ (s .pre .3) (s .pre .0) (inv .3)
+same-length-3 c = let s = c .before .before .before .before .before .before .before .before .before in let inv = c .before .before .loop .inv in kept-length _ _ _ _ _ _ (inv .0) 2 _ _ (s .pre .1 .2) (s .pre .0) (inv .3)
 
 same-length-4 : tie.Need-same-length-4 Inv-loop μ-loop
-same-length-4 c = let s = c .before .before .before .before .before .before .before .before .before in let inv = c .before .before .loop .inv in kept-length _ _ _ _ _ _ (inv .0) 3 _ _ (s .pre .4) (s .pre .0) (inv .4)
+same-length-4 c = let s = c .before .before .before .before .before .before .before .before .before in let inv = c .before .before .loop .inv in kept-length _ _ _ _ _ _ (inv .0) 3 _ _ (s .pre .1 .3) (s .pre .0) (inv .4)
 
 same-length-5 : tie.Need-same-length-5 Inv-loop μ-loop
-same-length-5 c = let s = c .before .before .before .before .before .before .before .before .before in let inv = c .before .before .loop .inv in kept-length _ _ _ _ _ _ (inv .0) 4 _ _ (s .pre .5) (s .pre .0) (inv .5)
+same-length-5 c = let s = c .before .before .before .before .before .before .before .before .before in let inv = c .before .before .loop .inv in kept-length _ _ _ _ _ _ (inv .0) 4 _ _ (s .pre .1 .4) (s .pre .0) (inv .5)
 
 returns : tie.Need-returns Inv-loop μ-loop
-returns c = let inv = c .before .before .loop .inv in let gone = c .if1 .taken in let short = c .before .loop-test .taken in (cut-short _ _ _ _ _ _ (inv .0) gone short, kept-all _ _ _ _ _ _ (inv .0) gone short 0 _ _ (inv .1), kept-all _ _ _ _ _ _ (inv .0) gone short 1 _ _ (inv .2), kept-all _ _ _ _ _ _ (inv .0) gone short 2 _ _ (inv .3), kept-all _ _ _ _ _ _ (inv .0) gone short 3 _ _ (inv .4), kept-all _ _ _ _ _ _ (inv .0) gone short 4 _ _ (inv .5))
+returns c =
+    let inv = c .before .before .loop .inv in
+    let gone = c .if1 .taken in
+    let short = c .before .loop-test .taken in
+    (cut-short _ _ _ _ _ _ (inv .0) gone short, (kept-all _ _ _ _ _ _ (inv .0) gone short 0 _ _ (inv .1), (kept-all _ _ _ _ _ _ (inv .0) gone short 1 _ _ (inv .2), (kept-all _ _ _ _ _ _ (inv .0) gone short 2 _ _ (inv .3), (kept-all _ _ _ _ _ _ (inv .0) gone short 3 _ _ (inv .4), kept-all _ _ _ _ _ _ (inv .0) gone short 4 _ _ (inv .5))))))
 
 sub-next-row : tie.Need-sub-next-row Inv-loop μ-loop
 sub-next-row c = search needs
@@ -60,8 +64,8 @@ slice-write-a c =
     let s = c .before .before .before .before .before .before .before .before .before .before .before .before .before .before in
     let inv = c .before .before .before .before .before .before .before .loop .inv in
     let below = row-below _ _ _ _ _ _ (inv .0) (c .before .before .before .before .before .if1 .left) in
-    let same = kept-length _ _ _ _ _ _ (inv .0) 0 _ _ (s .pre .1) (s .pre .0) (inv .1) in
-    let long = s .pre .1 in
+    let same = kept-length _ _ _ _ _ _ (inv .0) 0 _ _ (s .pre .1 .0) (s .pre .0) (inv .1) in
+    let long = s .pre .1 .0 in
     let few = s .pre .0 in
     omega arith
 
@@ -76,8 +80,8 @@ slice-write-b c =
     let s = c .before .before .before .before .before .before .before .before .before .before .before .before .before .before in
     let inv = c .before .before .before .before .before .before .before .loop .inv in
     let below = row-below _ _ _ _ _ _ (inv .0) (c .before .before .before .before .before .if1 .left) in
-    let same = kept-length _ _ _ _ _ _ (inv .0) 1 _ _ (s .pre .2) (s .pre .0) (inv .2) in
-    let long = s .pre .2 in
+    let same = kept-length _ _ _ _ _ _ (inv .0) 1 _ _ (s .pre .1 .1) (s .pre .0) (inv .2) in
+    let long = s .pre .1 .1 in
     let few = s .pre .0 in
     omega arith
 
@@ -92,8 +96,8 @@ slice-write-c c =
     let s = c .before .before .before .before .before .before .before .before .before .before .before .before .before .before in
     let inv = c .before .before .before .before .before .before .before .loop .inv in
     let below = row-below _ _ _ _ _ _ (inv .0) (c .before .before .before .before .before .if1 .left) in
-    let same = kept-length _ _ _ _ _ _ (inv .0) 2 _ _ (s .pre .3) (s .pre .0) (inv .3) in
-    let long = s .pre .3 in
+    let same = kept-length _ _ _ _ _ _ (inv .0) 2 _ _ (s .pre .1 .2) (s .pre .0) (inv .3) in
+    let long = s .pre .1 .2 in
     let few = s .pre .0 in
     omega arith
 
@@ -108,8 +112,8 @@ slice-write-d c =
     let s = c .before .before .before .before .before .before .before .before .before .before .before .before .before .before in
     let inv = c .before .before .before .before .before .before .before .loop .inv in
     let below = row-below _ _ _ _ _ _ (inv .0) (c .before .before .before .before .before .if1 .left) in
-    let same = kept-length _ _ _ _ _ _ (inv .0) 3 _ _ (s .pre .4) (s .pre .0) (inv .4) in
-    let long = s .pre .4 in
+    let same = kept-length _ _ _ _ _ _ (inv .0) 3 _ _ (s .pre .1 .3) (s .pre .0) (inv .4) in
+    let long = s .pre .1 .3 in
     let few = s .pre .0 in
     omega arith
 
@@ -124,8 +128,8 @@ slice-write-e c =
     let s = c .before .before .before .before .before .before .before .before .before .before .before .before .before .before in
     let inv = c .before .before .before .before .before .before .before .loop .inv in
     let below = row-below _ _ _ _ _ _ (inv .0) (c .before .before .before .before .before .if1 .left) in
-    let same = kept-length _ _ _ _ _ _ (inv .0) 4 _ _ (s .pre .5) (s .pre .0) (inv .5) in
-    let long = s .pre .5 in
+    let same = kept-length _ _ _ _ _ _ (inv .0) 4 _ _ (s .pre .1 .4) (s .pre .0) (inv .5) in
+    let long = s .pre .1 .4 in
     let few = s .pre .0 in
     omega arith
 
@@ -148,43 +152,43 @@ loop-again c =
     let inv = c .before .before .before .before .before .before .before .before .loop .inv in
     let some = c .before .before .before .before .before .before .if1 .left in
     let read = c .before .before .before .before .next-row .ensures in
-    (turn _ _ _ _ _ _ (inv .0) some _ read (c .before .before .before .before .before .before .before .loop-test .taken), turn-stored _ _ _ _ _ _ (inv .0) some _ read 0 _ _ (s .pre .1) (s .pre .0) (inv .1), turn-stored _ _ _ _ _ _ (inv .0) some _ read 1 _ _ (s .pre .2) (s .pre .0) (inv .2), turn-stored _ _ _ _ _ _ (inv .0) some _ read 2 _ _ (s .pre .3) (s .pre .0) (inv .3), turn-stored _ _ _ _ _ _ (inv .0) some _ read 3 _ _ (s .pre .4) (s .pre .0) (inv .4), turn-stored _ _ _ _ _ _ (inv .0) some _ read 4 _ _ (s .pre .5) (s .pre .0) (inv .5))
+    (turn _ _ _ _ _ _ (inv .0) some _ read (c .before .before .before .before .before .before .before .loop-test .taken), turn-stored _ _ _ _ _ _ (inv .0) some _ read 0 _ _ (s .pre .1 .0) (s .pre .0) (inv .1), turn-stored _ _ _ _ _ _ (inv .0) some _ read 1 _ _ (s .pre .1 .1) (s .pre .0) (inv .2), turn-stored _ _ _ _ _ _ (inv .0) some _ read 2 _ _ (s .pre .1 .2) (s .pre .0) (inv .3), turn-stored _ _ _ _ _ _ (inv .0) some _ read 3 _ _ (s .pre .1 .3) (s .pre .0) (inv .4), turn-stored _ _ _ _ _ _ (inv .0) some _ read 4 _ _ (s .pre .1 .4) (s .pre .0) (inv .5))
 
 same-length-6 : tie.Need-same-length-6 Inv-loop μ-loop
 same-length-6 c =
     let s = c .before .before .before .before .before .before .before .before in
     let inv = c .before .loop .inv in
-    kept-length _ _ _ _ _ _ (inv .0) 0 _ _ (s .pre .1) (s .pre .0) (inv .1)
+    kept-length _ _ _ _ _ _ (inv .0) 0 _ _ (s .pre .1 .0) (s .pre .0) (inv .1)
 
 same-length-7 : tie.Need-same-length-7 Inv-loop μ-loop
 same-length-7 c =
     let s = c .before .before .before .before .before .before .before .before in
     let inv = c .before .loop .inv in
-    kept-length _ _ _ _ _ _ (inv .0) 1 _ _ (s .pre .2) (s .pre .0) (inv .2)
+    kept-length _ _ _ _ _ _ (inv .0) 1 _ _ (s .pre .1 .1) (s .pre .0) (inv .2)
 
 same-length-8 : tie.Need-same-length-8 Inv-loop μ-loop
 same-length-8 c =
     let s = c .before .before .before .before .before .before .before .before in
     let inv = c .before .loop .inv in
-    kept-length _ _ _ _ _ _ (inv .0) 2 _ _ (s .pre .3) (s .pre .0) (inv .3)
+    kept-length _ _ _ _ _ _ (inv .0) 2 _ _ (s .pre .1 .2) (s .pre .0) (inv .3)
 
 same-length-9 : tie.Need-same-length-9 Inv-loop μ-loop
 same-length-9 c =
     let s = c .before .before .before .before .before .before .before .before in
     let inv = c .before .loop .inv in
-    kept-length _ _ _ _ _ _ (inv .0) 3 _ _ (s .pre .4) (s .pre .0) (inv .4)
+    kept-length _ _ _ _ _ _ (inv .0) 3 _ _ (s .pre .1 .3) (s .pre .0) (inv .4)
 
 same-length-10 : tie.Need-same-length-10 Inv-loop μ-loop
 same-length-10 c =
     let s = c .before .before .before .before .before .before .before .before in
     let inv = c .before .loop .inv in
-    kept-length _ _ _ _ _ _ (inv .0) 4 _ _ (s .pre .5) (s .pre .0) (inv .5)
+    kept-length _ _ _ _ _ _ (inv .0) 4 _ _ (s .pre .1 .4) (s .pre .0) (inv .5)
 
 returns-2 : tie.Need-returns-2 Inv-loop μ-loop
 returns-2 c =
     let inv = c .before .loop .inv in
     let done = c .loop-test .left in
-    (all-read _ _ _ _ _ _ (inv .0) done, kept-read _ _ _ _ _ _ (inv .0) done 0 _ _ (inv .1), kept-read _ _ _ _ _ _ (inv .0) done 1 _ _ (inv .2), kept-read _ _ _ _ _ _ (inv .0) done 2 _ _ (inv .3), kept-read _ _ _ _ _ _ (inv .0) done 3 _ _ (inv .4), kept-read _ _ _ _ _ _ (inv .0) done 4 _ _ (inv .5))
+    (all-read _ _ _ _ _ _ (inv .0) done, (kept-read _ _ _ _ _ _ (inv .0) done 0 _ _ (inv .1), (kept-read _ _ _ _ _ _ (inv .0) done 1 _ _ (inv .2), (kept-read _ _ _ _ _ _ (inv .0) done 2 _ _ (inv .3), (kept-read _ _ _ _ _ _ (inv .0) done 3 _ _ (inv .4), kept-read _ _ _ _ _ _ (inv .0) done 4 _ _ (inv .5))))))
 
 pub read-counted-spec : {M : Type 1} → statement M
 read-counted-spec =

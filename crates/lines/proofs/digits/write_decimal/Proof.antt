@@ -90,9 +90,11 @@ returns c =
     let start = c .before .before .before .before .before .before .before .before .before .before in
     let loop = c .before .before .before .before .before .before .before .before .loop in
     let wrote = c .before .before .write-bytes .ensures in
+    let end = wrote .0 in
+    let written = wrote .1 in
     let found = c .before .before .before .before .before .before .digit-byte2 in
     let part = part-is (loop .digits) (start .args .v) (loop .first) (loop .rest) (found .result) (loop .inv .0) (loop .inv .1) (omega arith) (found .ensures) (loop .inv .3) in
-    (wrote .0 ∙ ap (λ l. start .args .at + length l) part, wrote .1 ∙ ap (writtenAt (start .args .out .now) (start .args .at)) part)
+    (end ∙ ap (λ l. start .args .at + length l) part, written ∙ ap (writtenAt (start .args .out .now) (start .args .at)) part)
 
 pub write-decimal-spec : {M : Type 1} → statement M
 write-decimal-spec =

@@ -35,10 +35,12 @@ returns : tie.Need-returns
 returns c =
     let start = c .before .before .before .before .before .before .before .before in
     let wrote = c .before .before .write-bytes .ensures in
+    let end = wrote .0 in
+    let written = wrote .1 in
     let ones = c .before .before .before .before .before .digit-byte2 in
     let tens = c .before .before .before .before .before .before .digit-byte in
     let line = line-is (start .args .number) (tens .result) (ones .result) (tens .ensures) (ones .ensures) in
-    (wrote .0 ∙ ap (λ l. start .args .at + length l) line, wrote .1 ∙ ap (writtenAt (start .args .out .now) (start .args .at)) line)
+    (end ∙ ap (λ l. start .args .at + length l) line, written ∙ ap (writtenAt (start .args .out .now) (start .args .at)) line)
 
 pub write-refusal-spec : {M : Type 1} → statement M
 write-refusal-spec =

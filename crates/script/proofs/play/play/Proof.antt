@@ -7,15 +7,15 @@ use borrow.Author.Needs.{needs}
 use Rattle.ledger.specs.Ledger.{emptyLedger}
 use Rattle.slots.proofs.Reachable.{figures-long, posted-long}
 use Rattle.book.specs.Reading.{bookIn, bookOf}
+use Rattle.groups.specs.Columns.{Columns}
 use Rattle.groups.proofs.ToldLaws.{verify-counts}
 use Rattle.script.proofs.PlayLaws.{PlayedTo, none-played, played-length, played-within, turn-room, head-some, head-within, behind-few, turn-within, turn-writable, played-turn, row-writable, row-turn, played-number, played-bytes}
 use Rattle.script.proofs.play.play.Statement.{statement}
 use Rattle.script.proofs.play.play.Tie as tie
-use Rattle.lines.specs.Text.{maxLines}
 
 abbrev Inv-loop : tie.InvT-loop
 Inv-loop script from o out₀ start a₀ b₀ c₀ d₀ e₀ f₀ m₀ evidence₀ at₀ written₀ out a b c d e f m evidence at written =
-    PlayedTo script (bookOf o emptyLedger) from start out₀ out (bookIn o f m evidence) at written × (length a ≡ maxLines) × (length b ≡ maxLines) × (length c ≡ maxLines) × (length d ≡ maxLines) × (length e ≡ maxLines)
+    PlayedTo script (bookOf o emptyLedger) from start out₀ out (bookIn o f m evidence) at written × Columns a b c d e
 
 abbrev μ-loop : tie.MeasureT-loop
 μ-loop script from o out₀ start a₀ b₀ c₀ d₀ e₀ f₀ m₀ evidence₀ at₀ written₀ out a b c d e f m evidence at written =
@@ -25,7 +25,14 @@ no-evidence-requires : tie.Need-no-evidence-requires Inv-loop μ-loop
 no-evidence-requires c κs = tt
 
 loop-holds : tie.Need-loop-holds Inv-loop μ-loop
-loop-holds c = let k = c .before .before .before .before .before .before .before .before .before .pre in (none-played _ _ _ _ _ _ (c .no-evidence .ensures) (k .0 .0) (k .0 .1) (k .0 .3) (k .0 .4), k .1, k .2, k .3, k .4, k .5)
+loop-holds c =
+    let k = c .before .before .before .before .before .before .before .before .before .pre in
+    let reachable = k .0 in
+    let in-script = k .1 .0 in
+    let few = k .1 .1 .1 .0 in
+    let room = k .1 .1 .1 .1 .0 in
+    let columns = k .1 .1 .1 .1 .1 in
+    (none-played _ _ _ _ _ _ (c .no-evidence .ensures) reachable in-script few room, columns)
 
 sub-next-row : tie.Need-sub-next-row Inv-loop μ-loop
 sub-next-row c = c .before .loop .inv .0 .inScript
@@ -45,7 +52,7 @@ add-at c =
     let some = c .before .before .before .before .loop-test .taken in
     let read = c .before .before .next-row .ensures in
     let within = head-within _ _ _ _ _ _ _ _ _ (inv .0) some _ read in
-    let short = c .before .before .before .before .before .before .before .before .before .before .before .before .before .before .before .pre .0 .2 in
+    let short = c .before .before .before .before .before .before .before .before .before .before .before .before .before .before .before .pre .1 .1 .0 in
     omega arith
 
 slice-aggregate-tell-verify : tie.Need-slice-aggregate-tell-verify Inv-loop μ-loop
@@ -84,7 +91,9 @@ loop-again c =
     let some = c .before .before .before .before .before .before .before .before .before .before .before .before .before .before .before .before .loop-test .taken in
     let read = c .before .before .before .before .before .before .before .before .before .before .before .before .before .before .next-row .ensures in
     let wrote = c .before .before .write-answer .ensures in
-    (row-turn _ _ _ _ _ _ _ _ _ (inv .0) some _ read (verify-counts _ (c .before .before .before .before .before .before .before .before .before .before .if1 .taken)) _ _ (c .before .before .before .before .before .before .before .tell-verify .ensures) _ _ (wrote .0) (wrote .1), inv .1, inv .2, inv .3, inv .4, inv .5)
+    let end = wrote .0 in
+    let written = wrote .1 in
+    (row-turn _ _ _ _ _ _ _ _ _ (inv .0) some _ read (verify-counts _ (c .before .before .before .before .before .before .before .before .before .before .if1 .taken)) _ _ (c .before .before .before .before .before .before .before .tell-verify .ensures) _ _ end written, inv .1)
 
 slice-aggregate-tell-head : tie.Need-slice-aggregate-tell-head Inv-loop μ-loop
 unfolding bookIn
@@ -118,7 +127,7 @@ tell-head-requires c κs =
     let inv = c .before .before .before .before .before .before .before .before .before .before .before .before .before .before .before .loop .inv in
     let some = c .before .before .before .before .before .before .before .before .before .before .before .before .before .before .loop-test .taken in
     let read = c .before .before .before .before .before .before .before .before .before .before .before .before .next-row .ensures in
-    ((record { evidence = _; reachable = inv .0 .reached }, c .before .before .before .before .before .before .before .before .if1 .left), behind-few _ _ _ _ _ _ _ _ _ (inv .0) some _ read, inv .1, inv .2, inv .3, inv .4, inv .5)
+    (record { evidence = _; reachable = inv .0 .reached }, (c .before .before .before .before .before .before .before .before .if1 .left, (behind-few _ _ _ _ _ _ _ _ _ (inv .0) some _ read, inv .1)))
 
 write-answer-requires-2 : tie.Need-write-answer-requires-2 Inv-loop μ-loop
 unfolding bookIn
@@ -128,7 +137,8 @@ write-answer-requires-2 c κs =
     let read = c .before .before .before .before .before .before .before .before .before .before .before .before .before .before .before .before .before .before .before .before .before .before .before .before .before .before .next-row .ensures in
     let told = c .before .before .before .before .before .before .before .before .before .before .before .before .before .tell-head .ensures in
     let answered = told .0 _ (inv .0 .reached) in
-    (turn-room _ _ _ _ _ _ _ _ _ (inv .0) some, turn-writable _ _ _ _ _ _ _ _ _ (inv .0) some _ read _ _ _ answered (told .1))
+    let used = told .1 .0 in
+    (turn-room _ _ _ _ _ _ _ _ _ (inv .0) some, turn-writable _ _ _ _ _ _ _ _ _ (inv .0) some _ read _ _ _ answered used)
 
 add-at-2 : tie.Need-add-at-2 Inv-loop μ-loop
 unfolding bookIn
@@ -138,8 +148,9 @@ add-at-2 c =
     let read = c .before .before .before .before .before .before .before .before .before .before .before .before .before .before .before .before .before .before .before .before .before .before .before .before .before .before .before .before .before .before .next-row .ensures in
     let told = c .before .before .before .before .before .before .before .before .before .before .before .before .before .before .before .before .before .tell-head .ensures in
     let answered = told .0 _ (inv .0 .reached) in
-    let within = turn-within _ _ _ _ _ _ _ _ _ (inv .0) some _ read _ _ _ answered (told .1) in
-    let short = c .before .before .before .before .before .before .before .before .before .before .before .before .before .before .before .before .before .before .before .before .before .before .before .before .before .before .before .before .before .before .before .before .before .before .before .before .before .before .before .before .before .before .before .pre .0 .2 in
+    let used = told .1 .0 in
+    let within = turn-within _ _ _ _ _ _ _ _ _ (inv .0) some _ read _ _ _ answered used in
+    let short = c .before .before .before .before .before .before .before .before .before .before .before .before .before .before .before .before .before .before .before .before .before .before .before .before .before .before .before .before .before .before .before .before .before .before .before .before .before .before .before .before .before .before .before .pre .1 .1 .0 in
     omega arith
 
 loop-less-2 : tie.Need-loop-less-2 Inv-loop μ-loop
@@ -150,7 +161,8 @@ loop-less-2 c =
     let read = c .before .before .before .before .before .before .before .before .before .before .before .before .before .before .before .before .before .before .before .before .before .before .before .before .before .before .before .before .before .before .next-row .ensures in
     let told = c .before .before .before .before .before .before .before .before .before .before .before .before .before .before .before .before .before .tell-head .ensures in
     let answered = told .0 _ (inv .0 .reached) in
-    let within = turn-within _ _ _ _ _ _ _ _ _ (inv .0) some _ read _ _ _ answered (told .1) in
+    let used = told .1 .0 in
+    let within = turn-within _ _ _ _ _ _ _ _ _ (inv .0) some _ read _ _ _ answered used in
     let more = head-some _ _ _ _ _ _ _ _ _ (inv .0) some _ read in
     omega arith
 
@@ -162,32 +174,35 @@ loop-again-2 c =
     let read = c .before .before .before .before .before .before .before .before .before .before .before .before .before .before .before .before .before .before .before .before .before .before .before .before .before .before .before .before .before .before .next-row .ensures in
     let told = c .before .before .before .before .before .before .before .before .before .before .before .before .before .before .before .before .before .tell-head .ensures in
     let answered = told .0 _ (inv .0 .reached) in
+    let used = told .1 .0 in
     let wrote = c .before .before .before .write-answer2 .ensures in
-    (played-turn _ _ _ _ _ _ _ _ _ (inv .0) some _ read _ _ _ answered (told .1) _ _ (wrote .0) (wrote .1), told .2, told .3, told .4, told .5, told .6)
+    let end = wrote .0 in
+    let written = wrote .1 in
+    (played-turn _ _ _ _ _ _ _ _ _ (inv .0) some _ read _ _ _ answered used _ _ end written, told .1 .1)
 
 same-length : tie.Need-same-length Inv-loop μ-loop
 same-length c = played-length _ _ _ _ _ _ _ _ _ (c .before .loop .inv .0)
 
 same-length-2 : tie.Need-same-length-2 Inv-loop μ-loop
-same-length-2 c = c .before .loop .inv .1 ∙ sym (c .before .before .before .before .before .before .before .before .before .before .before .pre .1)
+same-length-2 c = c .before .loop .inv .1 .first ∙ sym (c .before .before .before .before .before .before .before .before .before .before .before .pre .1 .1 .1 .1 .1 .first)
 
 same-length-3 : tie.Need-same-length-3 Inv-loop μ-loop
-same-length-3 c = c .before .loop .inv .2 ∙ sym (c .before .before .before .before .before .before .before .before .before .before .before .pre .2)
+same-length-3 c = c .before .loop .inv .1 .second ∙ sym (c .before .before .before .before .before .before .before .before .before .before .before .pre .1 .1 .1 .1 .1 .second)
 
 same-length-4 : tie.Need-same-length-4 Inv-loop μ-loop
-same-length-4 c = c .before .loop .inv .3 ∙ sym (c .before .before .before .before .before .before .before .before .before .before .before .pre .3)
+same-length-4 c = c .before .loop .inv .1 .third ∙ sym (c .before .before .before .before .before .before .before .before .before .before .before .pre .1 .1 .1 .1 .1 .third)
 
 same-length-5 : tie.Need-same-length-5 Inv-loop μ-loop
-same-length-5 c = c .before .loop .inv .4 ∙ sym (c .before .before .before .before .before .before .before .before .before .before .before .pre .4)
+same-length-5 c = c .before .loop .inv .1 .fourth ∙ sym (c .before .before .before .before .before .before .before .before .before .before .before .pre .1 .1 .1 .1 .1 .fourth)
 
 same-length-6 : tie.Need-same-length-6 Inv-loop μ-loop
-same-length-6 c = c .before .loop .inv .5 ∙ sym (c .before .before .before .before .before .before .before .before .before .before .before .pre .5)
+same-length-6 c = c .before .loop .inv .1 .fifth ∙ sym (c .before .before .before .before .before .before .before .before .before .before .before .pre .1 .1 .1 .1 .1 .fifth)
 
 returns : tie.Need-returns Inv-loop μ-loop
 returns c =
     let f = c .before .loop .inv .0 in
     let gone = c .loop-test .left in
-    (played-number _ _ _ _ _ _ _ _ _ f gone, played-bytes _ _ _ _ _ _ _ _ _ f gone, played-within _ _ _ _ _ _ _ _ _ f)
+    (played-number _ _ _ _ _ _ _ _ _ f gone, (played-bytes _ _ _ _ _ _ _ _ _ f gone, played-within _ _ _ _ _ _ _ _ _ f))
 
 pub play-spec : {M : Type 1} → statement M
 play-spec =

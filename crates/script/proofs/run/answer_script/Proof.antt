@@ -29,8 +29,13 @@ start-requires c κs = search needs
 write-answer-requires : tie.Need-write-answer-requires
 write-answer-requires c κs =
     let s = c .before .before .before .before .before .before .before .before .before .before .before .before .before .before .before .before in
-    let given = c .before .before .before .before .before .before .before .start .ensures .0 in
-    (first-room _ (s .args .out .now) (s .pre .0) (s .pre .2) (s .pre .3) _ (given .0) _ _ (given .1), first-writable _ (s .args .out .now) (s .pre .0) (s .pre .2) (s .pre .3) _ (given .0) _ _ (given .1))
+    let some = s .pre .0 in
+    let few = s .pre .1 .1 .0 in
+    let room = s .pre .1 .1 .1 in
+    let given = c .before .before .before .before .before .before .before .start .ensures in
+    let started = given .0 in
+    let opening = given .1 .0 in
+    (first-room _ (s .args .out .now) some few room _ started _ _ opening, first-writable _ (s .args .out .now) some few room _ started _ _ opening)
 
 same-length : tie.Need-same-length
 same-length c = search needs
@@ -38,9 +43,16 @@ same-length c = search needs
 returns : tie.Need-returns
 returns c =
     let s = c .before .before .before .before .before .before .before .before .before .before .before .before .before .before .before .before .before .before .before .before .before in
-    let given = c .before .before .before .before .before .before .before .before .before .before .before .before .start .ensures .0 in
+    let some = s .pre .0 in
+    let few = s .pre .1 .1 .0 in
+    let room = s .pre .1 .1 .1 in
+    let given = c .before .before .before .before .before .before .before .before .before .before .before .before .start .ensures in
+    let started = given .0 in
+    let opening = given .1 .0 in
     let wrote = c .before .before .before .before .write-answer .ensures in
-    stopped _ (s .args .out .now) (s .pre .0) (s .pre .2) (s .pre .3) _ (given .0) _ _ (given .1) _ _ (wrote .0) (wrote .1) (not-true _ (c .if1 .taken))
+    let end = wrote .0 in
+    let written = wrote .1 in
+    stopped _ (s .args .out .now) some few room _ started _ _ opening _ _ end written (not-true _ (c .if1 .taken))
 
 slice-aggregate-play : tie.Need-slice-aggregate-play
 slice-aggregate-play c = search needs
@@ -63,11 +75,18 @@ slice-aggregate-play-6 c = search needs
 play-requires : tie.Need-play-requires
 play-requires c κs =
     let s = c .before .before .before .before .before .before .before .before .before .before .before .before .before .before .before .before .before .before .before .before .before .before .before .before .before .before .before .before in
-    let given = c .before .before .before .before .before .before .before .before .before .before .before .before .before .before .before .before .before .before .before .start .ensures .0 in
+    let some = s .pre .0 in
+    let short = s .pre .1 .0 in
+    let few = s .pre .1 .1 .0 in
+    let room = s .pre .1 .1 .1 in
+    let given = c .before .before .before .before .before .before .before .before .before .before .before .before .before .before .before .before .before .before .before .start .ensures in
+    let started = given .0 in
+    let opening = given .1 .0 in
     let wrote = c .before .before .before .before .before .before .before .before .before .before .before .write-answer .ensures in
-    let sizes = c .before .before .before .before .before .before .before .before .before .before .before .before .before .before .before .before .before .before .before .start .ensures in
+    let end = wrote .0 in
+    let written = wrote .1 in
     let at = not-false _ (c .before .before .before .before .before .before .before .if1 .left) in
-    ((left-reached _ (s .args .out .now) (s .pre .0) (s .pre .2) (s .pre .3) _ (given .0) _ _ (given .1) _ _ (wrote .0) (wrote .1) at, left-within _ (s .args .out .now) (s .pre .0) (s .pre .2) (s .pre .3) _ (given .0) _ _ (given .1) _ _ (wrote .0) (wrote .1), s .pre .1, left-few _ (s .args .out .now) (s .pre .0) (s .pre .2) (s .pre .3) _ (given .0) _ _ (given .1) _ _ (wrote .0) (wrote .1), left-room _ (s .args .out .now) (s .pre .0) (s .pre .2) (s .pre .3) _ (given .0) _ _ (given .1) _ _ (wrote .0) (wrote .1)), sizes .1, sizes .2, sizes .3, sizes .4, sizes .5)
+    (left-reached _ (s .args .out .now) some few room _ started _ _ opening _ _ end written at, (left-within _ (s .args .out .now) some few room _ started _ _ opening _ _ end written, (short, (left-few _ (s .args .out .now) some few room _ started _ _ opening _ _ end written, (left-room _ (s .args .out .now) some few room _ started _ _ opening _ _ end written, given .1 .1)))))
 
 same-length-2 : tie.Need-same-length-2
 same-length-2 c = search needs
@@ -75,10 +94,17 @@ same-length-2 c = search needs
 returns-2 : tie.Need-returns-2
 returns-2 c =
     let s = c .before .before .before .before .before .before .before .before .before .before .before .before .before .before .before .before .before .before .before .before .before .before .before .before .before .before .before .before .before .before .before .before .before .before .before .before in
-    let given = c .before .before .before .before .before .before .before .before .before .before .before .before .before .before .before .before .before .before .before .before .before .before .before .before .before .before .before .start .ensures .0 in
+    let some = s .pre .0 in
+    let few = s .pre .1 .1 .0 in
+    let room = s .pre .1 .1 .1 in
+    let given = c .before .before .before .before .before .before .before .before .before .before .before .before .before .before .before .before .before .before .before .before .before .before .before .before .before .before .before .start .ensures in
+    let started = given .0 in
+    let opening = given .1 .0 in
     let wrote = c .before .before .before .before .before .before .before .before .before .before .before .before .before .before .before .before .before .before .before .write-answer .ensures in
+    let end = wrote .0 in
+    let written = wrote .1 in
     let all = c .before .before .before .before .before .before .before .play .ensures in
-    gone-on _ (s .args .out .now) (s .pre .0) (s .pre .2) (s .pre .3) _ (given .0) _ _ (given .1) _ _ (wrote .0) (wrote .1) (not-false _ (c .before .before .before .before .before .before .before .before .before .before .before .before .before .before .before .if1 .left)) _ _ (all .0) (all .1) (all .2)
+    gone-on _ (s .args .out .now) some few room _ started _ _ opening _ _ end written (not-false _ (c .before .before .before .before .before .before .before .before .before .before .before .before .before .before .before .if1 .left)) _ _ (all .0) (all .1 .0) (all .1 .1)
 
 pub answer-script-spec : {M : Type 1} → statement M
 answer-script-spec =

@@ -38,7 +38,7 @@ answer-script-requires c κs =
     let room = le-trans (le-of-eq (ap (λ k. 16 * k) (sym n))) (c .before .before .if3 .left) in
     let s = c .before .before .before .before .before .before .before .before in
     let rows = row-count (s .args .script .now) in
-    (some-bytes _ (c .before .if4 .left), bytes, le-trans (le-of-eq rows) lines, le-trans (le-of-eq (ap (λ k. 16 * k) rows)) room)
+    (some-bytes _ (c .before .if4 .left), (bytes, (le-trans (le-of-eq rows) lines, le-trans (le-of-eq (ap (λ k. 16 * k) rows)) room)))
 
 same-length : tie.Need-same-length
 same-length c = search needs
@@ -50,7 +50,9 @@ returns-5 c =
     let bytes = c .before .before .before .before .before .before .before .before .if1 .left in
     let room = le-trans (le-of-eq (ap (λ k. 16 * k) (sym n))) (c .before .before .before .before .before .if3 .left) in
     let done = c .before .before .answer-script .ensures in
-    a-run _ _ bytes lines room _ _ (done .0) (done .1)
+    let end = done .0 in
+    let written = done .1 in
+    a-run _ _ bytes lines room _ _ end written
 
 pub run-spec : {M : Type 1} → statement M
 run-spec =

@@ -1,6 +1,5 @@
 -- `book::Book::open_tier` meets its contract: the next book has the figures that were lent. Assumes nothing.
 use mathlib.Core.Path.{_∙_}
-use Rattle.slots.proofs.Reachable.{figures-long}
 use Rattle.book.specs.Reading.{bookIn}
 use Rattle.book.specs.Handed.{besideFigures, besidePostings}
 use Rattle.book.proofs.HandedBooks.{handed-book}
@@ -12,7 +11,7 @@ slice-aggregate-open-tier : tie.Need-slice-aggregate-open-tier
 slice-aggregate-open-tier c = search needs
 
 open-tier-requires : tie.Need-open-tier-requires
-open-tier-requires c κs = figures-long _ _ _ _ (c .before .before .pre)
+open-tier-requires c κs = record { opening = _; posted = _; evidence = _; reachable = c .before .before .pre }
 
 with-figures-requires : tie.Need-with-figures-requires
 with-figures-requires c κs = search needs
