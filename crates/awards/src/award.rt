@@ -22,6 +22,7 @@ ghost use mathlib.Core.Bool.{Bool};
 ghost use mathlib.Core.List.{List};
 ghost use Prim.Native.Nat.{_≤_};
 ghost use Rattle.tariff.specs.declared.evidence.Entry.{Entry};
+ghost use Rattle.tariff.specs.Sizes.{lastTier};
 ghost use Rattle.ledger.specs.Call.{award};
 ghost use Rattle.ledger.specs.Causes.{beyondNominated, refusal};
 ghost use Rattle.slots.specs.Layout.{currentTierIn, ledgerIn, nominatedSlot, ownershipSlot};
@@ -30,7 +31,7 @@ ghost use Rattle.slots.specs.Steps.{ReachableFigures, InFigures, FiguresStep};
 
 // Cause 14: with kw more, a holder's awards on a path exceed its nominations in the open tier.
 fn exceeds_nominated(f: &[u64], tier: u64, h: u64, p: u64, kw: u64) -> bool
-    requires { ⌜ (tier ≡ currentTierIn (now f)) × (tier ≤ 9) × HasRoom (now f) h p nominatedSlot ownershipSlot kw ⌝ }
+    requires { ⌜ (tier ≡ currentTierIn (now f)) × (tier ≤ lastTier) × HasRoom (now f) h p nominatedSlot ownershipSlot kw ⌝ }
     ensures { λ r. ⌜ ((m : List Bool) (x : List Entry) → r ≡ beyondNominated (ledgerIn (now (f .entry)) m x) (currentTierIn (now (f .entry))) h p kw) ⌝ }
 {
     let nominated = read(f, h, p, NOMINATED);

@@ -15,6 +15,7 @@ ghost use mathlib.Core.Bool.{Bool};
 ghost use mathlib.Core.List.{List};
 ghost use Prim.Native.Nat.{_≤_, _<_};
 ghost use Rattle.tariff.specs.declared.evidence.Entry.{Entry};
+ghost use Rattle.tariff.specs.Sizes.{lastMonth};
 ghost use Rattle.ledger.specs.Call.{heldOn, netOn};
 ghost use Rattle.ledger.specs.Causes.{queryRefusal};
 ghost use Rattle.ledger.specs.Ledger.{Ledger};
@@ -36,7 +37,7 @@ fn holding(f: &[u64], h: u64, p: u64, month: u64) -> u64
 
 // The holdings of all holders on a path in a month, added up.
 fn net_holding(o: &[u64], f: &[u64], p: u64, month: u64) -> u64
-    requires { ⌜ ReachableFigures (now o) (now f) × (p < openingIn (now o) .paths) × (1 ≤ month) × (month ≤ 3) ⌝ }
+    requires { ⌜ ReachableFigures (now o) (now f) × (p < openingIn (now o) .paths) × (1 ≤ month) × (month ≤ lastMonth) ⌝ }
     ensures { λ r. ⌜ InFigures (now (o .entry)) (now (f .entry)) (λ O L. r ≡ net O L p month) ⌝ }
 {
     let past = holders(o);

@@ -6,6 +6,8 @@ use mathlib.Core.List.{List}
 use lib.ListN.{length, getD, set, replicate, take}
 use lib.Dec.{ltb}
 use Rattle.migration.specs.declared.netting.ClassLine.{ClassLine}
+use Rattle.tariff.specs.Sizes.{maxClassLines}
+use Rattle.ledger.specs.Numbers.{notInBook, outOfRange}
 use Rattle.ledger.specs.Ranges.{noHolder, noSink}
 use Rattle.book.specs.declared.book.Book.{Book}
 use Rattle.book.specs.declared.book.Answered.{Answered}
@@ -15,16 +17,16 @@ use Rattle.book.specs.Handed.{refusedWith, handedLines}
 
 -- a number put into a column, which has no room past its end
 unfoldable pub placed : List ℕ → ℕ → ℕ → List ℕ
-placed column k v = cond (ltb k 64) (set column k v) column
+placed column k v = cond (ltb k maxClassLines) (set column k v) column
 
 unfoldable pub noColumns : Columns
 noColumns =
     record {
-      froms = replicate 64 0;
-      tos = replicate 64 0;
-      classes = replicate 64 0;
-      customers = replicate 64 0;
-      watts = replicate 64 0;
+      froms = replicate maxClassLines 0;
+      tos = replicate maxClassLines 0;
+      classes = replicate maxClassLines 0;
+      customers = replicate maxClassLines 0;
+      watts = replicate maxClassLines 0;
       top = 0;
     }
 
@@ -51,14 +53,14 @@ columnsTo lines (suc k) = withLine (columnsTo lines k) k (getD lines k noLine)
 
 -- each column has its 64 numbers
 pub record FullColumns (c : Columns) : Type 0 where
-  pub ofFroms : length (c .froms) ≡ 64
-  pub ofTos : length (c .tos) ≡ 64
-  pub ofClasses : length (c .classes) ≡ 64
-  pub ofCustomers : length (c .customers) ≡ 64
-  pub ofWatts : length (c .watts) ≡ 64
+  pub ofFroms : length (c .froms) ≡ maxClassLines
+  pub ofTos : length (c .tos) ≡ maxClassLines
+  pub ofClasses : length (c .classes) ≡ maxClassLines
+  pub ofCustomers : length (c .customers) ≡ maxClassLines
+  pub ofWatts : length (c .watts) ≡ maxClassLines
 
--- what a migration of n lines in columns hands back: past 64 lines a stranger is looked for first
+-- what a migration of n lines in columns hands back: past 64 lines a holder that is not in the book is looked for first
 unfoldable pub handedColumns : Book → ℕ → ℕ → ℕ → Columns → Answered
 handedColumns b term sink n c =
-    cond (ltb 64 n) (refusedWith b (cond (noSink (openedWith b) sink || noHolder (openedWith b) (c .top)) 2 3))
+    cond (ltb maxClassLines n) (refusedWith b (cond (noSink (openedWith b) sink || noHolder (openedWith b) (c .top)) notInBook outOfRange))
     (handedLines b term sink (take n (c .froms)) (take n (c .tos)) (take n (c .classes)) (take n (c .customers)) (take n (c .watts)))

@@ -5,6 +5,7 @@ use mathlib.Core.List.{List}
 use Rattle.tariff.specs.Metered.{blocksOf, sameLengths}
 use Rattle.migration.specs.Netting.{classLinesOf, sameCounts}
 use Rattle.ledger.specs.Call.{Call, Query, load, migrate}
+use Rattle.ledger.specs.Numbers.{unreadable}
 use Rattle.ledger.specs.Season as season
 use Rattle.records.specs.declared.answers.Answer.{Answer}
 use Rattle.records.specs.declared.answers.Answer.the-variants.{Refused}
@@ -38,9 +39,9 @@ besideFigures b answer figures = besidePostings b answer figures (b .posted)
 -- slices of unequal length are no blocks and no class lines: the call is refused as unreadable, and the book stays as it was
 unfoldable pub handedBlocks : Book → ℕ → ℕ → ℕ → ℕ → ℕ → List ℕ → List ℕ → List ℕ → Answered
 handedBlocks b h s term contract n fs hs ks =
-    cond (sameLengths fs hs ks) (handed b (load h s term contract n (blocksOf fs hs ks))) (refusedWith b 1)
+    cond (sameLengths fs hs ks) (handed b (load h s term contract n (blocksOf fs hs ks))) (refusedWith b unreadable)
 
 unfoldable pub handedLines : Book → ℕ → ℕ → List ℕ → List ℕ → List ℕ → List ℕ → List ℕ → Answered
 handedLines b term sink froms tos classes customers watts =
     cond (sameCounts froms tos classes customers watts) (handed b (migrate term sink (classLinesOf froms tos classes customers watts)))
-    (refusedWith b 1)
+    (refusedWith b unreadable)

@@ -3,10 +3,13 @@ use crate::book::Answered;
 use crate::book::Book;
 use crate::book::refused;
 use migration::netting::ClassLine;
+use records::numbers::NOT_IN_BOOK;
+use records::numbers::OUT_OF_RANGE;
 use records::refusals::refuse;
 use records::setup::no_holder;
 use records::setup::no_sink;
 use tariff::load::larger;
+use tariff::sizes::MAX_CLASS_LINES;
 ghost use mathlib.Core.Path.{_≡_};
 ghost use Rattle.ledger.specs.Call.{migrate};
 ghost use Rattle.book.specs.Handed.{handed};
@@ -15,11 +18,11 @@ ghost use Rattle.book.specs.ClassLines.{placed, noColumns, withLine, Ful
 
 // The fields of the first 64 lines, a column to a field, and the largest holder number in any line.
 struct Columns {
-    froms: [u64; 64],
-    tos: [u64; 64],
-    classes: [u64; 64],
-    customers: [u64; 64],
-    watts: [u64; 64],
+    froms: [u64; MAX_CLASS_LINES],
+    tos: [u64; MAX_CLASS_LINES],
+    classes: [u64; MAX_CLASS_LINES],
+    customers: [u64; MAX_CLASS_LINES],
+    watts: [u64; MAX_CLASS_LINES],
     top: u64,
 }
 
@@ -28,21 +31,21 @@ fn no_columns() -> Columns
     ensures { λ r. ⌜ r ≡ noColumns ⌝ }
 {
     Columns {
-        froms: [0u64; 64],
-        tos: [0u64; 64],
-        classes: [0u64; 64],
-        customers: [0u64; 64],
-        watts: [0u64; 64],
+        froms: [0u64; MAX_CLASS_LINES],
+        tos: [0u64; MAX_CLASS_LINES],
+        classes: [0u64; MAX_CLASS_LINES],
+        customers: [0u64; MAX_CLASS_LINES],
+        watts: [0u64; MAX_CLASS_LINES],
         top: 0,
     }
 }
 
 // A number put into a column. Past its end there is no room, and none is needed: more lines than 64 are refused.
-fn place(column: [u64; 64], k: usize, v: u64) -> [u64; 64]
+fn place(column: [u64; MAX_CLASS_LINES], k: usize, v: u64) -> [u64; MAX_CLASS_LINES]
     ensures { λ r. ⌜ r ≡ placed column k v ⌝ }
 {
     let mut next = column;
-    if k < 64 {
+    if k < MAX_CLASS_LINES {
         next[k] = v;
     }
     next
@@ -69,15 +72,15 @@ fn with_line(c: Columns, k: usize, line: ClassLine) -> Columns
     }
 }
 
-// Migrates n lines that stand in columns. Of more than 64 lines all that matters is whether one names a stranger.
+// Migrates n lines that stand in columns. Of more than 64 lines all that matters is whether one names a holder that is not in the book.
 fn migrate_columns(b: Book, term: u64, sink: u64, n: usize, c: Columns) -> Answered
     requires { ⌜ Reachable b × FullColumns c ⌝ }
     ensures { λ r. ⌜ r ≡ handedColumns b term sink n c ⌝ }
 {
-    if 64 < n {
+    if MAX_CLASS_LINES < n {
         let opening = b.opening;
-        let stranger = no_sink(&opening, sink) | no_holder(&opening, c.top);
-        return refused(b, refuse(2, stranger, 3));
+        let unknown = no_sink(&opening, sink) | no_holder(&opening, c.top);
+        return refused(b, refuse(NOT_IN_BOOK, unknown, OUT_OF_RANGE));
     }
     let froms = c.froms;
     let tos = c.tos;

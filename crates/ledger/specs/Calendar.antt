@@ -2,6 +2,7 @@
 use Prim.Native.Nat.{ℕ, suc}
 use mathlib.Core.Bool.{Bool, not, _&&_, _||_}
 use lib.Dec.{leb, ltb, eqb}
+use Rattle.tariff.specs.Sizes.{lastSeasonTier}
 use Rattle.tariff.specs.Terms.{firstTierOf}
 use Rattle.ledger.specs.Ledger.{Ledger}
 
@@ -19,7 +20,7 @@ loadInTime term L = beforeTier (firstTierOf term) L
 
 -- migration: as load, and for a month only after tier 3 closes
 unfoldable pub migrationInTime : ℕ → Ledger → Bool
-migrationInTime term L = beforeTier (firstTierOf term) L && (eqb term 0 || leb 3 (L .tiers .lastClosed))
+migrationInTime term L = beforeTier (firstTierOf term) L && (eqb term 0 || leb lastSeasonTier (L .tiers .lastClosed))
 
 -- open: no other tier is, and this is the one after the last closed
 unfoldable pub tierInTurn : ℕ → Ledger → Bool

@@ -1,4 +1,5 @@
 -- The plain ledger of document 01: what the book is opened with, what it is asked, what refuses a call, and what an accepted call does.
+pub mod Numbers
 pub mod Opening
 pub mod Call
 pub mod Ledger
@@ -7,7 +8,6 @@ pub mod Limits
 pub mod Verification
 pub mod Moves
 pub mod Taken
-pub mod Numbers
 pub mod Ranges
 pub mod Causes
 pub mod Effects

@@ -1,16 +1,14 @@
 -- The numbers of the causes that a call or a query can meet (01, Refusals by cause), and the first cause of a list that is met.
--- 1 and 15 belong to the script and its host; 16 is the opening's.
+-- 1 is met by lists of unequal length and by the script; 15 belongs to the host; 16 is the opening's.
 use Prim.Native.Nat.{ℕ}
 use mathlib.Core.Bool.{Bool, cond}
 use mathlib.Core.List.{List, [], _∷_}
+-- the tariff's rules on numbers can meet these four, so they are named there
+pub use Rattle.tariff.specs.Numbers.{unreadable, outOfRange, brokenBlocks, hoursMissing}
 
 -- a holder, source, sink or path is not in the book
 abbrev pub notInBook : ℕ
 notInBook = 2
-
--- another field is outside its range
-abbrev pub outOfRange : ℕ
-outOfRange = 3
 
 -- not at this time
 abbrev pub notAtThisTime : ℕ
@@ -19,14 +17,6 @@ notAtThisTime = 4
 -- posted before
 abbrev pub postedBefore : ℕ
 postedBefore = 5
-
--- the block list is broken, or there is no block
-abbrev pub brokenBlocks : ℕ
-brokenBlocks = 6
-
--- too many hours are missing
-abbrev pub hoursMissing : ℕ
-hoursMissing = 7
 
 -- a class line from a holder to itself, or with a holder of kind 2
 abbrev pub notSuppliers : ℕ
@@ -55,6 +45,10 @@ aboveLimit = 13
 -- an award above what is nominated and unawarded
 abbrev pub aboveNominated : ℕ
 aboveNominated = 14
+
+-- a kind, parent, path or count of the opening breaks the rules
+abbrev pub breaksRules : ℕ
+breaksRules = 16
 
 -- a cause: its number, and whether the call meets it
 pub data Cause : Type 0 where

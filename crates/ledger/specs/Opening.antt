@@ -4,7 +4,9 @@ use mathlib.Core.Bool.{Bool, cond, not, _&&_, _||_}
 use mathlib.Core.List.{List}
 use lib.ListN.{length, getD}
 use lib.Dec.{leb, ltb, eqb}
+use Rattle.tariff.specs.Sizes.{maxHolders, maxPlaces}
 use Rattle.tariff.specs.Sum.{allBelow, anyBelow}
+use Rattle.ledger.specs.Numbers.{breaksRules}
 
 -- the counts, and for each holder, sink and path what stands on its line
 pub record Opening : Type 0 where
@@ -65,7 +67,7 @@ comesFrom o s p = eqb (pathSource o p) s
 
 -- at most 8 holders, 16 sources, 16 sinks and 16 paths; none of a kind is allowed
 unfoldable pub countsFit : Opening → Bool
-countsFit o = leb (o .holders) 8 && leb (o .sources) 16 && leb (o .sinks) 16 && leb (o .paths) 16
+countsFit o = leb (o .holders) maxHolders && leb (o .sources) maxPlaces && leb (o .sinks) maxPlaces && leb (o .paths) maxPlaces
 
 -- each list has as many entries as are counted
 unfoldable pub listsFit : Opening → Bool
@@ -85,7 +87,7 @@ parentLegal o s = ltb (base o s) s && eqb (sinkKind o (base o s)) defaultLap
 
 -- a sink's kind is 1 to 4; a Sub-LAP has a parent, any other sink names itself
 unfoldable pub sinkLegal : Opening → ℕ → Bool
-sinkLegal o s = leb 1 (sinkKind o s) && leb (sinkKind o s) 4 && cond (eqb (sinkKind o s) subLap) (parentLegal o s) (eqb (base o s) s)
+sinkLegal o s = leb defaultLap (sinkKind o s) && leb (sinkKind o s) schedulingPoint && cond (eqb (sinkKind o s) subLap) (parentLegal o s) (eqb (base o s) s)
 
 -- a path's source and sink are in the book
 unfoldable pub pathLegal : Opening → ℕ → Bool
@@ -111,4 +113,4 @@ legal o =
 
 -- cause 16: a kind, parent, path or count breaks the rules; 0 for a legal opening
 unfoldable pub openingRefusal : Opening → ℕ
-openingRefusal o = cond (legal o) 0 16
+openingRefusal o = cond (legal o) 0 breaksRules

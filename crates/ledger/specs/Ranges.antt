@@ -5,6 +5,7 @@ use mathlib.Core.List.{List}
 use lib.ListN.{length}
 use lib.Dec.{leb, ltb}
 use Rattle.migration.specs.declared.netting.ClassLine.{ClassLine}
+use Rattle.tariff.specs.Sizes.{maxHours, lastTier, maxClassLines}
 use Rattle.tariff.specs.Sum.{anyOf}
 use Rattle.tariff.specs.Load.{Block}
 use Rattle.tariff.specs.Ranges.{mostKw, within, wrongKw, wrongTerm}
@@ -36,8 +37,8 @@ unfoldable pub wrongLoad : ℕ → ℕ → ℕ → List Block → Bool
 wrongLoad term contract n blocks =
     wrongTerm term
     || ltb mostKw contract
-    || not (within 1 2208 n)
-    || ltb 2208 (length blocks)
+    || not (within 1 maxHours n)
+    || ltb maxHours (length blocks)
     || anyOf blocks (λ b. ltb mostKw (b .kw))
 
 -- prior: of a kW allocated, l went to Long Term, 0 ≤ l ≤ a
@@ -46,7 +47,7 @@ wrongPrior a l = wrongKw a || ltb a l
 
 -- migrate: at most 64 class lines
 unfoldable pub wrongMigration : ℕ → List ClassLine → Bool
-wrongMigration term lines = wrongTerm term || ltb 64 (length lines) || anyOf lines wrongClassLine
+wrongMigration term lines = wrongTerm term || ltb maxClassLines (length lines) || anyOf lines wrongClassLine
 
 unfoldable pub wrongTier : ℕ → Bool
-wrongTier tier = not (within 1 9 tier)
+wrongTier tier = not (within 1 lastTier tier)

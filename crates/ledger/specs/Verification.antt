@@ -2,6 +2,7 @@
 use Prim.Native.Nat.{ℕ, _+_}
 use mathlib.Core.Bool.{Bool, _&&_, _||_}
 use lib.Dec.{leb, eqb}
+use Rattle.tariff.specs.Sizes.{lastSeasonTier, ownership, contract}
 use Rattle.tariff.specs.Sum.{countIf, sumTo}
 use Rattle.tariff.specs.Terms.{termOf}
 use Rattle.tariff.specs.Evidence.{entryKw}
@@ -14,11 +15,11 @@ sumFromSource o s f = sumTo (o .paths) (λ p. countIf (comesFrom o s p) (f p))
 
 -- the verified kW for a term: ownership (kind 1) and contract (kind 2) add
 unfoldable pub verifiedKw : Ledger → ℕ → ℕ → ℕ → ℕ
-verifiedKw L h s term = entryKw term (L .papers .entry h s 1) + entryKw term (L .papers .entry h s 2)
+verifiedKw L h s term = entryKw term (L .papers .entry h s ownership) + entryKw term (L .papers .entry h s contract)
 
 -- of the tiers before this one, those whose awards use up its evidence: of the same term, and for a month tiers 1 to 3
 unfoldable pub drawsOnSame : ℕ → ℕ → Bool
-drawsOnSame tier n = leb 1 n && (eqb (termOf n) (termOf tier) || leb n 3)
+drawsOnSame tier n = leb 1 n && (eqb (termOf n) (termOf tier) || leb n lastSeasonTier)
 
 -- the holder's awards from the source in those tiers
 unfoldable pub drawnBefore : Opening → Ledger → ℕ → ℕ → ℕ → ℕ

@@ -15,6 +15,10 @@ maxBytes = 65536
 abbrev pub maxLines : ℕ
 maxLines = 4096
 
+-- the bytes of output that a run asks for each line
+abbrev pub bytesPerLine : ℕ
+bytesPerLine = 16
+
 -- the bytes of a word
 unfoldable pub bytesOf : String → List ℕ
 bytesOf none = []

@@ -11,6 +11,9 @@ pub const MAX_BYTES: usize = 65536;
 // The most lines that a run takes, and so the room for a field of each.
 pub const MAX_LINES: usize = 4096;
 
+// The bytes of output that a run asks for each line of its script.
+pub const BYTES_PER_LINE: u64 = 16;
+
 const LINE_FEED: u8 = 10;
 
 // The bytes whose LFs are counted together: few enough for a count of one byte.

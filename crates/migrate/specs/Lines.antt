@@ -6,12 +6,16 @@ use lib.ListN.{getD}
 use lib.Dec.{eqb}
 use Rattle.migration.specs.ClassRanges.{wrongClassFields}
 use Rattle.migration.specs.Netting.{nettingOf}
-use Rattle.ledger.specs.Opening.{Opening, holderKind}
+use Rattle.ledger.specs.Opening.{Opening, outsideEntity, holderKind}
 use Rattle.ledger.specs.Ranges.{noHolder}
 use Rattle.migrate.specs.declared.transfers.Transfer.{Transfer}
 use Rattle.records.specs.Opening.{openingIn}
 use Rattle.slots.specs.Layout.{loadSlot}
 use Rattle.migrate.specs.Columns.{columnAt}
+
+-- the causes that are found before anything is netted come first: 2, 3, 4 and 8
+abbrev pub earlyCauses : ℕ
+earlyCauses = 4
 
 -- a line that names a holder who is not in the book
 unfoldable pub unknownAt : Opening → List ℕ → List ℕ → ℕ → Bool
@@ -23,7 +27,7 @@ outOfRangeAt classes customers watts k = wrongClassFields (getD classes k 0) (ge
 
 -- a line from a holder to itself, or with a holder outside the balancing area
 unfoldable pub notBetweenAt : Opening → List ℕ → List ℕ → ℕ → Bool
-notBetweenAt o froms tos k = eqb (getD froms k 0) (getD tos k 0) || eqb (holderKind o (getD froms k 0)) 2 || eqb (holderKind o (getD tos k 0)) 2
+notBetweenAt o froms tos k = eqb (getD froms k 0) (getD tos k 0) || eqb (holderKind o (getD froms k 0)) outsideEntity || eqb (holderKind o (getD tos k 0)) outsideEntity
 
 -- what a migration transfers: the m of each pair, and the loads at the sink and term before it
 unfoldable pub transferOf : List ℕ → List ℕ → ℕ → ℕ → List ℕ → List ℕ → List ℕ → List ℕ → List ℕ → Transfer

@@ -6,13 +6,13 @@ use mathlib.Core.List.{List}
 use mathlib.Core.Logic.{_⊎_}
 use lib.ListN.{length}
 use lib.Dec.{leb, ltb, eqb}
+use Rattle.tariff.specs.Sizes.{maxHolders, maxPlaces, lastTerm}
 use Rattle.tariff.specs.Sum.{sumTo}
 use Rattle.tariff.specs.Ranges.{mostKw}
 use Rattle.migration.specs.Migration.{shares, shifted}
 use Rattle.migration.specs.Netting.{pairAt, holderAt}
 use Rattle.ledger.specs.Opening.{Opening, endsAt}
 use Rattle.records.specs.Opening.{openingIn, KeepsBases}
-use Rattle.slots.specs.Cells.{maxPlaces}
 use Rattle.slots.specs.Layout.{figureCount, loadSlot, priorSlot, carriedSlot, awardedSlot, nominatedSlot}
 use Rattle.migrate.specs.declared.transfers.Transfer.{Transfer}
 use Rattle.migrate.specs.Columns.{HasColumn, inColumn}
@@ -43,10 +43,10 @@ loadAt term sink p slot = eqb p sink && eqb slot (loadSlot + term)
 
 -- what is known of an accepted migration: at most eight holders, each loses no more than its load, and nobody else moves anything
 pub record Covered (x : Transfer) : Type 0 where
-  pub few : x .holders ≤ 8
+  pub few : x .holders ≤ maxHolders
   pub covered : (i : ℕ) → i < x .holders → sumTo (x .holders) (λ j. pairAt (x .m) i j) ≤ holderAt (x .load) i
-  pub loads : sumTo (x .holders) (holderAt (x .load)) ≤ 8 * mostKw
-  pub others : (i j : ℕ) → i < 8 → j < 8 → (x .holders ≤ i) ⊎ (x .holders ≤ j) → pairAt (x .m) i j ≡ 0
+  pub loads : sumTo (x .holders) (holderAt (x .load)) ≤ maxHolders * mostKw
+  pub others : (i j : ℕ) → i < maxHolders → j < maxHolders → (x .holders ≤ i) ⊎ (x .holders ≤ j) → pairAt (x .m) i j ≡ 0
 
 -- the most kW that a column has together
 abbrev pub ColumnFits : Transfer → (ℕ → ℕ) → Type 0
@@ -55,7 +55,7 @@ ColumnFits x v = sumTo (x .holders) v ≤ 80 * mostKw
 -- a slot of a path: what stands in it can move, if it is one that does
 pub record SlotFits (f : List ℕ) (term p slot : ℕ) (x : Transfer) : Type 0 where
   pub column : HasColumn f p slot
-  pub inTerm : term ≤ 3
+  pub inTerm : term ≤ lastTerm
   pub covered : Covered x
   pub fits : slotMoves term slot ≡ true → ColumnFits x (inColumn f p slot)
 
@@ -63,7 +63,7 @@ pub record SlotFits (f : List ℕ) (term p slot : ℕ) (x : Transfer) : Type 0 w
 pub record PathFits (o f : List ℕ) (term sink : ℕ) (x : Transfer) (p : ℕ) : Type 0 where
   pub long : length f ≡ figureCount
   pub bases : KeepsBases o
-  pub inTerm : term ≤ 3
+  pub inTerm : term ≤ lastTerm
   pub covered : Covered x
   pub place : p < maxPlaces
   pub fits : (slot : ℕ) → slot < nominatedSlot → movesAt (openingIn o) term sink p slot ≡ true → ColumnFits x (inColumn f p slot)

@@ -1,5 +1,6 @@
 // Tests on the lines of a migration, whose fields stand in slices (01, Refusals by cause; causes 2, 3 and 8).
 use migration::netting::wrong_class_fields;
+use records::kinds::OBAALSE;
 use records::setup::holder_kind;
 use records::setup::no_holder;
 ghost use mathlib.Core.Path.{_≡_};
@@ -7,7 +8,7 @@ ghost use mathlib.Core.Bool.{_||_};
 ghost use lib.ListN.{length};
 ghost use lib.Dec.{eqb};
 ghost use Rattle.tariff.specs.Sum.{anyBelow};
-ghost use Rattle.ledger.specs.Opening.{holderKind};
+ghost use Rattle.ledger.specs.Opening.{outsideEntity, holderKind};
 ghost use Rattle.ledger.specs.Ranges.{noHolder};
 ghost use Rattle.records.specs.Opening.{openingIn};
 ghost use Rattle.migrate.specs.Lines.{unknownAt, outOfRangeAt, notBetweenAt};
@@ -51,11 +52,11 @@ pub fn any_out_of_range(classes: &[u64], customers: &[u64], watts: &[u64]) -> bo
 
 // A line from a holder to itself, or with a holder outside the balancing area.
 fn not_between(o: &[u64], from: u64, to: u64) -> bool
-    ensures { λ r. ⌜ r ≡ (eqb from to || eqb (holderKind (openingIn (now (o .entry))) from) 2 || eqb (holderKind (openingIn (now (o .entry))) to) 2) ⌝ }
+    ensures { λ r. ⌜ r ≡ (eqb from to || eqb (holderKind (openingIn (now (o .entry))) from) outsideEntity || eqb (holderKind (openingIn (now (o .entry))) to) outsideEntity) ⌝ }
 {
     let from_kind = holder_kind(o, from);
     let to_kind = holder_kind(o, to);
-    (from == to) | (from_kind == 2) | (to_kind == 2)
+    (from == to) | (from_kind == OBAALSE) | (to_kind == OBAALSE)
 }
 
 // Whether some line is not between two different load-serving entities.

@@ -24,10 +24,12 @@ use records::setup::no_sink;
 use slots::calendar::current_tier;
 use slots::calendar::last_closed;
 use slots::layout::LOAD;
+use tariff::sizes::MAX_CLASS_LINES;
 ghost use mathlib.Core.Path.{_≡_};
 ghost use Prim.Native.Nat.{ℕ, _+_, _^_, _<_, _≤_};
 ghost use lib.ListN.{take};
 ghost use lib.Dec.{ltb};
+ghost use Rattle.tariff.specs.Sizes.{maxHolders};
 ghost use Rattle.tariff.specs.Sum.{sumTo, anyBelow};
 ghost use Rattle.migration.specs.Netting.{pairAt, holderAt, classLinesOf, sameCounts, SameLengths};
 ghost use Rattle.ledger.specs.Call.{migrate};
@@ -35,12 +37,12 @@ ghost use Rattle.ledger.specs.Numbers.{firstMet};
 ghost use Rattle.ledger.specs.Causes.{migrateCauses};
 ghost use Rattle.slots.specs.Layout.{loadSlot};
 ghost use Rattle.slots.specs.Steps.{ReachableFigures, InFigures, FiguresStepIf};
-ghost use Rattle.migrate.specs.Lines.{transferOf};
+ghost use Rattle.migrate.specs.Lines.{earlyCauses, transferOf};
 ghost use Rattle.migrate.specs.Columns.{HasColumn};
 
 // Whether some holder gives more in all than its load.
 fn loses_too_much(x: Transfer) -> bool
-    requires { ⌜ (x .holders ≤ 8) × ((i : ℕ) → i < 8 → sumTo (x .holders) (λ j. pairAt (x .m) i j) < 2 ^ 64) ⌝ }
+    requires { ⌜ (x .holders ≤ maxHolders) × ((i : ℕ) → i < maxHolders → sumTo (x .holders) (λ j. pairAt (x .m) i j) < 2 ^ 64) ⌝ }
     ensures { λ r. ⌜ r ≡ anyBelow (x .holders) (λ i. ltb (holderAt (x .load) i) (sumTo (x .holders) (λ j. pairAt (x .m) i j))) ⌝ }
 {
     let m = x.m;
@@ -70,10 +72,10 @@ fn early_refusal(
     watts: &[u64],
 ) -> u64
     requires { ⌜ SameLengths (now froms) (now tos) (now classes) (now customers) (now watts) ⌝ }
-    ensures { λ r. ⌜ InFigures (now (o .entry)) (now (f .entry)) (λ O L. r ≡ firstMet (take 4 (migrateCauses O L term sink (classLinesOf (now (froms .entry)) (now (tos .entry)) (now (classes .entry)) (now (customers .entry)) (now (watts .entry)))))) ⌝ }
+    ensures { λ r. ⌜ InFigures (now (o .entry)) (now (f .entry)) (λ O L. r ≡ firstMet (take earlyCauses (migrateCauses O L term sink (classLinesOf (now (froms .entry)) (now (tos .entry)) (now (classes .entry)) (now (customers .entry)) (now (watts .entry)))))) ⌝ }
 {
     let unknown = no_sink(o, sink) | any_unknown(o, froms, tos);
-    let fields = wrong_term(term) | (64 < froms.len());
+    let fields = wrong_term(term) | (MAX_CLASS_LINES < froms.len());
     let range = fields | any_out_of_range(classes, customers, watts);
     let late = !migration_in_time(term, last_closed(f), current_tier(f));
     let apart = any_not_between(o, froms, tos);

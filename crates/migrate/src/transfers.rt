@@ -9,9 +9,13 @@ use slots::layout::CARRIED;
 use slots::layout::LOAD;
 use slots::layout::NOMINATED;
 use slots::layout::PRIOR;
+use tariff::sizes::MAX_HOLDERS;
+use tariff::sizes::MAX_PLACES;
+use tariff::sizes::PAIRS;
 ghost use mathlib.Core.Path.{_≡_};
 ghost use mathlib.Core.Bool.{_&&_};
 ghost use Prim.Native.Nat.{_+_, _≤_};
+ghost use Rattle.tariff.specs.Sizes.{maxHolders, lastTerm};
 ghost use Rattle.tariff.specs.Sum.{allBelow};
 ghost use lib.Dec.{eqb};
 ghost use Rattle.migration.specs.Netting.{holderAt};
@@ -23,19 +27,19 @@ ghost use Rattle.migrate.specs.Transfers.{loadColumn, shareColumn, slotM
 // What a migration transfers: the kW from holder i to holder j at i * 8 + j, each holder's load at the sink and term before it,
 // and how many holders there are.
 pub struct Transfer {
-    pub m: [u64; 64],
-    pub load: [u64; 8],
+    pub m: [u64; PAIRS],
+    pub load: [u64; MAX_HOLDERS],
     pub holders: u64,
 }
 
 // What the eight holders have in a slot at a place.
-pub fn column_at(f: &[u64], p: u64, slot: u64) -> [u64; 8]
+pub fn column_at(f: &[u64], p: u64, slot: u64) -> [u64; MAX_HOLDERS]
     requires { ⌜ HasColumn (now f) p slot ⌝ }
     ensures { λ r. ⌜ r ≡ columnAt (now (f .entry)) p slot ⌝ }
 {
-    let mut column = [0u64; 8];
+    let mut column = [0u64; MAX_HOLDERS];
     let mut h = 0;
-    while h < 8 {
+    while h < MAX_HOLDERS {
         column[h] = read(f, h as u64, p, slot);
         h += 1;
     }
@@ -43,23 +47,23 @@ pub fn column_at(f: &[u64], p: u64, slot: u64) -> [u64; 8]
 }
 
 // A column stored in a slot at a place.
-fn store_column(f: &mut [u64], p: u64, slot: u64, column: [u64; 8])
+fn store_column(f: &mut [u64], p: u64, slot: u64, column: [u64; MAX_HOLDERS])
     requires { ⌜ HasColumn (now f) p slot ⌝ }
-    ensures { λ r. ⌜ now (f .exit) ≡ columnStored (now (f .entry)) p slot column 8 ⌝ }
+    ensures { λ r. ⌜ now (f .exit) ≡ columnStored (now (f .entry)) p slot column maxHolders ⌝ }
 {
     let mut h = 0;
-    while h < 8 {
+    while h < MAX_HOLDERS {
         store(f, h as u64, p, slot, column[h]);
         h += 1;
     }
 }
 
 // Whether a column holds nothing.
-fn is_empty(column: [u64; 8]) -> bool
-    ensures { λ r. ⌜ r ≡ allBelow 8 (λ i. eqb (holderAt column i) 0) ⌝ }
+fn is_empty(column: [u64; MAX_HOLDERS]) -> bool
+    ensures { λ r. ⌜ r ≡ allBelow maxHolders (λ i. eqb (holderAt column i) 0) ⌝ }
 {
     let mut h = 0;
-    while h < 8 {
+    while h < MAX_HOLDERS {
         if column[h] != 0 {
             return false;
         }
@@ -86,7 +90,7 @@ fn transfer_column(f: &mut [u64], p: u64, slot: u64, x: Transfer)
 
 // Whether a migration moves a slot of a path.
 fn slot_moves(term: u64, slot: u64) -> bool
-    requires { ⌜ term ≤ 3 ⌝ }
+    requires { ⌜ term ≤ lastTerm ⌝ }
     ensures { λ r. ⌜ r ≡ slotMoves term slot ⌝ }
 {
     if term == 0 {
@@ -127,7 +131,7 @@ pub fn transfer_rights(f: &mut [u64], o: &[u64], term: u64, sink: u64, x: Transf
     ensures { λ r. ⌜ Transferred (columnWhere (movesAt (openingIn (now (o .entry))) term sink) (shareColumn x)) (now (f .entry)) (now (f .exit)) ⌝ }
 {
     let mut p: u64 = 0;
-    while p < 16 {
+    while p < MAX_PLACES as u64 {
         transfer_path(f, o, term, sink, p, x);
         p += 1;
     }

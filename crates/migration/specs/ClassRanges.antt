@@ -2,12 +2,13 @@
 use Prim.Native.Nat.{ℕ}
 use mathlib.Core.Bool.{Bool, not, _||_}
 use lib.Dec.{ltb}
+use Rattle.tariff.specs.Sizes.{lastClass, maxCustomers, maxWatts}
 use Rattle.tariff.specs.Ranges.{within}
 use Rattle.migration.specs.declared.netting.ClassLine.{ClassLine}
 
 -- a class line: class 1 to 8, customers and average watts up to 9,999,999
 unfoldable pub wrongClassFields : ℕ → ℕ → ℕ → Bool
-wrongClassFields class customers watts = not (within 1 8 class) || ltb 9999999 customers || ltb 9999999 watts
+wrongClassFields class customers watts = not (within 1 lastClass class) || ltb maxCustomers customers || ltb maxWatts watts
 
 unfoldable pub wrongClassLine : ClassLine → Bool
 wrongClassLine l = wrongClassFields (l .class) (l .customers) (l .watts)

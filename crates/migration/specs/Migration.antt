@@ -4,6 +4,7 @@ use mathlib.Core.Bool.{_&&_}
 use mathlib.Core.List.{List}
 use lib.Dec.{eqb}
 use Rattle.migration.specs.declared.netting.ClassLine.{ClassLine}
+use Rattle.tariff.specs.Sizes.{wattsPerKw}
 use Rattle.tariff.specs.Sum.{countIf, sumTo, sumOver}
 
 -- the watts that left holder i for holder j: customers × average watts, summed over the lines of every class
@@ -12,7 +13,7 @@ wattsOneWay lines i j = sumOver lines (λ l. countIf (eqb (l .from) i && eqb (l 
 
 -- m: what is left of the larger way after the smaller is taken off, in kW rounded down. 0 from the gainer to the loser
 unfoldable pub netted : List ClassLine → ℕ → ℕ → ℕ
-netted lines i j = (wattsOneWay lines i j - wattsOneWay lines j i) / 1000
+netted lines i j = (wattsOneWay lines i j - wattsOneWay lines j i) / wattsPerKw
 
 -- a loser's m to all of n holders together
 unfoldable pub lostBy : ℕ → (ℕ → ℕ → ℕ) → ℕ → ℕ

@@ -7,23 +7,24 @@ use lib.ListN.{length, getD}
 use lib.Dec.{leb, ltb, eqb}
 use Rattle.migration.specs.declared.netting.ClassLine.{ClassLine}
 use Rattle.migration.specs.declared.netting.Netting.{Netting}
+use Rattle.tariff.specs.Sizes.{maxHolders, pairs, maxClassLines, maxCustomers, maxWatts}
 use Rattle.tariff.specs.Sum.{countIf, sumTo, anyOf, listTo}
 use Rattle.migration.specs.Migration.{netted, shares, shifted}
 use Rattle.migration.specs.ClassRanges.{wrongClassLine}
 
 -- what stands at a pair of holders, and at a holder
 unfoldable pub pairAt : List ℕ → ℕ → ℕ → ℕ
-pairAt cells i j = getD cells (i * 8 + j) 0
+pairAt cells i j = getD cells (i * maxHolders + j) 0
 
 unfoldable pub holderAt : List ℕ → ℕ → ℕ
 holderAt column i = getD column i 0
 
 -- the cells of all pairs of eight holders, and a column of eight
 unfoldable pub pairCells : (ℕ → ℕ → ℕ) → List ℕ
-pairCells f = listTo 64 (λ k. f (k / 8) (k % 8))
+pairCells f = listTo pairs (λ k. f (k / maxHolders) (k % maxHolders))
 
 unfoldable pub columnCells : (ℕ → ℕ) → List ℕ
-columnCells f = listTo 8 f
+columnCells f = listTo maxHolders f
 
 -- the class lines whose fields stand in five lists: line k has the k-th number of each
 abbrev pub classLineAt : List ℕ → List ℕ → List ℕ → List ℕ → List ℕ → ℕ → ClassLine
@@ -34,7 +35,7 @@ classLinesOf froms tos classes customers watts = listTo (length froms) (classLin
 
 -- a line that must not reach the sums: a holder past the eighth, or a field outside its range
 unfoldable pub unfitLine : ClassLine → Bool
-unfitLine l = leb 8 (l .from) || leb 8 (l .to) || wrongClassLine l
+unfitLine l = leb maxHolders (l .from) || leb maxHolders (l .to) || wrongClassLine l
 
 -- each list has as many numbers as the first
 pub record SameLengths (froms tos classes customers watts : List ℕ) : Type 0 where
@@ -53,18 +54,18 @@ sameCounts froms tos classes customers watts =
 -- at most 64 lines, each list as long as the first, and no unfit line
 unfoldable pub linesFit : List ℕ → List ℕ → List ℕ → List ℕ → List ℕ → Bool
 linesFit froms tos classes customers watts =
-    leb (length froms) 64
+    leb (length froms) maxClassLines
     && sameCounts froms tos classes customers watts
     && not (anyOf (classLinesOf froms tos classes customers watts) unfitLine)
 
 -- lines whose products can be summed: what is known of lines that are fit
 pub record Summable (froms tos customers watts : List ℕ) : Type 0 where
-  pub few : length froms ≤ 64
+  pub few : length froms ≤ maxClassLines
   pub ofTos : length tos ≡ length froms
   pub ofCustomers : length customers ≡ length froms
   pub ofWatts : length watts ≡ length froms
-  pub holders : (k : ℕ) → k < length froms → (getD froms k 0 < 8) × (getD tos k 0 < 8)
-  pub sizes : (k : ℕ) → k < length froms → (getD customers k 0 ≤ 9999999) × (getD watts k 0 ≤ 9999999)
+  pub holders : (k : ℕ) → k < length froms → (getD froms k 0 < maxHolders) × (getD tos k 0 < maxHolders)
+  pub sizes : (k : ℕ) → k < length froms → (getD customers k 0 ≤ maxCustomers) × (getD watts k 0 ≤ maxWatts)
 
 -- the products of the first n lines from holder i to holder j, summed
 unfoldable pub wattsTo : List ℕ → List ℕ → List ℕ → List ℕ → ℕ → ℕ → ℕ → ℕ
@@ -78,11 +79,11 @@ nettingOf froms tos classes customers watts =
 
 -- the bounds of every reachable ledger that a share rests on: each product of a record and an m fits 64 bits
 abbrev pub ProductsFit : List ℕ → List ℕ → Type 0
-ProductsFit column m = (i j : ℕ) → i < 8 → j < 8 → holderAt column i * pairAt m i j < 2 ^ 64
+ProductsFit column m = (i j : ℕ) → i < maxHolders → j < maxHolders → holderAt column i * pairAt m i j < 2 ^ 64
 
 -- and those that a shift rests on: each of n holders gives no more than it has, and all together fit 64 bits
 pub record PartsFit (n : ℕ) (column parts : List ℕ) : Type 0 where
-  pub few : n ≤ 8
+  pub few : n ≤ maxHolders
   pub given : (i : ℕ) → i < n → sumTo n (λ j. pairAt parts i j) ≤ holderAt column i
   pub together : sumTo n (holderAt column) < 2 ^ 64
 

@@ -1,9 +1,17 @@
 // Class lines, and their netting by pair of holders (01, Migration).
 use tariff::limit::less;
+use tariff::sizes::LAST_CLASS;
+use tariff::sizes::MAX_CLASS_LINES;
+use tariff::sizes::MAX_CUSTOMERS;
+use tariff::sizes::MAX_HOLDERS;
+use tariff::sizes::MAX_WATTS;
+use tariff::sizes::PAIRS;
+use tariff::sizes::WATTS_PER_KW;
 ghost use mathlib.Core.Path.{_≡_};
 ghost use mathlib.Core.Bool.{not};
 ghost use Prim.Native.Nat.{ℕ, _+_, _-_, _*_, _/_, _<_, _≤_};
 ghost use lib.ListN.{length};
+ghost use Rattle.tariff.specs.Sizes.{maxHolders, maxCustomers, maxWatts, wattsPerKw};
 ghost use Rattle.tariff.specs.Sum.{anyOf};
 ghost use Rattle.migration.specs.ClassRanges.{wrongClassFields};
 ghost use Rattle.migration.specs.Netting.{SameLengths, sameCounts, Summable, pairAt, pairCells, nettingOf, classLinesOf, unfitLine, linesFit, wattsTo};
@@ -20,21 +28,21 @@ pub struct ClassLine {
 // Whether class lines are fit to be netted, and the kW from holder i to holder j at i * 8 + j: all 0 where they are not.
 pub struct Netting {
     pub fit: bool,
-    pub m: [u64; 64],
+    pub m: [u64; PAIRS],
 }
 
 // A line with a field outside its range: class 1 to 8, customers and average watts up to 9,999,999.
 pub fn wrong_class_fields(class: u64, customers: u64, watts: u64) -> bool
     ensures { λ r. ⌜ r ≡ wrongClassFields class customers watts ⌝ }
 {
-    !((1 <= class) & (class <= 8)) | (9_999_999 < customers) | (9_999_999 < watts)
+    !((1 <= class) & (class <= LAST_CLASS)) | (MAX_CUSTOMERS < customers) | (MAX_WATTS < watts)
 }
 
 // A line that can be netted: holders below 8, and every field in its range.
 fn line_fits(from: u64, to: u64, class: u64, customers: u64, watts: u64) -> bool
     ensures { λ r. ⌜ r ≡ not (unfitLine (record { from = from; to = to; class = class; customers = customers; watts = watts })) ⌝ }
 {
-    let holders = (from < 8) & (to < 8);
+    let holders = (from < MAX_HOLDERS as u64) & (to < MAX_HOLDERS as u64);
     holders & !wrong_class_fields(class, customers, watts)
 }
 
@@ -72,7 +80,7 @@ fn lines_fit(froms: &[u64], tos: &[u64], classes: &[u64], customers: &[u64], wat
     ensures { λ r. ⌜ r ≡ linesFit (now (froms .entry)) (now (tos .entry)) (now (classes .entry)) (now (customers .entry)) (now (watts .entry)) ⌝ }
 {
     let counted = same_counts(froms, tos, classes, customers, watts);
-    if (froms.len() <= 64) & counted {
+    if (froms.len() <= MAX_CLASS_LINES) & counted {
         return all_fit(froms, tos, classes, customers, watts);
     }
     false
@@ -80,22 +88,22 @@ fn lines_fit(froms: &[u64], tos: &[u64], classes: &[u64], customers: &[u64], wat
 
 // The watts of a line: customers × average watts.
 fn line_watts(customers: u64, watts: u64) -> u64
-    requires { ⌜ (customers ≤ 9999999) × (watts ≤ 9999999) ⌝ }
+    requires { ⌜ (customers ≤ maxCustomers) × (watts ≤ maxWatts) ⌝ }
     ensures { λ r. ⌜ r ≡ customers * watts ⌝ }
 {
     customers * watts
 }
 
 // The watts of the lines, summed one way for each pair of holders.
-fn watts_of_pairs(froms: &[u64], tos: &[u64], customers: &[u64], watts: &[u64]) -> [u64; 64]
+fn watts_of_pairs(froms: &[u64], tos: &[u64], customers: &[u64], watts: &[u64]) -> [u64; PAIRS]
     requires { ⌜ Summable (now froms) (now tos) (now customers) (now watts) ⌝ }
-    ensures { λ r. ⌜ ((i j : ℕ) → i < 8 → j < 8 → pairAt r i j ≡ wattsTo (now (froms .entry)) (now (tos .entry)) (now (customers .entry)) (now (watts .entry)) (length (now (froms .entry))) i j) ⌝ }
+    ensures { λ r. ⌜ ((i j : ℕ) → i < maxHolders → j < maxHolders → pairAt r i j ≡ wattsTo (now (froms .entry)) (now (tos .entry)) (now (customers .entry)) (now (watts .entry)) (length (now (froms .entry))) i j) ⌝ }
 {
-    let mut cells = [0u64; 64];
+    let mut cells = [0u64; PAIRS];
     let mut k = 0;
     while k < froms.len() {
         let line = line_watts(customers[k], watts[k]);
-        let pair = (froms[k] * 8 + tos[k]) as usize;
+        let pair = (froms[k] * MAX_HOLDERS as u64 + tos[k]) as usize;
         cells[pair] = cells[pair] + line;
         k += 1;
     }
@@ -103,14 +111,14 @@ fn watts_of_pairs(froms: &[u64], tos: &[u64], customers: &[u64], watts: &[u64]) 
 }
 
 // The m of each pair: what the way there has more than the way back, in kW rounded down.
-fn netted_pairs(watts: [u64; 64]) -> [u64; 64]
-    ensures { λ r. ⌜ r ≡ pairCells (λ i j. (pairAt watts i j - pairAt watts j i) / 1000) ⌝ }
+fn netted_pairs(watts: [u64; PAIRS]) -> [u64; PAIRS]
+    ensures { λ r. ⌜ r ≡ pairCells (λ i j. (pairAt watts i j - pairAt watts j i) / wattsPerKw) ⌝ }
 {
-    let mut m = [0u64; 64];
+    let mut m = [0u64; PAIRS];
     let mut k = 0;
-    while k < 64 {
-        let back = k % 8 * 8 + k / 8;
-        m[k] = less(watts[k], watts[back]) / 1000;
+    while k < PAIRS {
+        let back = k % MAX_HOLDERS * MAX_HOLDERS + k / MAX_HOLDERS;
+        m[k] = less(watts[k], watts[back]) / WATTS_PER_KW;
         k += 1;
     }
     m
@@ -133,6 +141,6 @@ pub fn net_lines(
     }
     Netting {
         fit: false,
-        m: [0u64; 64],
+        m: [0u64; PAIRS],
     }
 }

@@ -1,7 +1,10 @@
 // The shares of records that a migration moves, and the columns after they have moved (01, Migration).
+use tariff::sizes::MAX_HOLDERS;
+use tariff::sizes::PAIRS;
 ghost use mathlib.Core.Path.{_≡_};
 ghost use Prim.Native.Nat.{_*_, _^_, _<_, _≤_};
 ghost use lib.ListN.{length};
+ghost use Rattle.tariff.specs.Sizes.{maxHolders, pairs};
 ghost use Rattle.tariff.specs.Sum.{sumTo};
 ghost use Rattle.migration.specs.Migration.{share};
 ghost use Rattle.migration.specs.Netting.{pairAt, ProductsFit, PartsFit, shareCells, shiftedCells};
@@ -21,14 +24,18 @@ fn share_of(v: u64, m: u64, load: u64) -> u64
 }
 
 // The shares of a column of records, one to a holder, for each pair: every share is of the value before the migration.
-pub fn shares_of(column: [u64; 8], m: [u64; 64], load: [u64; 8]) -> [u64; 64]
+pub fn shares_of(
+    column: [u64; MAX_HOLDERS],
+    m: [u64; PAIRS],
+    load: [u64; MAX_HOLDERS],
+) -> [u64; PAIRS]
     requires { ⌜ ProductsFit column m ⌝ }
     ensures { λ r. ⌜ r ≡ shareCells column m load ⌝ }
 {
-    let mut parts = [0u64; 64];
+    let mut parts = [0u64; PAIRS];
     let mut k = 0;
-    while k < 64 {
-        let loser = k / 8;
+    while k < PAIRS {
+        let loser = k / MAX_HOLDERS;
         parts[k] = share_of(column[loser], m[k], load[loser]);
         k += 1;
     }
@@ -37,13 +44,13 @@ pub fn shares_of(column: [u64; 8], m: [u64; 64], load: [u64; 8]) -> [u64; 64]
 
 // What one holder gives to the first n.
 pub fn given_by(parts: &[u64], holder: usize, n: usize) -> u64
-    requires { ⌜ (length (now parts) ≡ 64) × (holder < 8) × (n ≤ 8) × (sumTo n (λ j. pairAt (now parts) holder j) < 2 ^ 64) ⌝ }
+    requires { ⌜ (length (now parts) ≡ pairs) × (holder < maxHolders) × (n ≤ maxHolders) × (sumTo n (λ j. pairAt (now parts) holder j) < 2 ^ 64) ⌝ }
     ensures { λ r. ⌜ r ≡ sumTo n (λ j. pairAt (now (parts .entry)) holder j) ⌝ }
 {
     let mut sum = 0;
     let mut j = 0;
     while j < n {
-        sum += parts[holder * 8 + j];
+        sum += parts[holder * MAX_HOLDERS + j];
         j += 1;
     }
     sum
@@ -51,21 +58,21 @@ pub fn given_by(parts: &[u64], holder: usize, n: usize) -> u64
 
 // What one holder gets from the first n.
 fn gained_by(parts: &[u64], holder: usize, n: usize) -> u64
-    requires { ⌜ (length (now parts) ≡ 64) × (holder < 8) × (n ≤ 8) × (sumTo n (λ j. pairAt (now parts) j holder) < 2 ^ 64) ⌝ }
+    requires { ⌜ (length (now parts) ≡ pairs) × (holder < maxHolders) × (n ≤ maxHolders) × (sumTo n (λ j. pairAt (now parts) j holder) < 2 ^ 64) ⌝ }
     ensures { λ r. ⌜ r ≡ sumTo n (λ j. pairAt (now (parts .entry)) j holder) ⌝ }
 {
     let mut sum = 0;
     let mut j = 0;
     while j < n {
-        sum += parts[j * 8 + holder];
+        sum += parts[j * MAX_HOLDERS + holder];
         j += 1;
     }
     sum
 }
 
 // The column after the parts have gone over between the first n holders: old values in, new values out.
-pub fn shifted_column(column: [u64; 8], parts: &[u64], n: usize) -> [u64; 8]
-    requires { ⌜ (length (now parts) ≡ 64) × PartsFit n column (now parts) ⌝ }
+pub fn shifted_column(column: [u64; MAX_HOLDERS], parts: &[u64], n: usize) -> [u64; MAX_HOLDERS]
+    requires { ⌜ (length (now parts) ≡ pairs) × PartsFit n column (now parts) ⌝ }
     ensures { λ r. ⌜ r ≡ shiftedCells n column (now (parts .entry)) ⌝ }
 {
     let mut next = column;

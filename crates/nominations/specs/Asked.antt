@@ -1,6 +1,7 @@
 -- What the functions of this crate ask of a book's arrays and of the numbers that they are called with.
 use Prim.Native.Nat.{ℕ, _≤_, _<_}
 use mathlib.Core.List.{List}
+use Rattle.tariff.specs.Sizes.{lastTier}
 use Rattle.tariff.specs.Ranges.{mostKw}
 use Rattle.records.specs.Opening.{openingIn}
 use Rattle.slots.specs.Cells.{maxPlaces}
@@ -9,7 +10,7 @@ use Rattle.slots.specs.Steps.{ReachableFigures}
 -- the limit of a tier, or of none, of a holder in the book at a place of a sink
 pub record LimitAsked (o f : List ℕ) (tier h base : ℕ) : Type 0 where
   pub figures : ReachableFigures o f
-  pub last : tier ≤ 9
+  pub last : tier ≤ lastTier
   pub holder : h < openingIn o .holders
   pub place : base < maxPlaces
 
@@ -28,7 +29,7 @@ pub record HolderAsked (o f : List ℕ) (h : ℕ) : Type 0 where
 pub record UsageAsked (o f : List ℕ) (h tier : ℕ) : Type 0 where
   pub figures : ReachableFigures o f
   pub holder : h < openingIn o .holders
-  pub last : tier ≤ 9
+  pub last : tier ≤ lastTier
 
 -- a nomination of a holder and a path in the book, with a kW that is not above the highest
 pub record NominationAsked (o f : List ℕ) (h p kw : ℕ) : Type 0 where

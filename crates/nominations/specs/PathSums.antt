@@ -50,14 +50,14 @@ pub record PathsSummable (o f : List ℕ) (h carried before : ℕ) : Type 0 wher
   pub carriedInRow : carried < figureSlots
   pub beforeInRow : before < figureSlots
 
--- no sum is above what 16 paths can come to
+-- no sum is above what all paths can come to
 pub record SumsFit (s : Sums) : Type 0 where
-  pub carried : s .carried ≤ 16 * maxFigure
-  pub prior : s .prior ≤ 16 * maxFigure
-  pub tier1 : s .tier1 ≤ 16 * maxFigure
-  pub tier2 : s .tier2 ≤ 16 * maxFigure
-  pub tier3 : s .tier3 ≤ 16 * maxFigure
-  pub before : s .before ≤ 16 * maxFigure
+  pub carried : s .carried ≤ maxPlaces * maxFigure
+  pub prior : s .prior ≤ maxPlaces * maxFigure
+  pub tier1 : s .tier1 ≤ maxPlaces * maxFigure
+  pub tier2 : s .tier2 ≤ maxPlaces * maxFigure
+  pub tier3 : s .tier3 ≤ maxPlaces * maxFigure
+  pub before : s .before ≤ maxPlaces * maxFigure
 
 -- a path's figures are there and small, and so are the sums that they are added to
 pub record PathFits (f : List ℕ) (h p carried before : ℕ) (s : Sums) : Type 0 where

@@ -4,6 +4,7 @@ use crate::source_usage::source_usage;
 use crate::source_usage::verified_kw;
 use records::answers::Answer;
 use records::calendar::is_open;
+use records::kinds::OBAALSE;
 use records::numbers::ABOVE_LIMIT;
 use records::numbers::ABOVE_PRIOR;
 use records::numbers::ABOVE_VERIFIED;
@@ -53,7 +54,7 @@ fn exceeds_verified(o: &[u64], f: &[u64], h: u64, p: u64, kw: u64) -> bool
     ensures { λ r. ⌜ InFigures (now (o .entry)) (now (f .entry)) (λ O L. r ≡ beyondVerified O L (L .tiers .openNow) h p kw) ⌝ }
 {
     let kind = holder_kind(o, h);
-    if kind != 2 {
+    if kind != OBAALSE {
         return false;
     }
     let source = path_source(o, p);

@@ -5,6 +5,8 @@ use slots::layout::AWARDS;
 use slots::layout::NOMINATED;
 use slots::layout::VERIFIED;
 use slots::sums::sum_from_source;
+use tariff::sizes::LAST_SEASON_TIER;
+use tariff::sizes::TERMS;
 use tariff::terms::term_of;
 ghost use mathlib.Core.Path.{_≡_};
 ghost use Rattle.tariff.specs.Terms.{termOf};
@@ -19,7 +21,7 @@ pub fn verified_kw(o: &[u64], f: &[u64], h: u64, s: u64) -> u64
     ensures { λ r. ⌜ InFigures (now (o .entry)) (now (f .entry)) (λ O L. r ≡ verifiedKw L h s (termOf (L .tiers .openNow))) ⌝ }
 {
     let ownership = VERIFIED + term_of(current_tier(f));
-    let contract = ownership + 4;
+    let contract = ownership + TERMS;
     read(f, h, s, ownership) + read(f, h, s, contract)
 }
 
@@ -27,7 +29,7 @@ pub fn verified_kw(o: &[u64], f: &[u64], h: u64, s: u64) -> u64
 fn uses_same_evidence(tier: u64, n: u64) -> bool
     ensures { λ r. ⌜ r ≡ drawsOnSame tier n ⌝ }
 {
-    (1 <= n) & ((term_of(n) == term_of(tier)) | (n <= 3))
+    (1 <= n) & ((term_of(n) == term_of(tier)) | (n <= LAST_SEASON_TIER))
 }
 
 // What a holder's awards from a source in tier n use of its evidence for a later tier. Awards that use none are not summed.

@@ -1,4 +1,9 @@
 // Whether the opening that an array keeps is legal (01, The book; cause 16).
+use records::kinds::DEFAULT_LAP;
+use records::kinds::LSE;
+use records::kinds::OBAALSE;
+use records::kinds::SCHEDULING_POINT;
+use records::kinds::SUB_LAP;
 use records::setup::holder_kind;
 use records::setup::holders;
 use records::setup::path_sink;
@@ -8,6 +13,8 @@ use records::setup::sink_base;
 use records::setup::sink_kind;
 use records::setup::sinks;
 use records::setup::sources;
+use tariff::sizes::MAX_HOLDERS;
+use tariff::sizes::MAX_PLACES;
 ghost use mathlib.Core.Path.{_≡_};
 ghost use Rattle.tariff.specs.Sum.{allBelow};
 ghost use Rattle.ledger.specs.Opening.{countsFit, holderLegal, parentLegal, sinkLegal, pathLegal, pathsAlike, pathNew, legal};
@@ -18,7 +25,11 @@ ghost use Rattle.records.specs.Opening.{openingCount, openingIn};
 fn counts_fit(o: &[u64]) -> bool
     ensures { λ r. ⌜ r ≡ countsFit (openingIn (now (o .entry))) ⌝ }
 {
-    (holders(o) <= 8) & (sources(o) <= 16) & (sinks(o) <= 16) & (paths(o) <= 16)
+    let few_holders = holders(o) <= MAX_HOLDERS as u64;
+    let few_sources = sources(o) <= MAX_PLACES as u64;
+    let few_sinks = sinks(o) <= MAX_PLACES as u64;
+    let few_paths = paths(o) <= MAX_PLACES as u64;
+    few_holders & few_sources & few_sinks & few_paths
 }
 
 // A holder is of kind 1 or 2.
@@ -26,7 +37,7 @@ fn holder_legal(o: &[u64], h: u64) -> bool
     ensures { λ r. ⌜ r ≡ holderLegal (openingIn (now (o .entry))) h ⌝ }
 {
     let kind = holder_kind(o, h);
-    (kind == 1) | (kind == 2)
+    (kind == LSE) | (kind == OBAALSE)
 }
 
 // A Sub-LAP's parent has a lower number and is a Default LAP.
@@ -35,7 +46,7 @@ fn parent_legal(o: &[u64], s: u64) -> bool
 {
     let parent = sink_base(o, s);
     let parent_kind = sink_kind(o, parent);
-    (parent < s) & (parent_kind == 1)
+    (parent < s) & (parent_kind == DEFAULT_LAP)
 }
 
 // A sink is of kind 1 to 4; a Sub-LAP has a parent, any other sink names itself.
@@ -43,8 +54,8 @@ fn sink_legal(o: &[u64], s: u64) -> bool
     ensures { λ r. ⌜ r ≡ sinkLegal (openingIn (now (o .entry))) s ⌝ }
 {
     let kind = sink_kind(o, s);
-    let kind_fits = (1 <= kind) & (kind <= 4);
-    if kind == 2 {
+    let kind_fits = (DEFAULT_LAP <= kind) & (kind <= SCHEDULING_POINT);
+    if kind == SUB_LAP {
         return kind_fits & parent_legal(o, s);
     }
     kind_fits & (sink_base(o, s) == s)

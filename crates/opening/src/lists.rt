@@ -7,6 +7,7 @@ use records::setup::PATH_SOURCES;
 use records::setup::SINK_KINDS;
 use records::setup::SINK_PARENTS;
 use records::setup::base_by_sink;
+use tariff::sizes::MAX_PLACES;
 ghost use mathlib.Core.Path.{_≡_};
 ghost use mathlib.Core.List.{_++_};
 ghost use Prim.Native.Nat.{ℕ};
@@ -54,12 +55,12 @@ pub fn keep_opening(
 }
 
 // The base of each path of the opening that an array keeps.
-fn path_bases(o: &[u64]) -> [u64; 16]
+fn path_bases(o: &[u64]) -> [u64; MAX_PLACES]
     ensures { λ r. ⌜ r ≡ pathBases (openingIn (now (o .entry))) ⌝ }
 {
-    let mut bases = [0u64; 16];
+    let mut bases = [0u64; MAX_PLACES];
     let mut p = 0;
-    while p < 16 {
+    while p < MAX_PLACES {
         bases[p] = base_by_sink(o, p as u64);
         p += 1;
     }

@@ -9,10 +9,15 @@ use Rattle.tariff.specs.Metered.{blocksOf, sameLengths}
 use Rattle.tariff.specs.Ranges.{mostKw}
 use Rattle.ledger.specs.Opening.{Opening}
 use Rattle.ledger.specs.Ledger.{Ledger}
+use Rattle.ledger.specs.Numbers.{unreadable}
 use Rattle.ledger.specs.Call.{load}
 use Rattle.ledger.specs.Causes.{refusal}
 use Rattle.postings.specs.declared.load.Posting.{Posting}
 use Rattle.postings.specs.declared.load.Posting.the-variants.{Kw, Refused}
+
+-- how many of a load's causes come before the order of its blocks: 2 to 5
+abbrev pub earlyCauses : ℕ
+earlyCauses = 4
 
 -- a block's kW exceeds the most
 unfoldable pub exceedsMostKw : List ℕ → ℕ → Bool
@@ -31,4 +36,4 @@ unfoldable pub postingOf : Opening → Ledger → (h s term contract n : ℕ) �
 postingOf O L h s term contract n firsts hours kws =
     cond (sameLengths firsts hours kws)
     (postingBy (refusal O L (load h s term contract n (blocksOf firsts hours kws))) (loadPosted contract (blocksOf firsts hours kws)))
-    (Refused 1)
+    (Refused unreadable)

@@ -4,6 +4,7 @@ use mathlib.Core.Path.{_≡_}
 use mathlib.Core.List.{List}
 use lib.ListN.{length}
 use Rattle.tariff.specs.declared.evidence.Entry.{Entry}
+use Rattle.tariff.specs.Sizes.{terms}
 use Rattle.tariff.specs.Evidence.{entryKw}
 use Rattle.slots.specs.Cells.{maxHolders, maxPlaces, storedAt}
 use Rattle.slots.specs.Layout.{figureSlots, figureCount}
@@ -24,4 +25,4 @@ pub record HasTerms (f : List ℕ) (h s from : ℕ) : Type 0 where
   pub long : length f ≡ figureCount
   pub holder : h < maxHolders
   pub place : s < maxPlaces
-  pub inRow : from + 4 ≤ figureSlots
+  pub inRow : from + terms ≤ figureSlots

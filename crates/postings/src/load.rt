@@ -26,6 +26,9 @@ use slots::layout::LOAD_POSTED;
 use tariff::load::Metered;
 use tariff::load::load_posted;
 use tariff::load::same_lengths;
+use tariff::sizes::MAX_HOURS;
+use tariff::sizes::MAX_KW;
+use tariff::sizes::TERMS;
 ghost use mathlib.Core.Path.{_≡_};
 ghost use lib.ListN.{length, take};
 ghost use Rattle.tariff.specs.Sum.{anyBelow};
@@ -35,7 +38,7 @@ ghost use Rattle.ledger.specs.Numbers.{firstMet};
 ghost use Rattle.ledger.specs.Causes.{loadCauses};
 ghost use Rattle.ledger.specs.Call.{load};
 ghost use Rattle.slots.specs.Steps.{ReachablePostings, InPostings, PostingsStepIf};
-ghost use Rattle.postings.specs.Loads.{exceedsMostKw, kwBlocks, postingOf};
+ghost use Rattle.postings.specs.Loads.{earlyCauses, exceedsMostKw, kwBlocks, postingOf};
 
 // What a load comes to: the number that refuses it, or the kW that it posts.
 pub enum Posting {
@@ -49,7 +52,7 @@ fn any_exceeds_most_kw(kws: &[u64]) -> bool
 {
     let mut k = 0;
     while k < kws.len() {
-        if 99_999_999 < kws[k] {
+        if MAX_KW < kws[k] {
             return true;
         }
         k += 1;
@@ -61,8 +64,8 @@ fn any_exceeds_most_kw(kws: &[u64]) -> bool
 fn load_out_of_range(term: u64, contract: u64, n: u64, kws: &[u64]) -> bool
     ensures { λ r. ⌜ r ≡ wrongLoad term contract n (kwBlocks (now (kws .entry))) ⌝ }
 {
-    let fields = wrong_term(term) | (99_999_999 < contract) | !((1 <= n) & (n <= 2_208));
-    fields | (2_208 < kws.len()) | any_exceeds_most_kw(kws)
+    let fields = wrong_term(term) | (MAX_KW < contract) | !((1 <= n) & (n <= MAX_HOURS));
+    fields | ((MAX_HOURS as usize) < kws.len()) | any_exceeds_most_kw(kws)
 }
 
 // The first of causes 2 to 5 that a load meets, 0 for none: those that come before the order of its blocks.
@@ -78,12 +81,12 @@ fn load_refusal_early(
     kws: &[u64],
 ) -> u64
     requires { ⌜ ReachablePostings (now o) (now f) (now m) ⌝ }
-    ensures { λ r. ⌜ InPostings (now (o .entry)) (now (f .entry)) (now (m .entry)) (λ O L. r ≡ firstMet (take 4 (loadCauses O L h s term contract n (kwBlocks (now (kws .entry)))))) ⌝ }
+    ensures { λ r. ⌜ InPostings (now (o .entry)) (now (f .entry)) (now (m .entry)) (λ O L. r ≡ firstMet (take earlyCauses (loadCauses O L h s term contract n (kwBlocks (now (kws .entry)))))) ⌝ }
 {
     let unknown = no_holder(o, h) | no_sink(o, s);
     let range = load_out_of_range(term, contract, n, kws);
     let late = !before_term(term, last_closed(f), current_tier(f));
-    let posted = is_posted(m, h, s, posted_slot(LOAD_POSTED, 4, 0, term));
+    let posted = is_posted(m, h, s, posted_slot(LOAD_POSTED, TERMS, 0, term));
     let from_posted = refuse(POSTED_BEFORE, posted, 0);
     let from_time = refuse(NOT_AT_THIS_TIME, late, from_posted);
     let from_range = refuse(OUT_OF_RANGE, range, from_time);

@@ -24,6 +24,9 @@ use tariff::evidence::Filing;
 use tariff::evidence::entry_kw;
 use tariff::evidence::evidence_in_range;
 use tariff::evidence::file_evidence;
+use tariff::sizes::EVIDENCE_KINDS;
+use tariff::sizes::OWNERSHIP;
+use tariff::sizes::TERMS;
 ghost use mathlib.Core.Path.{_≡_};
 ghost use mathlib.Core.Bool.{false};
 ghost use Rattle.tariff.specs.Evidence.{entryOf};
@@ -61,7 +64,12 @@ fn verify_refusal(
     let unknown = no_holder(o, h) | no_source(o, s);
     let range = !evidence_in_range(kind, capacity, right, first, last);
     let open = is_open(current_tier(f));
-    let posted = is_posted(m, h, s, posted_slot(EVIDENCE_POSTED, 2, 1, kind));
+    let posted = is_posted(
+        m,
+        h,
+        s,
+        posted_slot(EVIDENCE_POSTED, EVIDENCE_KINDS, OWNERSHIP, kind),
+    );
     let from_posted = refuse(POSTED_BEFORE, posted, 0);
     let from_time = refuse(NOT_AT_THIS_TIME, open, from_posted);
     let from_range = refuse(OUT_OF_RANGE, range, from_time);
@@ -129,7 +137,7 @@ pub fn verify(
     }
     let entry = entry_in_range(kind, capacity, right, first, last);
     let slot = kind - 1;
-    store_by_term(f, h, s, VERIFIED + 4 * slot, entry);
+    store_by_term(f, h, s, VERIFIED + TERMS * slot, entry);
     set_posted(m, h, s, EVIDENCE_POSTED + slot);
     VerifyOutcome {
         answer: Answer::Done,

@@ -3,6 +3,7 @@ use Prim.Native.Nat.{ℕ}
 use mathlib.Core.Path.{_≡_}
 use mathlib.Core.List.{List, [], _∷_, _++_}
 use lib.ListN.{take, drop, getD}
+use Rattle.tariff.specs.Sizes.{maxHolders, maxPlaces}
 use Rattle.tariff.specs.Sum.{listTo}
 use Rattle.ledger.specs.Opening.{Opening, pathBase}
 
@@ -11,7 +12,23 @@ use Rattle.ledger.specs.Opening.{Opening, pathBase}
 abbrev pub openingCount : ℕ
 openingCount = 92
 
--- where the bases stand
+-- where each list stands
+abbrev pub holderKindsAt : ℕ
+holderKindsAt = 4
+
+abbrev pub sinkKindsAt : ℕ
+sinkKindsAt = 12
+
+abbrev pub sinkParentsAt : ℕ
+sinkParentsAt = 28
+
+abbrev pub pathSourcesAt : ℕ
+pathSourcesAt = 44
+
+abbrev pub pathSinksAt : ℕ
+pathSinksAt = 60
+
+-- and the bases
 abbrev pub basesAt : ℕ
 basesAt = 76
 
@@ -23,11 +40,11 @@ openingIn o =
       sources = getD o 1 0;
       sinks = getD o 2 0;
       paths = getD o 3 0;
-      holderKinds = take (getD o 0 0) (take 8 (drop 4 o));
-      sinkKinds = take (getD o 2 0) (take 16 (drop 12 o));
-      sinkParents = take (getD o 2 0) (take 16 (drop 28 o));
-      pathSources = take (getD o 3 0) (take 16 (drop 44 o));
-      pathSinks = take (getD o 3 0) (take 16 (drop 60 o));
+      holderKinds = take (getD o 0 0) (take maxHolders (drop holderKindsAt o));
+      sinkKinds = take (getD o 2 0) (take maxPlaces (drop sinkKindsAt o));
+      sinkParents = take (getD o 2 0) (take maxPlaces (drop sinkParentsAt o));
+      pathSources = take (getD o 3 0) (take maxPlaces (drop pathSourcesAt o));
+      pathSinks = take (getD o 3 0) (take maxPlaces (drop pathSinksAt o));
     }
 
 -- a list with room for as many entries: what is past its end is 0
@@ -41,15 +58,15 @@ openingLists o =
     ∷ o .sources
     ∷ o .sinks
     ∷ o .paths
-    ∷ (withRoom 8 (o .holderKinds)
-    ++ (withRoom 16 (o .sinkKinds)
-    ++ (withRoom 16 (o .sinkParents)
-    ++ (withRoom 16 (o .pathSources)
-    ++ withRoom 16 (o .pathSinks)))))
+    ∷ (withRoom maxHolders (o .holderKinds)
+    ++ (withRoom maxPlaces (o .sinkKinds)
+    ++ (withRoom maxPlaces (o .sinkParents)
+    ++ (withRoom maxPlaces (o .pathSources)
+    ++ withRoom maxPlaces (o .pathSinks)))))
 
 -- the base of each path
 unfoldable pub pathBases : Opening → List ℕ
-pathBases o = listTo 16 (pathBase o)
+pathBases o = listTo maxPlaces (pathBase o)
 
 -- the array of an opening: bases follow from the lists, and are kept so that nobody looks them up twice
 unfoldable pub openingArray : Opening → List ℕ

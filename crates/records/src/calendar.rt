@@ -1,8 +1,10 @@
 // When a call can run, by the tier last closed and the open one (01, Tiers; cause 4).
+use tariff::sizes::LAST_SEASON_TIER;
 ghost use mathlib.Core.Path.{_≡_};
 ghost use mathlib.Core.Bool.{not, _&&_, _||_};
 ghost use lib.Dec.{leb, ltb, eqb};
 ghost use Prim.Native.Nat.{suc};
+ghost use Rattle.tariff.specs.Sizes.{lastSeasonTier};
 ghost use Rattle.tariff.specs.Terms.{firstTierOf};
 
 // A tier is open.
@@ -32,10 +34,10 @@ pub fn before_term(term: u64, last_closed: u64, open_now: u64) -> bool
 
 // A migration comes at its time: as a posting for its term, and for a month after tier 3.
 pub fn migration_in_time(term: u64, last_closed: u64, open_now: u64) -> bool
-    ensures { λ r. ⌜ r ≡ ((not (not (eqb «open_now» 0)) && ltb «last_closed» (firstTierOf term)) && (eqb term 0 || leb 3 «last_closed»)) ⌝ }
+    ensures { λ r. ⌜ r ≡ ((not (not (eqb «open_now» 0)) && ltb «last_closed» (firstTierOf term)) && (eqb term 0 || leb lastSeasonTier «last_closed»)) ⌝ }
 {
     let early = before_term(term, last_closed, open_now);
-    early & ((term == 0) | (3 <= last_closed))
+    early & ((term == 0) | (LAST_SEASON_TIER <= last_closed))
 }
 
 // A tier is the one after the last closed.

@@ -2,6 +2,7 @@
 
 pub mod answers;
 pub mod calendar;
+pub mod kinds;
 pub mod lists;
 pub mod numbers;
 pub mod refusals;

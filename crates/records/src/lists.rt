@@ -2,6 +2,7 @@
 ghost use mathlib.Core.Path.{_≡_};
 ghost use Prim.Native.Nat.{_≤_};
 ghost use lib.ListN.{length, getD, take, drop};
+ghost use Rattle.tariff.specs.Sizes.{maxPlaces};
 ghost use Rattle.tariff.specs.Sum.{listTo};
 ghost use Rattle.records.specs.Opening.{openingCount};
 
@@ -17,7 +18,7 @@ pub fn number_at(numbers: &[u64], i: usize) -> u64
 
 // The entry of a list of `count` numbers that stands from a place on, with room for `room` of them; 0 past its end.
 pub fn listed(numbers: &[u64], from: usize, room: u64, count: u64, i: u64) -> u64
-    requires { ⌜ (from ≤ openingCount) × (room ≤ 16) ⌝ }
+    requires { ⌜ (from ≤ openingCount) × (room ≤ maxPlaces) ⌝ }
     ensures { λ r. ⌜ r ≡ getD (take count (take room (drop from (now (numbers .entry))))) i 0 ⌝ }
 {
     if count <= i {

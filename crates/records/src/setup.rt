@@ -1,8 +1,14 @@
 // What a book was opened with, kept in an array (01, The book): the four counts, then what stands on the line of each holder, sink and path.
+use crate::kinds::LSE;
+use crate::kinds::SCHEDULING_POINT;
+use crate::kinds::SUB_LAP;
 use crate::lists::listed;
 use crate::lists::number_at;
+use tariff::sizes::MAX_HOLDERS;
+use tariff::sizes::MAX_PLACES;
 ghost use Prim.Native.Nat.{_<_};
 ghost use mathlib.Core.Path.{_≡_};
+ghost use Rattle.tariff.specs.Sizes.{maxPlaces};
 ghost use Rattle.ledger.specs.Opening.{holderKind, sinkKind, base, pathSource, pathSink, pathBase};
 ghost use Rattle.ledger.specs.Ranges.{noHolder, noSource, noSink, noPath};
 ghost use Rattle.ledger.specs.Causes.{sinkNotFor, isSubLap};
@@ -76,31 +82,31 @@ pub fn no_path(o: &[u64], p: u64) -> bool
 pub fn holder_kind(o: &[u64], h: u64) -> u64
     ensures { λ r. ⌜ r ≡ holderKind (openingIn (now (o .entry))) h ⌝ }
 {
-    listed(o, HOLDER_KINDS, 8, holders(o), h)
+    listed(o, HOLDER_KINDS, MAX_HOLDERS as u64, holders(o), h)
 }
 
 pub fn sink_kind(o: &[u64], s: u64) -> u64
     ensures { λ r. ⌜ r ≡ sinkKind (openingIn (now (o .entry))) s ⌝ }
 {
-    listed(o, SINK_KINDS, 16, sinks(o), s)
+    listed(o, SINK_KINDS, MAX_PLACES as u64, sinks(o), s)
 }
 
 pub fn sink_base(o: &[u64], s: u64) -> u64
     ensures { λ r. ⌜ r ≡ base (openingIn (now (o .entry))) s ⌝ }
 {
-    listed(o, SINK_PARENTS, 16, sinks(o), s)
+    listed(o, SINK_PARENTS, MAX_PLACES as u64, sinks(o), s)
 }
 
 pub fn path_source(o: &[u64], p: u64) -> u64
     ensures { λ r. ⌜ r ≡ pathSource (openingIn (now (o .entry))) p ⌝ }
 {
-    listed(o, PATH_SOURCES, 16, paths(o), p)
+    listed(o, PATH_SOURCES, MAX_PLACES as u64, paths(o), p)
 }
 
 pub fn path_sink(o: &[u64], p: u64) -> u64
     ensures { λ r. ⌜ r ≡ pathSink (openingIn (now (o .entry))) p ⌝ }
 {
-    listed(o, PATH_SINKS, 16, paths(o), p)
+    listed(o, PATH_SINKS, MAX_PLACES as u64, paths(o), p)
 }
 
 // The base of a path's sink, looked up by way of the sink.
@@ -113,7 +119,7 @@ pub fn base_by_sink(o: &[u64], p: u64) -> u64
 
 // The base of a path's sink, as it is kept.
 pub fn path_base(o: &[u64], p: u64) -> u64
-    requires { ⌜ KeepsBases (now o) × (p < 16) ⌝ }
+    requires { ⌜ KeepsBases (now o) × (p < maxPlaces) ⌝ }
     ensures { λ r. ⌜ r ≡ pathBase (openingIn (now (o .entry))) p ⌝ }
 {
     o[BASES + p as usize]
@@ -123,8 +129,8 @@ pub fn path_base(o: &[u64], p: u64) -> u64
 pub fn sink_not_for(o: &[u64], h: u64, s: u64) -> bool
     ensures { λ r. ⌜ r ≡ sinkNotFor (openingIn (now (o .entry))) h s ⌝ }
 {
-    let scheduling_point = sink_kind(o, s) == 4;
-    if holder_kind(o, h) == 1 {
+    let scheduling_point = sink_kind(o, s) == SCHEDULING_POINT;
+    if holder_kind(o, h) == LSE {
         return scheduling_point;
     }
     !scheduling_point
@@ -133,5 +139,5 @@ pub fn sink_not_for(o: &[u64], h: u64, s: u64) -> bool
 pub fn is_sub_lap(o: &[u64], s: u64) -> bool
     ensures { λ r. ⌜ r ≡ isSubLap (openingIn (now (o .entry))) s ⌝ }
 {
-    sink_kind(o, s) == 2
+    sink_kind(o, s) == SUB_LAP
 }

@@ -4,7 +4,8 @@ use mathlib.Core.Bool.{Bool, cond, _||_}
 use mathlib.Core.List.{List, [], _++_}
 use lib.ListN.{length, drop}
 use lib.Dec.{ltb}
-use Rattle.lines.specs.Text.{linesOf, maxLines, maxBytes}
+use Rattle.ledger.specs.Numbers.{unreadable}
+use Rattle.lines.specs.Text.{linesOf, maxLines, maxBytes, bytesPerLine}
 use Rattle.lines.specs.Rows.{rowsOf}
 use Rattle.script.specs.Answers.{scriptAnswers, textsOf}
 
@@ -14,7 +15,7 @@ tooLong script = ltb maxBytes (length script) || ltb maxLines (length (linesOf s
 
 -- then output under 16 bytes a line is 15
 unfoldable pub tooShort : List ℕ → List ℕ → Bool
-tooShort script out = ltb (length out) (16 * length (linesOf script))
+tooShort script out = ltb (length out) (bytesPerLine * length (linesOf script))
 
 -- the answers' bytes
 unfoldable pub answersText : List ℕ → List ℕ
@@ -24,13 +25,20 @@ answersText script = textsOf (scriptAnswers (rowsOf script))
 unfoldable pub written : List ℕ → List ℕ → List ℕ
 written script out = cond (tooLong script) [] (cond (tooShort script out) [] (answersText script))
 
+-- the number of a buffer that is too short (01, Refusals by cause)
+abbrev pub bufferTooShort : ℕ
+bufferTooShort = 15
+
 -- the refusal of a whole script, 0 for a run
 unfoldable pub runRefusal : List ℕ → List ℕ → ℕ
-runRefusal script out = cond (tooLong script) 1 (cond (tooShort script out) 15 0)
+runRefusal script out = cond (tooLong script) unreadable (cond (tooShort script out) bufferTooShort 0)
 
--- the refusal times 1,000,000, and the written length
+-- the refusal is given in units of 1,000,000, so that the written length fits below
+abbrev pub refusalUnit : ℕ
+refusalUnit = 1000000
+
 unfoldable pub runNumber : List ℕ → List ℕ → ℕ
-runNumber script out = runRefusal script out * 1000000 + length (written script out)
+runNumber script out = runRefusal script out * refusalUnit + length (written script out)
 
 -- bytes beyond the written length stay
 unfoldable pub outputAfter : List ℕ → List ℕ → List ℕ

@@ -6,6 +6,7 @@ use records::answers::Answer;
 ghost use Prim.Native.Nat.{_+_, _≤_, _<_};
 ghost use mathlib.Core.Path.{_≡_};
 ghost use lib.ListN.{length};
+ghost use Rattle.lines.specs.Text.{bytesPerLine};
 ghost use Rattle.ledger.specs.Season.{value, refused};
 ghost use Rattle.records.specs.Answers.{answerIn};
 ghost use Rattle.lines.specs.Writing.{leastOfThirteenDigits, writtenAt};
@@ -14,7 +15,7 @@ ghost use Rattle.script.specs.Writing.{Writable};
 
 // Writes `ok,` and a value.
 fn write_value(out: &mut [u8], at: usize, v: u64) -> usize
-    requires room { ⌜ at + 16 ≤ length (now out) ⌝ }
+    requires room { ⌜ at + bytesPerLine ≤ length (now out) ⌝ }
     requires twelve_digits { ⌜ v < leastOfThirteenDigits ⌝ }
     ensures end { λ r. ⌜ r ≡ at + length (textOf (value v)) ⌝ }
     ensures written { λ _. ⌜ now (out .exit) ≡ writtenAt (now (out .entry)) at (textOf (value v)) ⌝ }
@@ -26,7 +27,7 @@ fn write_value(out: &mut [u8], at: usize, v: u64) -> usize
 
 // Writes `no,` and the two digits of a refusal's number.
 fn write_refusal(out: &mut [u8], at: usize, number: u64) -> usize
-    requires room { ⌜ at + 16 ≤ length (now out) ⌝ }
+    requires room { ⌜ at + bytesPerLine ≤ length (now out) ⌝ }
     requires two_digits { ⌜ number < 100 ⌝ }
     ensures end { λ r. ⌜ r ≡ at + length (textOf (refused number)) ⌝ }
     ensures written { λ _. ⌜ now (out .exit) ≡ writtenAt (now (out .entry)) at (textOf (refused number)) ⌝ }
@@ -39,7 +40,7 @@ fn write_refusal(out: &mut [u8], at: usize, number: u64) -> usize
 
 // Writes the line of an answer into the output at a place, and says where the next one goes.
 pub fn write_answer(out: &mut [u8], at: usize, answer: Answer) -> usize
-    requires room { ⌜ at + 16 ≤ length (now out) ⌝ }
+    requires room { ⌜ at + bytesPerLine ≤ length (now out) ⌝ }
     requires writable { ⌜ Writable (answerIn answer) ⌝ }
     ensures end { λ r. ⌜ r ≡ at + length (textOf (answerIn answer)) ⌝ }
     ensures written { λ _. ⌜ now (out .exit) ≡ writtenAt (now (out .entry)) at (textOf (answerIn answer)) ⌝ }

@@ -17,7 +17,7 @@ ghost use Rattle.lines.specs.Rows.{rowsOf};
 ghost use Rattle.lines.specs.Writing.{writtenAt};
 ghost use Rattle.groups.specs.Columns.{Columns};
 ghost use Rattle.script.specs.Played.{textFrom};
-ghost use Rattle.lines.specs.Text.{maxLines, maxBytes};
+ghost use Rattle.lines.specs.Text.{maxLines, maxBytes, bytesPerLine};
 
 // Puts what is left of a script to the book that was opened and writes the answers from a place on; says where they end.
 // The book's arrays stay here and are lent to each group, so that nothing of the book is copied for a line.
@@ -37,7 +37,7 @@ pub fn play(
     requires in_script { ⌜ from ≤ length (now script) ⌝ }
     requires short { ⌜ length (now script) ≤ maxBytes ⌝ }
     requires few { ⌜ length (rowsOf (drop from (now script))) ≤ maxLines ⌝ }
-    requires room { ⌜ start + 16 * length (rowsOf (drop from (now script))) ≤ length (now out) ⌝ }
+    requires room { ⌜ start + bytesPerLine * length (rowsOf (drop from (now script))) ≤ length (now out) ⌝ }
     requires columns { ⌜ Columns (now a) (now b) (now c) (now d) (now e) ⌝ }
     ensures end { λ r. ⌜ r ≡ start + length (textFrom (bookOf (now (o .entry)) emptyLedger) (drop from (now (script .entry)))) ⌝ }
     ensures written { λ _. ⌜ now (out .exit) ≡ writtenAt (now (out .entry)) start (textFrom (bookOf (now (o .entry)) emptyLedger) (drop from (now (script .entry)))) ⌝ }

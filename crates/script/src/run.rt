@@ -2,9 +2,12 @@
 use crate::answers::write_answer;
 use crate::play::play;
 use groups::opened::start;
+use lines::text::BYTES_PER_LINE;
 use lines::text::MAX_BYTES;
 use lines::text::MAX_LINES;
 use lines::text::count_lines;
+use records::numbers::BUFFER_TOO_SHORT;
+use records::numbers::UNREADABLE;
 use records::setup::OPENING;
 ghost use mathlib.Core.Path.{_≡_};
 ghost use Prim.Native.Nat.{_*_, _≤_};
@@ -12,14 +15,21 @@ ghost use lib.ListN.{length};
 ghost use Rattle.lines.specs.Rows.{rowsOf};
 ghost use Rattle.lines.specs.Writing.{writtenAt};
 ghost use Rattle.script.specs.Run.{answersText, runNumber, outputAfter};
-ghost use Rattle.lines.specs.Text.{maxLines, maxBytes};
+ghost use Rattle.lines.specs.Text.{maxLines, maxBytes, bytesPerLine};
+
+// The refusal of a whole run is given in these units, so that a length fits below.
+const REFUSAL_UNIT: u64 = 1_000_000;
+
+const SCRIPT_TOO_LONG: u64 = UNREADABLE * REFUSAL_UNIT;
+
+const OUTPUT_TOO_SHORT: u64 = BUFFER_TOO_SHORT * REFUSAL_UNIT;
 
 // Answers a script that is neither too long for a run nor too long for the buffer; says how many bytes were written.
 fn answer_script(script: &[u8], out: &mut [u8]) -> usize
     requires some { ⌜ 1 ≤ length (now script) ⌝ }
     requires short { ⌜ length (now script) ≤ maxBytes ⌝ }
     requires few { ⌜ length (rowsOf (now script)) ≤ maxLines ⌝ }
-    requires room { ⌜ 16 * length (rowsOf (now script)) ≤ length (now out) ⌝ }
+    requires room { ⌜ bytesPerLine * length (rowsOf (now script)) ≤ length (now out) ⌝ }
     ensures end { λ r. ⌜ r ≡ length (answersText (now (script .entry))) ⌝ }
     ensures written { λ _. ⌜ now (out .exit) ≡ writtenAt (now (out .entry)) 0 (answersText (now (script .entry))) ⌝ }
 {
@@ -58,14 +68,14 @@ pub extern "C" fn run(script: &[u8], out: &mut [u8]) -> u64
     ensures output { λ _. ⌜ now (out .exit) ≡ outputAfter (now (script .entry)) (now (out .entry)) ⌝ }
 {
     if MAX_BYTES < script.len() {
-        return 1_000_000;
+        return SCRIPT_TOO_LONG;
     }
     let lines = count_lines(script);
     if (MAX_LINES as u64) < lines {
-        return 1_000_000;
+        return SCRIPT_TOO_LONG;
     }
-    if (out.len() as u64) < 16 * lines {
-        return 15_000_000;
+    if (out.len() as u64) < BYTES_PER_LINE * lines {
+        return OUTPUT_TOO_SHORT;
     }
     if script.len() == 0 {
         return 0;

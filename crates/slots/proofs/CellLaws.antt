@@ -17,6 +17,7 @@ use Rattle.tariff.proofs.Lists.{length-list-to, at-list-to}
 use Rattle.ledger.specs.Effects.{same3}
 use Rattle.ledger.proofs.TiersSound.{same-place}
 use Rattle.slots.specs.Cells.{rows, cellOf, HasCell, readAt, lookAt, storedAt, addedAt, arrayOf, Shows}
+use Rattle.slots.specs.Layout.{figureSlots}
 
 -- a row and a slot in it, from the number of the cell
 row-of : (width a r : ℕ) → r < width → (a * width + r) / width ≡ a
@@ -163,8 +164,8 @@ module _ {A : Type 0} where
       past : (k : ℕ) → getD (storedAt width xs a b c v) (rows * width + k) none ≡ getD xs (rows * width + k) none
       past k = getD-set-other xs (cellOf width a b c) (rows * width + k) v none (λ e. let l = cell-below width a b c there in omega (arith, e))
 
--- a width of at most 64 keeps the numbers of cells small
-pub cell-small : (width h p slot : ℕ) → width ≤ 64 → HasCell width h p slot → (h * 16 + p) * width + slot < 8192
+-- no array has wider rows than the figures, so the numbers of cells are small
+pub cell-small : (width h p slot : ℕ) → width ≤ figureSlots → HasCell width h p slot → (h * 16 + p) * width + slot < 8192
 unfolding cellOf
 cell-small width h p slot w c = let l = cell-below width h p slot c in omega arith
 

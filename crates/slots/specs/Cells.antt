@@ -5,18 +5,12 @@ use mathlib.Core.Bool.{cond, _&&_}
 use mathlib.Core.List.{List, _++_}
 use lib.ListN.{length, getD, set}
 use lib.Dec.{ltb}
+pub use Rattle.tariff.specs.Sizes.{maxHolders, maxPlaces}
 use Rattle.tariff.specs.Sum.{listTo}
-
--- 01, The book: up to 8 holders, and 16 sources, sinks and paths
-abbrev pub maxHolders : ℕ
-maxHolders = 8
-
-abbrev pub maxPlaces : ℕ
-maxPlaces = 16
 
 -- how many holders and places there are together
 abbrev pub rows : ℕ
-rows = 128
+rows = maxHolders * maxPlaces
 
 -- the cell of a holder, a place and a slot
 unfoldable pub cellOf : ℕ → ℕ → ℕ → ℕ → ℕ

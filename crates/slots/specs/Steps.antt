@@ -3,6 +3,7 @@ use Prim.Native.Nat.{ℕ}
 use mathlib.Core.Path.{_≡_}
 use mathlib.Core.Bool.{Bool, true, false}
 use mathlib.Core.List.{List}
+use Rattle.tariff.specs.Numbers.{unreadable}
 use Rattle.tariff.specs.declared.evidence.Entry.{Entry}
 use Rattle.ledger.specs.Call.{Call, Query}
 use Rattle.ledger.specs.Opening.{Opening, legal}
@@ -49,7 +50,7 @@ pub record Steps (O : Opening) (L : Ledger) (c : Call) (answer : Answer) (f : Li
 
 -- a refusal as unreadable: its number alone, beside the arrays as they were
 pub record Unreadable (L : Ledger) (answer : Answer) (f : List ℕ) (m : List Bool) (x : List Entry) : Type 0 where
-  pub answered : answer ≡ Refused 1
+  pub answered : answer ≡ Refused unreadable
   pub figures : f ≡ figuresOf L
   pub posted : m ≡ postedOf L
   pub evidence : x ≡ evidenceOf L

@@ -14,7 +14,7 @@ onPath f h slot p = readAt figureSlots 0 f h p slot
 
 -- no figure that is summed is above this
 abbrev pub maxFigure : ℕ
-maxFigure = 10 * (8 * mostKw)
+maxFigure = 10 * (maxHolders * mostKw)
 
 pub record Summable (o f : List ℕ) (h slot : ℕ) : Type 0 where
   pub bases : KeepsBases o

@@ -1,6 +1,9 @@
 // Cells of flat arrays, by holder, place and slot.
 use crate::layout::FIGURE_SLOTS;
 use crate::layout::POSTED_SLOTS;
+use crate::layout::ROWS;
+use tariff::sizes::MAX_HOLDERS;
+use tariff::sizes::MAX_PLACES;
 ghost use mathlib.Core.Path.{_≡_};
 ghost use mathlib.Core.Bool.{true, false};
 ghost use Prim.Native.Nat.{_+_, _*_, _^_, _<_, _≤_};
@@ -10,10 +13,10 @@ ghost use Rattle.slots.specs.Layout.{figureSlots, figureCount, postedSlo
 
 // The cell of a holder, a place and a slot.
 pub fn cell(width: u64, h: u64, p: u64, slot: u64) -> usize
-    requires { ⌜ (width ≤ 64) × HasCell width h p slot ⌝ }
+    requires { ⌜ (width ≤ figureSlots) × HasCell width h p slot ⌝ }
     ensures { λ r. ⌜ IsCell width h p slot r ⌝ }
 {
-    ((h * 16 + p) * width + slot) as usize
+    ((h * (MAX_PLACES as u64) + p) * width + slot) as usize
 }
 
 // What stands in a slot of the figures.
@@ -48,10 +51,10 @@ pub fn is_posted(posted: &[bool], h: u64, p: u64, slot: u64) -> bool
     requires { ⌜ length (now posted) ≡ postedCount ⌝ }
     ensures { λ r. ⌜ r ≡ lookAt postedSlots false (now (posted .entry)) h p slot ⌝ }
 {
-    if h >= 8 {
+    if h >= MAX_HOLDERS as u64 {
         return false;
     }
-    if p >= 16 {
+    if p >= MAX_PLACES as u64 {
         return false;
     }
     if slot >= POSTED_SLOTS {
@@ -76,7 +79,7 @@ pub fn clear(f: &mut [u64], slot: u64)
     ensures { λ r. ⌜ now (f .exit) ≡ clearedTo figureSlots slot (now (f .entry)) rows ⌝ }
 {
     let mut row: u64 = 0;
-    while row < 128 {
+    while row < ROWS {
         let at = (row * FIGURE_SLOTS + slot) as usize;
         f[at] = 0;
         row += 1;

@@ -4,11 +4,12 @@ use records::sums::count_if;
 use tariff::terms::has_month;
 ghost use mathlib.Core.Path.{_≡_};
 ghost use Prim.Native.Nat.{_+_};
+ghost use Rattle.tariff.specs.Sizes.{lastMonth};
 ghost use Rattle.slots.specs.Months.{addedInTerm, HasRoom};
 
 // kw more for a holder at a path in each month of a term; the slots of the three months begin at `from`.
 pub fn add_in_term(f: &mut [u64], h: u64, p: u64, from: u64, term: u64, kw: u64)
-    requires { ⌜ HasRoom (now f) h p from (from + 3) kw ⌝ }
+    requires { ⌜ HasRoom (now f) h p from (from + lastMonth) kw ⌝ }
     ensures { λ r. ⌜ now (f .exit) ≡ addedInTerm (now (f .entry)) h p from term kw ⌝ }
 {
     add(f, h, p, from, count_if(has_month(term, 1), kw));

@@ -6,6 +6,7 @@ use Rattle.tariff.specs.declared.evidence.Evidence.{Evidence}
 use Rattle.tariff.specs.declared.evidence.Evidence.the-variants.{Empty, Ownership, Contract}
 use Rattle.tariff.specs.declared.evidence.Entry.{Entry}
 use Rattle.tariff.specs.Sum.{countIf}
+use Rattle.tariff.specs.Sizes.{lastMonth, ownership, wholePlant}
 
 -- an entry that nothing was filed in
 unfoldable pub noEntry : Entry
@@ -13,7 +14,7 @@ noEntry = record { evidence = Empty; first = 0; last = 0 }
 
 -- kind 1 files an ownership, kind 2 a contract
 unfoldable pub evidenceOf : ℕ → ℕ → ℕ → Evidence
-evidenceOf kind capacity right = cond (eqb kind 1) (Ownership capacity right) (Contract right)
+evidenceOf kind capacity right = cond (eqb kind ownership) (Ownership capacity right) (Contract right)
 
 -- the entry that verify files
 unfoldable pub entryOf : ℕ → ℕ → ℕ → ℕ → ℕ → Entry
@@ -21,17 +22,17 @@ entryOf kind capacity right first last = record { evidence = evidenceOf kind cap
 
 -- the highest right of a kind: 10,000 ten-thousandths of a plant, or the capacity under contract
 unfoldable pub highestRight : ℕ → ℕ → ℕ
-highestRight kind capacity = cond (eqb kind 1) 10000 capacity
+highestRight kind capacity = cond (eqb kind ownership) wholePlant capacity
 
 -- the kW that evidence gives: the owned part of the capacity, rounded down, or the contract's
 unfoldable pub evidenceKw : Evidence → ℕ
 evidenceKw Empty = 0
-evidenceKw (Ownership capacity right) = capacity * right / 10000
+evidenceKw (Ownership capacity right) = capacity * right / wholePlant
 evidenceKw (Contract right) = right
 
 -- an entry counts for a month from its first to its last, and for the season if it runs from month 1 to 3
 unfoldable pub countsFor : ℕ → Entry → Bool
-countsFor term e = cond (eqb term 0) (eqb (e .first) 1 && eqb (e .last) 3) (leb (e .first) term && leb term (e .last))
+countsFor term e = cond (eqb term 0) (eqb (e .first) 1 && eqb (e .last) lastMonth) (leb (e .first) term && leb term (e .last))
 
 -- the kW of an entry for a term
 unfoldable pub entryKw : ℕ → Entry → ℕ

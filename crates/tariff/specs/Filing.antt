@@ -5,12 +5,13 @@ use lib.Dec.{eqb}
 use Rattle.tariff.specs.declared.evidence.Entry.{Entry}
 use Rattle.tariff.specs.declared.evidence.Filing.{Filing}
 use Rattle.tariff.specs.declared.evidence.Filing.the-variants.{OutOfRange, Filed}
+use Rattle.tariff.specs.Numbers.{outOfRange}
 use Rattle.tariff.specs.Evidence.{entryOf}
 use Rattle.tariff.specs.Ranges.{wrongEvidence}
 
 -- 01's number for each case, and the entry where no cause is met
 unfoldable pub filingBy : ℕ → Entry → Filing
-filingBy number e = cond (eqb number 3) OutOfRange (Filed e)
+filingBy number e = cond (eqb number outOfRange) OutOfRange (Filed e)
 
 unfoldable pub filingOf : ℕ → ℕ → ℕ → ℕ → ℕ → Filing
-filingOf kind capacity right first last = filingBy (cond (wrongEvidence kind capacity right first last) 3 0) (entryOf kind capacity right first last)
+filingOf kind capacity right first last = filingBy (cond (wrongEvidence kind capacity right first last) outOfRange 0) (entryOf kind capacity right first last)

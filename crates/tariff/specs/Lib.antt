@@ -1,4 +1,6 @@
 -- The tariff's rules on numbers, as document 01 condenses them. One rule to a definition.
+pub mod Sizes
+pub mod Numbers
 pub mod Sum
 pub mod Load
 pub mod Metered

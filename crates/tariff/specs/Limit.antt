@@ -9,6 +9,7 @@ use Rattle.tariff.specs.declared.limit.TierRule.{TierRule}
 use Rattle.tariff.specs.Eligible.{seasonalEligible, priorityEligible}
 use Rattle.tariff.specs.Terms.{termOf}
 use Rattle.tariff.specs.Ranges.{within}
+use Rattle.tariff.specs.Sizes.{lastSeasonTier}
 
 -- tier 1: the lesser of P − LT and last year's allocation − LT
 unfoldable pub limitTier1 : Sums → ℕ
@@ -39,7 +40,7 @@ limitBy Odd s = limitOddTier s
 
 -- the formula is chosen by the tier's number: 1; 2 and 3; an even tier; an odd one
 unfoldable pub formulaOf : ℕ → Formula
-formulaOf tier = cond (eqb tier 1) First (cond (within 2 3 tier) (cond (eqb tier 2) Second Third) (cond (eqb (tier % 2) 0) Even Odd))
+formulaOf tier = cond (eqb tier 1) First (cond (within 2 lastSeasonTier tier) (cond (eqb tier 2) Second Third) (cond (eqb (tier % 2) 0) Even Odd))
 
 -- and so is the term whose load it takes
 unfoldable pub ruleOf : ℕ → TierRule

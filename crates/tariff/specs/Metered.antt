@@ -6,6 +6,7 @@ use lib.Dec.{eqb}
 use lib.ListN.{length}
 use Rattle.tariff.specs.declared.load.Metered.{Metered}
 use Rattle.tariff.specs.declared.load.Metered.the-variants.{Unequal, Broken, Missing, Kw}
+use Rattle.tariff.specs.Numbers.{unreadable, brokenBlocks, hoursMissing}
 use Rattle.tariff.specs.Load.{Block, blocksBroken, tooManyMissing, metric, loadPosted}
 
 -- a block is a first hour, a length and a kW (01, Posting, Load): three lists, read side by side as far as the shortest goes
@@ -21,20 +22,20 @@ sameLengths fs hs ks = eqb (length fs) (length hs) && eqb (length hs) (length ks
 
 -- 01's number for each case of what is given, and its kW where no cause is met
 unfoldable pub meteredBy : ℕ → ℕ → Metered
-meteredBy number kw = cond (eqb number 1) Unequal (cond (eqb number 6) Broken (cond (eqb number 7) Missing (Kw kw)))
+meteredBy number kw = cond (eqb number unreadable) Unequal (cond (eqb number brokenBlocks) Broken (cond (eqb number hoursMissing) Missing (Kw kw)))
 
 -- the block list broken or empty is cause 6, too many hours missing is cause 7, and the lower number decides; 0 for none (01, Refusals by cause)
 unfoldable pub blockRefusal : ℕ → List Block → ℕ
-blockRefusal n bs = cond (blocksBroken n bs) 6 (cond (tooManyMissing n bs) 7 0)
+blockRefusal n bs = cond (blocksBroken n bs) brokenBlocks (cond (tooManyMissing n bs) hoursMissing 0)
 
 unfoldable pub unlessRefused : ℕ → List Block → ℕ → Metered
 unlessRefused n bs kw = meteredBy (blockRefusal n bs) kw
 
 -- the metric: the smallest kW among the blocks that is exceeded in at most 0.5% of the present hours (01, Posting, Load)
 unfoldable pub meteredOf : List ℕ → List ℕ → List ℕ → ℕ → Metered
-meteredOf fs hs ks n = cond (sameLengths fs hs ks) (unlessRefused n (blocksOf fs hs ks) (metric (blocksOf fs hs ks))) (meteredBy 1 0)
+meteredOf fs hs ks n = cond (sameLengths fs hs ks) (unlessRefused n (blocksOf fs hs ks) (metric (blocksOf fs hs ks))) (meteredBy unreadable 0)
 
 -- the load posted: contract load comes off the metric, not below 0 (01, Posting, Load; house)
 unfoldable pub postedOf : List ℕ → List ℕ → List ℕ → ℕ → ℕ → Metered
 postedOf fs hs ks n contract =
-    cond (sameLengths fs hs ks) (unlessRefused n (blocksOf fs hs ks) (loadPosted contract (blocksOf fs hs ks))) (meteredBy 1 0)
+    cond (sameLengths fs hs ks) (unlessRefused n (blocksOf fs hs ks) (loadPosted contract (blocksOf fs hs ks))) (meteredBy unreadable 0)

@@ -2,6 +2,7 @@
 use Prim.Native.Nat.{ℕ}
 use mathlib.Core.Bool.{Bool, not, _&&_, _||_}
 use lib.Dec.{leb, ltb}
+use Rattle.tariff.specs.Sizes.{lastTerm, ownership, contract}
 use Rattle.tariff.specs.Terms.{isMonth}
 use Rattle.tariff.specs.Evidence.{highestRight}
 
@@ -16,7 +17,7 @@ unfoldable pub wrongKw : ℕ → Bool
 wrongKw kw = not (within 1 mostKw kw)
 
 unfoldable pub wrongTerm : ℕ → Bool
-wrongTerm term = ltb 3 term
+wrongTerm term = ltb lastTerm term
 
 unfoldable pub wrongMonth : ℕ → Bool
 wrongMonth m = not (isMonth m)
@@ -24,7 +25,7 @@ wrongMonth m = not (isMonth m)
 -- verify: kind 1 or 2, the right from 1 to the highest of its kind, months 1 to 3 in order
 unfoldable pub wrongEvidence : ℕ → ℕ → ℕ → ℕ → ℕ → Bool
 wrongEvidence kind capacity right first last =
-    not (within 1 2 kind)
+    not (within ownership contract kind)
     || wrongKw capacity
     || not (within 1 (highestRight kind capacity) right)
     || wrongMonth first

@@ -4,6 +4,7 @@ use mathlib.Core.Bool.{Bool, cond, _&&_, _||_}
 use mathlib.Core.List.{List, [], _∷_}
 use lib.ListN.{getD}
 use lib.Dec.{leb, eqb}
+use Rattle.tariff.specs.Sizes.{lastMonth}
 
 -- the table from tier to term, tier 1 first
 unfoldable pub termTable : List ℕ
@@ -17,7 +18,7 @@ unfoldable pub firstTierOf : ℕ → ℕ
 firstTierOf term = cond (eqb term 0) 1 (2 * term + 2)
 
 unfoldable pub isMonth : ℕ → Bool
-isMonth m = leb 1 m && leb m 3
+isMonth m = leb 1 m && leb m lastMonth
 
 -- the months that a term has: all three for the season, else the one
 unfoldable pub hasMonth : ℕ → ℕ → Bool

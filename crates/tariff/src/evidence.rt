@@ -1,4 +1,9 @@
 // Evidence of a right to a source, and what it gives (01, Posting, Verify).
+use crate::sizes::CONTRACT;
+use crate::sizes::LAST_MONTH;
+use crate::sizes::MAX_KW;
+use crate::sizes::OWNERSHIP;
+use crate::sizes::WHOLE_PLANT;
 ghost use mathlib.Core.Path.{_≡_};
 ghost use mathlib.Core.Bool.{not};
 ghost use Rattle.tariff.specs.Evidence.{evidenceKw, countsFor, entryKw, highestRight};
@@ -38,18 +43,22 @@ fn is_within(low: u64, high: u64, x: u64) -> bool
 fn highest_right(kind: u64, capacity: u64) -> u64
     ensures { λ r. ⌜ r ≡ highestRight kind capacity ⌝ }
 {
-    if kind == 1 { 10_000 } else { capacity }
+    if kind == OWNERSHIP {
+        WHOLE_PLANT
+    } else {
+        capacity
+    }
 }
 
 // Whether a caller's numbers are those of an evidence.
 pub fn evidence_in_range(kind: u64, capacity: u64, right: u64, first: u64, last: u64) -> bool
     ensures { λ r. ⌜ r ≡ not (wrongEvidence kind capacity right first last) ⌝ }
 {
-    let kind_fits = is_within(1, 2, kind);
-    let capacity_fits = is_within(1, 99_999_999, capacity);
+    let kind_fits = is_within(OWNERSHIP, CONTRACT, kind);
+    let capacity_fits = is_within(1, MAX_KW, capacity);
     let right_fits = is_within(1, highest_right(kind, capacity), right);
-    let first_fits = is_within(1, 3, first);
-    let last_fits = is_within(1, 3, last);
+    let first_fits = is_within(1, LAST_MONTH, first);
+    let last_fits = is_within(1, LAST_MONTH, last);
     let ordered = first <= last;
     kind_fits & capacity_fits & right_fits & first_fits & last_fits & ordered
 }
@@ -61,7 +70,7 @@ pub fn file_evidence(kind: u64, capacity: u64, right: u64, first: u64, last: u64
     if !evidence_in_range(kind, capacity, right, first, last) {
         return Filing::OutOfRange;
     }
-    if kind == 1 {
+    if kind == OWNERSHIP {
         let evidence = Evidence::Ownership {
             capacity: capacity as u32,
             right: right as u16,
@@ -88,7 +97,7 @@ pub fn evidence_kw(e: Evidence) -> u64
 {
     match e {
         Evidence::Empty => 0,
-        Evidence::Ownership { capacity, right } => (capacity as u64) * (right as u64) / 10_000,
+        Evidence::Ownership { capacity, right } => (capacity as u64) * (right as u64) / WHOLE_PLANT,
         Evidence::Contract { right } => right as u64,
     }
 }
@@ -100,7 +109,7 @@ pub fn counts_for(e: Entry, term: u64) -> bool
     let first = e.first as u64;
     let last = e.last as u64;
     if term == 0 {
-        return (first == 1) & (last == 3);
+        return (first == 1) & (last == LAST_MONTH);
     }
     (first <= term) & (term <= last)
 }

@@ -3,4 +3,5 @@
 pub mod evidence;
 pub mod limit;
 pub mod load;
+pub mod sizes;
 pub mod terms;

@@ -1,4 +1,5 @@
 // Eligible quantities and the limit by tier (01, Limits).
+use crate::sizes::LAST_SEASON_TIER;
 use crate::terms::term_of;
 ghost use mathlib.Core.Path.{_≡_};
 ghost use Prim.Native.Nat.{_-_};
@@ -45,7 +46,7 @@ pub fn tier_rule(tier: u64) -> TierRule
             formula: Formula::First,
             term: 0,
         },
-        2..=3 => TierRule {
+        2..=LAST_SEASON_TIER => TierRule {
             formula: if tier == 2 {
                 Formula::Second
             } else {

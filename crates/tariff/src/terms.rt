@@ -1,9 +1,11 @@
 // The terms: 0 is the season, 1 to 3 its months (01, The book).
+use crate::sizes::LAST_MONTH;
+use crate::sizes::LAST_TIER;
 ghost use mathlib.Core.Path.{_≡_};
 ghost use Rattle.tariff.specs.Terms.{termOf, hasMonth, carriedMonth};
 
 // The term of each tier, tier 1 first.
-const TERMS: [u64; 9] = [0, 0, 0, 1, 1, 2, 2, 3, 3];
+const TERM_TABLE: [u64; LAST_TIER as usize] = [0, 0, 0, 1, 1, 2, 2, 3, 3];
 
 // The term of a tier; 0 for a number that is no tier.
 pub fn term_of(tier: u64) -> u64
@@ -12,17 +14,17 @@ pub fn term_of(tier: u64) -> u64
     if tier < 1 {
         return 0;
     }
-    if 9 < tier {
+    if LAST_TIER < tier {
         return 0;
     }
-    TERMS[(tier - 1) as usize]
+    TERM_TABLE[(tier - 1) as usize]
 }
 
 // Whether a term has a month: the season has all three.
 pub fn has_month(term: u64, month: u64) -> bool
     ensures { λ r. ⌜ r ≡ hasMonth term month ⌝ }
 {
-    ((1 <= month) & (month <= 3)) & ((term == 0) | (term == month))
+    ((1 <= month) & (month <= LAST_MONTH)) & ((term == 0) | (term == month))
 }
 
 // The month whose carried rights count in a term's limits: month 1 for the season.
