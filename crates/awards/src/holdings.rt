@@ -20,7 +20,7 @@ ghost use Rattle.ledger.specs.Call.{heldOn, netOn};
 ghost use Rattle.ledger.specs.Causes.{queryRefusal};
 ghost use Rattle.ledger.specs.Ledger.{Ledger};
 ghost use Rattle.ledger.specs.Season.{held, net};
-ghost use Rattle.records.specs.Opening.{openingIn};
+ghost use Rattle.records.specs.Opening.{openingOf};
 ghost use Rattle.slots.specs.Layout.{ledgerIn};
 ghost use Rattle.slots.specs.Steps.{ReachableFigures, InFigures, queryAnswer};
 ghost use Rattle.awards.specs.Holdings.{HasHolding};
@@ -37,7 +37,7 @@ fn holding(f: &[u64], h: u64, p: u64, month: u64) -> u64
 
 // The holdings of all holders on a path in a month, added up.
 fn net_holding(o: &[u64], f: &[u64], p: u64, month: u64) -> u64
-    requires { ⌜ ReachableFigures (now o) (now f) × (p < openingIn (now o) .paths) × (1 ≤ month) × (month ≤ lastMonth) ⌝ }
+    requires { ⌜ ReachableFigures (now o) (now f) × (p < openingOf o .paths) × (1 ≤ month) × (month ≤ lastMonth) ⌝ }
     ensures { λ r. ⌜ InFigures (now (o .entry)) (now (f .entry)) (λ O L. r ≡ net O L p month) ⌝ }
 {
     let past = holders(o);
@@ -50,7 +50,7 @@ fn net_holding(o: &[u64], f: &[u64], p: u64, month: u64) -> u64
 
 // The first cause that a held query meets, 0 for none.
 fn held_refusal(o: &[u64], h: u64, p: u64, month: u64) -> u64
-    ensures { λ r. ⌜ ((L : Ledger) → r ≡ queryRefusal (openingIn (now (o .entry))) L (heldOn h p month)) ⌝ }
+    ensures { λ r. ⌜ ((L : Ledger) → r ≡ queryRefusal (openingOf (o .entry)) L (heldOn h p month)) ⌝ }
 {
     let unknown = no_holder(o, h) | no_path(o, p);
     let range = wrong_month(month);
@@ -59,7 +59,7 @@ fn held_refusal(o: &[u64], h: u64, p: u64, month: u64) -> u64
 
 // The first cause that a net query meets, 0 for none.
 fn net_refusal(o: &[u64], p: u64, month: u64) -> u64
-    ensures { λ r. ⌜ ((L : Ledger) → r ≡ queryRefusal (openingIn (now (o .entry))) L (netOn p month)) ⌝ }
+    ensures { λ r. ⌜ ((L : Ledger) → r ≡ queryRefusal (openingOf (o .entry)) L (netOn p month)) ⌝ }
 {
     let unknown = no_path(o, p);
     let range = wrong_month(month);

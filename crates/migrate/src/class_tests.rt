@@ -10,12 +10,12 @@ ghost use lib.Dec.{eqb};
 ghost use Rattle.tariff.specs.Sum.{anyBelow};
 ghost use Rattle.ledger.specs.Opening.{outsideEntity, holderKind};
 ghost use Rattle.ledger.specs.Ranges.{noHolder};
-ghost use Rattle.records.specs.Opening.{openingIn};
+ghost use Rattle.records.specs.Opening.{openingOf};
 ghost use Rattle.migrate.specs.Lines.{unknownAt, outOfRangeAt, notBetweenAt};
 
 // A line that names a holder who is not in the book.
 fn names_unknown(o: &[u64], from: u64, to: u64) -> bool
-    ensures { λ r. ⌜ r ≡ (noHolder (openingIn (now (o .entry))) from || noHolder (openingIn (now (o .entry))) to) ⌝ }
+    ensures { λ r. ⌜ r ≡ (noHolder (openingOf (o .entry)) from || noHolder (openingOf (o .entry)) to) ⌝ }
 {
     no_holder(o, from) | no_holder(o, to)
 }
@@ -23,7 +23,7 @@ fn names_unknown(o: &[u64], from: u64, to: u64) -> bool
 // Whether some line names a holder who is not in the book.
 pub fn any_unknown(o: &[u64], froms: &[u64], tos: &[u64]) -> bool
     requires { ⌜ length (now tos) ≡ length (now froms) ⌝ }
-    ensures { λ r. ⌜ r ≡ anyBelow (length (now (froms .entry))) (unknownAt (openingIn (now (o .entry))) (now (froms .entry)) (now (tos .entry))) ⌝ }
+    ensures { λ r. ⌜ r ≡ anyBelow (length (now (froms .entry))) (unknownAt (openingOf (o .entry)) (now (froms .entry)) (now (tos .entry))) ⌝ }
 {
     let mut k = 0;
     while k < froms.len() {
@@ -52,7 +52,7 @@ pub fn any_out_of_range(classes: &[u64], customers: &[u64], watts: &[u64]) -> bo
 
 // A line from a holder to itself, or with a holder outside the balancing area.
 fn not_between(o: &[u64], from: u64, to: u64) -> bool
-    ensures { λ r. ⌜ r ≡ (eqb from to || eqb (holderKind (openingIn (now (o .entry))) from) outsideEntity || eqb (holderKind (openingIn (now (o .entry))) to) outsideEntity) ⌝ }
+    ensures { λ r. ⌜ r ≡ (eqb from to || eqb (holderKind (openingOf (o .entry)) from) outsideEntity || eqb (holderKind (openingOf (o .entry)) to) outsideEntity) ⌝ }
 {
     let from_kind = holder_kind(o, from);
     let to_kind = holder_kind(o, to);
@@ -62,7 +62,7 @@ fn not_between(o: &[u64], from: u64, to: u64) -> bool
 // Whether some line is not between two different load-serving entities.
 pub fn any_not_between(o: &[u64], froms: &[u64], tos: &[u64]) -> bool
     requires { ⌜ length (now tos) ≡ length (now froms) ⌝ }
-    ensures { λ r. ⌜ r ≡ anyBelow (length (now (froms .entry))) (notBetweenAt (openingIn (now (o .entry))) (now (froms .entry)) (now (tos .entry))) ⌝ }
+    ensures { λ r. ⌜ r ≡ anyBelow (length (now (froms .entry))) (notBetweenAt (openingOf (o .entry)) (now (froms .entry)) (now (tos .entry))) ⌝ }
 {
     let mut k = 0;
     while k < froms.len() {

@@ -19,7 +19,7 @@ ghost use Rattle.tariff.specs.Sizes.{maxHolders, lastTerm};
 ghost use Rattle.tariff.specs.Sum.{allBelow};
 ghost use lib.Dec.{eqb};
 ghost use Rattle.migration.specs.Netting.{holderAt};
-ghost use Rattle.records.specs.Opening.{openingIn};
+ghost use Rattle.records.specs.Opening.{openingOf};
 ghost use Rattle.slots.specs.Layout.{loadSlot};
 ghost use Rattle.migrate.specs.Columns.{HasColumn, inColumn, columnAt, columnStored, Transferred};
 ghost use Rattle.migrate.specs.Transfers.{loadColumn, shareColumn, slotMoves, movesAt, columnWhere, loadAt, Covered, ColumnFits, SlotFits, PathFits, RightsFit};
@@ -113,7 +113,7 @@ fn transfer_slot(f: &mut [u64], term: u64, p: u64, slot: u64, x: Transfer)
 // The shares of a path's slots gone over, if its sink has this base. The slots that can move stand side by side: prior's, carried and awarded holdings.
 fn transfer_path(f: &mut [u64], o: &[u64], term: u64, sink: u64, p: u64, x: Transfer)
     requires { ⌜ PathFits (now o) (now f) term sink x p ⌝ }
-    ensures { λ r. ⌜ Transferred (columnWhere (λ q j. movesAt (openingIn (now (o .entry))) term sink q j && eqb q p) (shareColumn x)) (now (f .entry)) (now (f .exit)) ⌝ }
+    ensures { λ r. ⌜ Transferred (columnWhere (λ q j. movesAt (openingOf (o .entry)) term sink q j && eqb q p) (shareColumn x)) (now (f .entry)) (now (f .exit)) ⌝ }
 {
     if path_base(o, p) != sink {
         return;
@@ -128,7 +128,7 @@ fn transfer_path(f: &mut [u64], o: &[u64], term: u64, sink: u64, p: u64, x: Tran
 // The shares of every slot that moves gone over, path by path.
 pub fn transfer_rights(f: &mut [u64], o: &[u64], term: u64, sink: u64, x: Transfer)
     requires { ⌜ RightsFit (now o) (now f) term sink x ⌝ }
-    ensures { λ r. ⌜ Transferred (columnWhere (movesAt (openingIn (now (o .entry))) term sink) (shareColumn x)) (now (f .entry)) (now (f .exit)) ⌝ }
+    ensures { λ r. ⌜ Transferred (columnWhere (movesAt (openingOf (o .entry)) term sink) (shareColumn x)) (now (f .entry)) (now (f .exit)) ⌝ }
 {
     let mut p: u64 = 0;
     while p < MAX_PLACES as u64 {

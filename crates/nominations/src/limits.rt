@@ -23,7 +23,7 @@ ghost use mathlib.Core.Path.{_≡_};
 ghost use Rattle.ledger.specs.Call.{limitOf};
 ghost use Rattle.ledger.specs.Causes.{queryRefusal};
 ghost use Rattle.ledger.specs.Limits.{limitSums, tierLimit};
-ghost use Rattle.records.specs.Opening.{openingIn};
+ghost use Rattle.records.specs.Opening.{openingOf};
 ghost use Rattle.slots.specs.Steps.{ReachableFigures, InFigures, queryAnswer};
 ghost use Rattle.nominations.specs.Asked.{LimitAsked};
 ghost use Rattle.nominations.specs.PathSums.{withPath, sumsTo, PathFits, PathsSummable};
@@ -51,7 +51,7 @@ fn with_path(f: &[u64], h: u64, p: u64, carried: u64, before: u64, counts: bool,
 // The sums over all paths whose sink has this base, beside the load there.
 fn sum_paths(o: &[u64], f: &[u64], h: u64, base: u64, load: u64, carried: u64, before: u64) -> Sums
     requires { ⌜ PathsSummable (now o) (now f) h carried before ⌝ }
-    ensures { λ r. ⌜ r ≡ sumsTo (openingIn (now (o .entry))) (now (f .entry)) h base load carried before (openingIn (now (o .entry)) .paths) ⌝ }
+    ensures { λ r. ⌜ r ≡ sumsTo (openingOf (o .entry)) (now (f .entry)) h base load carried before (openingOf (o .entry) .paths) ⌝ }
 {
     let past = paths(o);
     let mut sums = Sums {

@@ -19,11 +19,11 @@ ghost use mathlib.Core.Path.{_≡_};
 ghost use Rattle.tariff.specs.Sum.{allBelow};
 ghost use Rattle.ledger.specs.Opening.{countsFit, holderLegal, parentLegal, sinkLegal, pathLegal, pathsAlike, pathNew, legal};
 ghost use lib.ListN.{length};
-ghost use Rattle.records.specs.Opening.{openingCount, openingIn};
+ghost use Rattle.records.specs.Opening.{openingCount, openingOf};
 
 // At most 8 holders, 16 sources, 16 sinks and 16 paths.
 fn counts_fit(o: &[u64]) -> bool
-    ensures { λ r. ⌜ r ≡ countsFit (openingIn (now (o .entry))) ⌝ }
+    ensures { λ r. ⌜ r ≡ countsFit (openingOf (o .entry)) ⌝ }
 {
     let few_holders = holders(o) <= MAX_HOLDERS as u64;
     let few_sources = sources(o) <= MAX_PLACES as u64;
@@ -34,7 +34,7 @@ fn counts_fit(o: &[u64]) -> bool
 
 // A holder is of kind 1 or 2.
 fn holder_legal(o: &[u64], h: u64) -> bool
-    ensures { λ r. ⌜ r ≡ holderLegal (openingIn (now (o .entry))) h ⌝ }
+    ensures { λ r. ⌜ r ≡ holderLegal (openingOf (o .entry)) h ⌝ }
 {
     let kind = holder_kind(o, h);
     (kind == LSE) | (kind == OBAALSE)
@@ -42,7 +42,7 @@ fn holder_legal(o: &[u64], h: u64) -> bool
 
 // A Sub-LAP's parent has a lower number and is a Default LAP.
 fn parent_legal(o: &[u64], s: u64) -> bool
-    ensures { λ r. ⌜ r ≡ parentLegal (openingIn (now (o .entry))) s ⌝ }
+    ensures { λ r. ⌜ r ≡ parentLegal (openingOf (o .entry)) s ⌝ }
 {
     let parent = sink_base(o, s);
     let parent_kind = sink_kind(o, parent);
@@ -51,7 +51,7 @@ fn parent_legal(o: &[u64], s: u64) -> bool
 
 // A sink is of kind 1 to 4; a Sub-LAP has a parent, any other sink names itself.
 fn sink_legal(o: &[u64], s: u64) -> bool
-    ensures { λ r. ⌜ r ≡ sinkLegal (openingIn (now (o .entry))) s ⌝ }
+    ensures { λ r. ⌜ r ≡ sinkLegal (openingOf (o .entry)) s ⌝ }
 {
     let kind = sink_kind(o, s);
     let kind_fits = (DEFAULT_LAP <= kind) & (kind <= SCHEDULING_POINT);
@@ -63,7 +63,7 @@ fn sink_legal(o: &[u64], s: u64) -> bool
 
 // A path's source and sink are in the book.
 fn path_legal(o: &[u64], p: u64) -> bool
-    ensures { λ r. ⌜ r ≡ pathLegal (openingIn (now (o .entry))) p ⌝ }
+    ensures { λ r. ⌜ r ≡ pathLegal (openingOf (o .entry)) p ⌝ }
 {
     let source = path_source(o, p);
     let sink = path_sink(o, p);
@@ -72,7 +72,7 @@ fn path_legal(o: &[u64], p: u64) -> bool
 
 // Two paths share both source and sink.
 fn paths_alike(o: &[u64], p: u64, q: u64) -> bool
-    ensures { λ r. ⌜ r ≡ pathsAlike (openingIn (now (o .entry))) p q ⌝ }
+    ensures { λ r. ⌜ r ≡ pathsAlike (openingOf (o .entry)) p q ⌝ }
 {
     let same_source = path_source(o, p) == path_source(o, q);
     let same_sink = path_sink(o, p) == path_sink(o, q);
@@ -81,7 +81,7 @@ fn paths_alike(o: &[u64], p: u64, q: u64) -> bool
 
 // Every holder is legal.
 fn holders_legal(o: &[u64]) -> bool
-    ensures { λ r. ⌜ r ≡ allBelow (openingIn (now (o .entry)) .holders) (holderLegal (openingIn (now (o .entry)))) ⌝ }
+    ensures { λ r. ⌜ r ≡ allBelow (openingOf (o .entry) .holders) (holderLegal (openingOf (o .entry))) ⌝ }
 {
     let past = holders(o);
     let mut h: u64 = 0;
@@ -96,7 +96,7 @@ fn holders_legal(o: &[u64]) -> bool
 
 // Every sink is legal.
 fn sinks_legal(o: &[u64]) -> bool
-    ensures { λ r. ⌜ r ≡ allBelow (openingIn (now (o .entry)) .sinks) (sinkLegal (openingIn (now (o .entry)))) ⌝ }
+    ensures { λ r. ⌜ r ≡ allBelow (openingOf (o .entry) .sinks) (sinkLegal (openingOf (o .entry))) ⌝ }
 {
     let past = sinks(o);
     let mut s: u64 = 0;
@@ -111,7 +111,7 @@ fn sinks_legal(o: &[u64]) -> bool
 
 // Every path is legal.
 fn paths_legal(o: &[u64]) -> bool
-    ensures { λ r. ⌜ r ≡ allBelow (openingIn (now (o .entry)) .paths) (pathLegal (openingIn (now (o .entry)))) ⌝ }
+    ensures { λ r. ⌜ r ≡ allBelow (openingOf (o .entry) .paths) (pathLegal (openingOf (o .entry))) ⌝ }
 {
     let past = paths(o);
     let mut p: u64 = 0;
@@ -126,7 +126,7 @@ fn paths_legal(o: &[u64]) -> bool
 
 // No two paths share both source and sink. The first pair that does ends the search.
 fn paths_differ(o: &[u64]) -> bool
-    ensures { λ r. ⌜ r ≡ allBelow (openingIn (now (o .entry)) .paths) (pathNew (openingIn (now (o .entry)))) ⌝ }
+    ensures { λ r. ⌜ r ≡ allBelow (openingOf (o .entry) .paths) (pathNew (openingOf (o .entry))) ⌝ }
 {
     let past = paths(o);
     let mut differ = true;
@@ -148,7 +148,7 @@ fn paths_differ(o: &[u64]) -> bool
 // The opening breaks no rule. The counts come first, as they bound the loops of the rest.
 pub fn is_legal(o: &[u64]) -> bool
     requires { ⌜ length (now o) ≡ openingCount ⌝ }
-    ensures { λ r. ⌜ r ≡ legal (openingIn (now (o .entry))) ⌝ }
+    ensures { λ r. ⌜ r ≡ legal (openingOf (o .entry)) ⌝ }
 {
     if !counts_fit(o) {
         return false;

@@ -14,7 +14,7 @@ ghost use Prim.Native.Nat.{ℕ};
 ghost use lib.ListN.{length, getD, take};
 ghost use Rattle.tariff.specs.Sum.{listTo};
 ghost use Rattle.ledger.specs.Opening.{listsFit};
-ghost use Rattle.records.specs.Opening.{openingCount, basesAt, openingIn, openingLists, pathBases, openingFrom};
+ghost use Rattle.records.specs.Opening.{openingCount, basesAt, openingOf, openingLists, pathBases, openingFrom};
 
 // A list copied into an array: 0 past the list's end, and what finds no room is left out.
 fn copy_into(to: &mut [u64], from: &[u64])
@@ -56,7 +56,7 @@ pub fn keep_opening(
 
 // The base of each path of the opening that an array keeps.
 fn path_bases(o: &[u64]) -> [u64; MAX_PLACES]
-    ensures { λ r. ⌜ r ≡ pathBases (openingIn (now (o .entry))) ⌝ }
+    ensures { λ r. ⌜ r ≡ pathBases (openingOf (o .entry)) ⌝ }
 {
     let mut bases = [0u64; MAX_PLACES];
     let mut p = 0;
@@ -70,7 +70,7 @@ fn path_bases(o: &[u64]) -> [u64; MAX_PLACES]
 // The bases kept behind the lists.
 pub fn keep_bases(o: &mut [u64])
     requires { ⌜ length (now o) ≡ openingCount ⌝ }
-    ensures { λ r. ⌜ now (o .exit) ≡ take basesAt (now (o .entry)) ++ pathBases (openingIn (now (o .entry))) ⌝ }
+    ensures { λ r. ⌜ now (o .exit) ≡ take basesAt (now (o .entry)) ++ pathBases (openingOf (o .entry)) ⌝ }
 {
     let bases = path_bases(o);
     copy_into(&mut o[BASES..OPENING], &bases);

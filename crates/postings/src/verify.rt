@@ -33,7 +33,7 @@ ghost use Rattle.tariff.specs.Evidence.{entryOf};
 ghost use Rattle.tariff.specs.Ranges.{wrongEvidence};
 ghost use Rattle.ledger.specs.Call.{verify};
 ghost use Rattle.ledger.specs.Causes.{refusal};
-ghost use Rattle.records.specs.Opening.{openingIn};
+ghost use Rattle.records.specs.Opening.{openingOf};
 ghost use Rattle.slots.specs.Cells.{HasCell, storedAt};
 ghost use Rattle.slots.specs.Layout.{evidenceSlots, ledgerIn};
 ghost use Rattle.slots.specs.Steps.{Reachable, ReachablePostings, InPostings, Steps};
@@ -128,7 +128,7 @@ pub fn verify(
     last: u64,
 ) -> VerifyOutcome
     requires { ⌜ Reachable (now o) (now f) (now m) evidence ⌝ }
-    ensures { λ r. ⌜ Steps (openingIn (now (o .entry))) (ledgerIn (now (f .entry)) (now (m .entry)) evidence) (verify h s kind capacity right first last) (r .answer) (now (f .exit)) (now (m .exit)) (r .evidence) ⌝ }
+    ensures { λ r. ⌜ Steps (openingOf (o .entry)) (ledgerIn (now (f .entry)) (now (m .entry)) evidence) (verify h s kind capacity right first last) (r .answer) (now (f .exit)) (now (m .exit)) (r .evidence) ⌝ }
 {
     let number = verify_refusal(o, f, m, h, s, kind, capacity, right, first, last);
     if number != 0 {

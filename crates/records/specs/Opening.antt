@@ -2,6 +2,7 @@
 use Prim.Native.Nat.{ℕ}
 use mathlib.Core.Path.{_≡_}
 use mathlib.Core.List.{List, [], _∷_, _++_}
+use denote.Ref.{RefT, now}
 use lib.ListN.{take, drop, getD}
 use Rattle.tariff.specs.Sizes.{maxHolders, maxPlaces}
 use Rattle.tariff.specs.Sum.{listTo}
@@ -46,6 +47,10 @@ openingIn o =
       pathSources = take (getD o 3 0) (take maxPlaces (drop pathSourcesAt o));
       pathSinks = take (getD o 3 0) (take maxPlaces (drop pathSinksAt o));
     }
+
+-- the opening that a lent array keeps
+abbrev pub openingOf : RefT (List ℕ) → Opening
+openingOf o = openingIn (now o)
 
 -- a list with room for as many entries: what is past its end is 0
 abbrev pub withRoom : ℕ → List ℕ → List ℕ

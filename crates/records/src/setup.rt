@@ -12,7 +12,7 @@ ghost use Rattle.tariff.specs.Sizes.{maxPlaces};
 ghost use Rattle.ledger.specs.Opening.{holderKind, sinkKind, base, pathSource, pathSink, pathBase};
 ghost use Rattle.ledger.specs.Ranges.{noHolder, noSource, noSink, noPath};
 ghost use Rattle.ledger.specs.Causes.{sinkNotFor, isSubLap};
-ghost use Rattle.records.specs.Opening.{openingIn, KeepsBases};
+ghost use Rattle.records.specs.Opening.{openingOf, KeepsBases};
 
 // Where the lists stand behind the four counts, each with room for as many as a book can have.
 pub const HOLDER_KINDS: usize = 4;
@@ -32,86 +32,86 @@ pub const BASES: usize = 76;
 pub const OPENING: usize = 92;
 
 pub fn holders(o: &[u64]) -> u64
-    ensures { λ r. ⌜ r ≡ openingIn (now (o .entry)) .holders ⌝ }
+    ensures { λ r. ⌜ r ≡ openingOf (o .entry) .holders ⌝ }
 {
     number_at(o, 0)
 }
 
 pub fn sources(o: &[u64]) -> u64
-    ensures { λ r. ⌜ r ≡ openingIn (now (o .entry)) .sources ⌝ }
+    ensures { λ r. ⌜ r ≡ openingOf (o .entry) .sources ⌝ }
 {
     number_at(o, 1)
 }
 
 pub fn sinks(o: &[u64]) -> u64
-    ensures { λ r. ⌜ r ≡ openingIn (now (o .entry)) .sinks ⌝ }
+    ensures { λ r. ⌜ r ≡ openingOf (o .entry) .sinks ⌝ }
 {
     number_at(o, 2)
 }
 
 pub fn paths(o: &[u64]) -> u64
-    ensures { λ r. ⌜ r ≡ openingIn (now (o .entry)) .paths ⌝ }
+    ensures { λ r. ⌜ r ≡ openingOf (o .entry) .paths ⌝ }
 {
     number_at(o, 3)
 }
 
 pub fn no_holder(o: &[u64], h: u64) -> bool
-    ensures { λ r. ⌜ r ≡ noHolder (openingIn (now (o .entry))) h ⌝ }
+    ensures { λ r. ⌜ r ≡ noHolder (openingOf (o .entry)) h ⌝ }
 {
     holders(o) <= h
 }
 
 pub fn no_source(o: &[u64], s: u64) -> bool
-    ensures { λ r. ⌜ r ≡ noSource (openingIn (now (o .entry))) s ⌝ }
+    ensures { λ r. ⌜ r ≡ noSource (openingOf (o .entry)) s ⌝ }
 {
     sources(o) <= s
 }
 
 pub fn no_sink(o: &[u64], s: u64) -> bool
-    ensures { λ r. ⌜ r ≡ noSink (openingIn (now (o .entry))) s ⌝ }
+    ensures { λ r. ⌜ r ≡ noSink (openingOf (o .entry)) s ⌝ }
 {
     sinks(o) <= s
 }
 
 pub fn no_path(o: &[u64], p: u64) -> bool
-    ensures { λ r. ⌜ r ≡ noPath (openingIn (now (o .entry))) p ⌝ }
+    ensures { λ r. ⌜ r ≡ noPath (openingOf (o .entry)) p ⌝ }
 {
     paths(o) <= p
 }
 
 pub fn holder_kind(o: &[u64], h: u64) -> u64
-    ensures { λ r. ⌜ r ≡ holderKind (openingIn (now (o .entry))) h ⌝ }
+    ensures { λ r. ⌜ r ≡ holderKind (openingOf (o .entry)) h ⌝ }
 {
     listed(o, HOLDER_KINDS, MAX_HOLDERS as u64, holders(o), h)
 }
 
 pub fn sink_kind(o: &[u64], s: u64) -> u64
-    ensures { λ r. ⌜ r ≡ sinkKind (openingIn (now (o .entry))) s ⌝ }
+    ensures { λ r. ⌜ r ≡ sinkKind (openingOf (o .entry)) s ⌝ }
 {
     listed(o, SINK_KINDS, MAX_PLACES as u64, sinks(o), s)
 }
 
 pub fn sink_base(o: &[u64], s: u64) -> u64
-    ensures { λ r. ⌜ r ≡ base (openingIn (now (o .entry))) s ⌝ }
+    ensures { λ r. ⌜ r ≡ base (openingOf (o .entry)) s ⌝ }
 {
     listed(o, SINK_PARENTS, MAX_PLACES as u64, sinks(o), s)
 }
 
 pub fn path_source(o: &[u64], p: u64) -> u64
-    ensures { λ r. ⌜ r ≡ pathSource (openingIn (now (o .entry))) p ⌝ }
+    ensures { λ r. ⌜ r ≡ pathSource (openingOf (o .entry)) p ⌝ }
 {
     listed(o, PATH_SOURCES, MAX_PLACES as u64, paths(o), p)
 }
 
 pub fn path_sink(o: &[u64], p: u64) -> u64
-    ensures { λ r. ⌜ r ≡ pathSink (openingIn (now (o .entry))) p ⌝ }
+    ensures { λ r. ⌜ r ≡ pathSink (openingOf (o .entry)) p ⌝ }
 {
     listed(o, PATH_SINKS, MAX_PLACES as u64, paths(o), p)
 }
 
 // The base of a path's sink, looked up by way of the sink.
 pub fn base_by_sink(o: &[u64], p: u64) -> u64
-    ensures { λ r. ⌜ r ≡ pathBase (openingIn (now (o .entry))) p ⌝ }
+    ensures { λ r. ⌜ r ≡ pathBase (openingOf (o .entry)) p ⌝ }
 {
     let sink = path_sink(o, p);
     sink_base(o, sink)
@@ -120,14 +120,14 @@ pub fn base_by_sink(o: &[u64], p: u64) -> u64
 // The base of a path's sink, as it is kept.
 pub fn path_base(o: &[u64], p: u64) -> u64
     requires { ⌜ KeepsBases (now o) × (p < maxPlaces) ⌝ }
-    ensures { λ r. ⌜ r ≡ pathBase (openingIn (now (o .entry))) p ⌝ }
+    ensures { λ r. ⌜ r ≡ pathBase (openingOf (o .entry)) p ⌝ }
 {
     o[BASES + p as usize]
 }
 
 // A scheduling point is not for a load-serving entity, and nothing else is for an outside entity.
 pub fn sink_not_for(o: &[u64], h: u64, s: u64) -> bool
-    ensures { λ r. ⌜ r ≡ sinkNotFor (openingIn (now (o .entry))) h s ⌝ }
+    ensures { λ r. ⌜ r ≡ sinkNotFor (openingOf (o .entry)) h s ⌝ }
 {
     let scheduling_point = sink_kind(o, s) == SCHEDULING_POINT;
     if holder_kind(o, h) == LSE {
@@ -137,7 +137,7 @@ pub fn sink_not_for(o: &[u64], h: u64, s: u64) -> bool
 }
 
 pub fn is_sub_lap(o: &[u64], s: u64) -> bool
-    ensures { λ r. ⌜ r ≡ isSubLap (openingIn (now (o .entry))) s ⌝ }
+    ensures { λ r. ⌜ r ≡ isSubLap (openingOf (o .entry)) s ⌝ }
 {
     sink_kind(o, s) == SUB_LAP
 }

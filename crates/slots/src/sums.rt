@@ -7,13 +7,13 @@ use records::sums::count_if;
 ghost use mathlib.Core.Path.{_≡_};
 ghost use Rattle.ledger.specs.Limits.{sumAtBase};
 ghost use Rattle.ledger.specs.Verification.{sumFromSource};
-ghost use Rattle.records.specs.Opening.{openingIn};
+ghost use Rattle.records.specs.Opening.{openingOf};
 ghost use Rattle.slots.specs.Sums.{onPath, Summable};
 
 // What a holder has in a slot on the paths whose sink has this base.
 pub fn sum_at_base(o: &[u64], f: &[u64], h: u64, slot: u64, base: u64) -> u64
     requires { ⌜ Summable (now o) (now f) h slot ⌝ }
-    ensures { λ r. ⌜ r ≡ sumAtBase (openingIn (now (o .entry))) base (onPath (now (f .entry)) h slot) ⌝ }
+    ensures { λ r. ⌜ r ≡ sumAtBase (openingOf (o .entry)) base (onPath (now (f .entry)) h slot) ⌝ }
 {
     let past = paths(o);
     let mut sum: u64 = 0;
@@ -27,7 +27,7 @@ pub fn sum_at_base(o: &[u64], f: &[u64], h: u64, slot: u64, base: u64) -> u64
 // What a holder has in a slot on the paths from this source.
 pub fn sum_from_source(o: &[u64], f: &[u64], h: u64, slot: u64, source: u64) -> u64
     requires { ⌜ Summable (now o) (now f) h slot ⌝ }
-    ensures { λ r. ⌜ r ≡ sumFromSource (openingIn (now (o .entry))) source (onPath (now (f .entry)) h slot) ⌝ }
+    ensures { λ r. ⌜ r ≡ sumFromSource (openingOf (o .entry)) source (onPath (now (f .entry)) h slot) ⌝ }
 {
     let past = paths(o);
     let mut sum: u64 = 0;
