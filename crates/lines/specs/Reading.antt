@@ -11,7 +11,7 @@ use Rattle.lines.specs.declared.rows.Row.{Row}
 use Rattle.lines.specs.declared.rows.Fields.{Fields}
 use Rattle.lines.specs.declared.lines.NextRow.{NextRow}
 use Rattle.lines.specs.Text.{lineFeed, Line, ended, unended, linesOf, fieldsOf, allDigits, isNumber, valueAfter, valueOf}
-use Rattle.lines.specs.Rows.{allNumbers, unreadableRow, rowOf}
+use Rattle.lines.specs.Rows.{maxFields, allNumbers, unreadableRow, rowOf}
 
 -- how many bytes stand before the first that is the stop, all of them if none is
 unfoldable pub lengthUpTo : ℕ → List ℕ → ℕ
@@ -41,13 +41,13 @@ fieldsAfter [] = []
 fieldsAfter (b ∷ bytes) = fieldsOf bytes
 
 unfoldable pub noFields : Fields
-noFields = record { readable = false; count = 0; numbers = listTo 7 (λ k. 0) }
+noFields = record { readable = false; count = 0; numbers = listTo maxFields (λ k. 0) }
 
 -- fields of which each is a number, at most seven: how many, and their values, 0 past the last
 unfoldable pub fieldsRead : List (List ℕ) → Fields
 fieldsRead fields =
-    cond (allNumbers fields && leb (length fields) 7)
-    (record { readable = true; count = length fields; numbers = listTo 7 (λ k. getD (map valueOf fields) k 0) })
+    cond (allNumbers fields && leb (length fields) maxFields)
+    (record { readable = true; count = length fields; numbers = listTo maxFields (λ k. getD (map valueOf fields) k 0) })
     noFields
 
 -- the row of the first line; where there is none, that of a line that cannot be read

@@ -110,9 +110,13 @@ unfoldable pub allNumbers : List (List ℕ) → Bool
 allNumbers [] = true
 allNumbers (field ∷ fields) = isNumber field && allNumbers fields
 
--- a line's kind and its numbers, 0 past the last; no line has more than seven
+-- no line has more fields
+abbrev pub maxFields : ℕ
+maxFields = 7
+
+-- a line's kind and its numbers, 0 past the last
 unfoldable pub row : ℕ → List ℕ → Row
-row kind numbers = record { kind = kind; fields = listTo 7 (λ k. getD numbers k 0) }
+row kind numbers = record { kind = kind; fields = listTo maxFields (λ k. getD numbers k 0) }
 
 unfoldable pub unreadableRow : Row
 unreadableRow = row unreadable []

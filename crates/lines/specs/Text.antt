@@ -65,8 +65,11 @@ allDigits [] = true
 allDigits (b ∷ bytes) = isDigit b && allDigits bytes
 
 -- a number has 1 to 9 digits, and no leading zero but 0 itself
+abbrev pub maxDigits : ℕ
+maxDigits = 9
+
 unfoldable pub isNumber : List ℕ → Bool
-isNumber field = within 1 9 (length field) && allDigits field && (eqb (length field) 1 || not (eqb (getD field 0 0) 48))
+isNumber field = within 1 maxDigits (length field) && allDigits field && (eqb (length field) 1 || not (eqb (getD field 0 0) 48))
 
 -- the value of digits, that of those before them being given
 unfoldable pub valueAfter : ℕ → List ℕ → ℕ

@@ -51,19 +51,19 @@ pub const NET: u64 = 18;
 const COMMA: u8 = b',';
 
 // No line has more fields.
-const MOST_FIELDS: usize = 7;
+pub const MAX_FIELDS: usize = 7;
 
 // A line's kind, 0 for one that cannot be read, and its numbers, 0 past the last.
 pub struct Row {
     pub kind: u64,
-    pub fields: [u64; 7],
+    pub fields: [u64; MAX_FIELDS],
 }
 
 // The fields after a line's word: whether each is a number and there are at most seven, how many, and their values.
 struct Fields {
     readable: bool,
     count: u64,
-    numbers: [u64; 7],
+    numbers: [u64; MAX_FIELDS],
 }
 
 // Two words have the same bytes.
@@ -209,7 +209,7 @@ pub fn unreadable_row() -> Row
 {
     Row {
         kind: UNREADABLE,
-        fields: [0u64; 7],
+        fields: [0u64; MAX_FIELDS],
     }
 }
 
@@ -219,7 +219,7 @@ fn no_fields() -> Fields
     Fields {
         readable: false,
         count: 0,
-        numbers: [0u64; 7],
+        numbers: [0u64; MAX_FIELDS],
     }
 }
 
@@ -235,7 +235,7 @@ fn field_end(text: &[u8], from: usize) -> usize
 fn read_fields(text: &[u8], start: usize) -> Fields
     ensures { λ r. ⌜ r ≡ fieldsRead (fieldsAfter (drop start (now (text .entry)))) ⌝ }
 {
-    let mut numbers = [0u64; 7];
+    let mut numbers = [0u64; MAX_FIELDS];
     let mut count: usize = 0;
     let mut at = start;
     while at < text.len() {
@@ -245,7 +245,7 @@ fn read_fields(text: &[u8], start: usize) -> Fields
         let Numeral::Value(value) = number else {
             return no_fields();
         };
-        if count == MOST_FIELDS {
+        if count == MAX_FIELDS {
             return no_fields();
         }
         numbers[count] = value;

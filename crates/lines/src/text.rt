@@ -2,7 +2,7 @@
 ghost use mathlib.Core.Path.{_≡_};
 ghost use Prim.Native.Nat.{_≤_};
 ghost use lib.ListN.{length};
-ghost use Rattle.lines.specs.Text.{lineFeed, linesOf};
+ghost use Rattle.lines.specs.Text.{lineFeed, maxDigits, linesOf};
 ghost use Rattle.lines.specs.Reading.{chunkBytes, feedsIn, lengthUpTo, numeral, digitsRead};
 
 // The most bytes that a run takes.
@@ -13,6 +13,9 @@ pub const MAX_LINES: usize = 4096;
 
 // The bytes of output that a run asks for each line of its script.
 pub const BYTES_PER_LINE: u64 = 16;
+
+// The most digits of a number.
+const MAX_DIGITS: usize = 9;
 
 const LINE_FEED: u8 = 10;
 
@@ -92,7 +95,7 @@ pub fn count_lines(script: &[u8]) -> u64
 
 // The value of at most 9 bytes, where all of them are digits.
 fn read_digits(field: &[u8]) -> Numeral
-    requires { ⌜ length (now field) ≤ 9 ⌝ }
+    requires { ⌜ length (now field) ≤ maxDigits ⌝ }
     ensures { λ r. ⌜ r ≡ digitsRead 0 (now (field .entry)) ⌝ }
 {
     let mut value: u64 = 0;
@@ -120,7 +123,7 @@ pub fn read_number(field: &[u8]) -> Numeral
     if length < 1 {
         return Numeral::No;
     }
-    if 9 < length {
+    if MAX_DIGITS < length {
         return Numeral::No;
     }
     if 1 < length {
