@@ -10,6 +10,7 @@ use lib.Dec.{ltb}
 use borrow.Author.Tests.{eq-eqb}
 use Rattle.tariff.specs.declared.evidence.Entry.{Entry}
 use Rattle.tariff.specs.Sum.{countIf}
+use Rattle.tariff.specs.Sizes.{lastMonth, lastTier}
 use Rattle.tariff.specs.Terms.{termOf}
 use Rattle.ledger.specs.Opening.{Opening}
 use Rattle.ledger.specs.Ledger.{Ledger, withRights, withTiers}
@@ -21,7 +22,7 @@ use Rattle.records.specs.declared.answers.Answer.the-variants.{Done}
 use Rattle.records.specs.Opening.{openingIn}
 use Rattle.slots.specs.Cells.{HasCell, readAt, addedAt}
 use Rattle.slots.specs.Groups.{slotsOf}
-use Rattle.slots.specs.Layout.{figureSlots, figureCount, figureGroups, postedGroups, evidenceGroups, calendarOf, figuresOf, postedOf, evidenceOf, currentTierIn, figureIn, ledgerIn}
+use Rattle.slots.specs.Layout.{figureSlots, figureCount, figureGroups, postedGroups, evidenceGroups, calendarOf, figuresOf, postedOf, evidenceOf, currentTierIn, figureIn, ledgerIn, awardedSlot, nominatedSlot, awardsSlot, tierSlots, ownershipSlot}
 use Rattle.slots.specs.Months.{addedInTerm, HasRoom}
 use Rattle.slots.specs.Steps.{Reachable, Steps}
 use Rattle.slots.proofs.CellLaws.{shown-is}
@@ -34,23 +35,23 @@ use Rattle.slots.proofs.StepLaws.{accepted-test, steps-accepted}
 use Rattle.awards.proofs.RowRoom.{row-room, room-after-term}
 
 -- the nominations of the open tier stand by themselves
-nominated-now : (f : List ℕ) (m : List Bool) (x : List Entry) (h p : ℕ) → ledgerIn f m x .tiers .nominated h p (currentTierIn f) ≡ figureIn f 12 1 0 h p 0
+nominated-now : (f : List ℕ) (m : List Bool) (x : List Entry) (h p : ℕ) → ledgerIn f m x .tiers .nominated h p (currentTierIn f) ≡ figureIn f nominatedSlot 1 0 h p 0
 unfolding ledgerIn
-nominated-now f m x h p = ap (λ t. cond t (figureIn f 12 1 0 h p 0) (figureIn f 13 10 0 h p (currentTierIn f))) (eq-eqb (currentTierIn f) (currentTierIn f) refl)
+nominated-now f m x h p = ap (λ t. cond t (figureIn f nominatedSlot 1 0 h p 0) (figureIn f awardsSlot tierSlots 0 h p (currentTierIn f))) (eq-eqb (currentTierIn f) (currentTierIn f) refl)
 
 -- cause 14
-pub nominated-test : (f : List ℕ) (m : List Bool) (x : List Entry) (h p kw tier nominated awards : ℕ) → tier ≡ currentTierIn f → tier ≤ 9 → HasRoom f h p 12 23 kw → nominated ≡ readAt figureSlots 0 f h p 12 → awards ≡ readAt figureSlots 0 f h p (13 + tier) → ltb nominated (awards + kw) ≡ beyondNominated (ledgerIn f m x) (currentTierIn f) h p kw
+pub nominated-test : (f : List ℕ) (m : List Bool) (x : List Entry) (h p kw tier nominated awards : ℕ) → tier ≡ currentTierIn f → tier ≤ lastTier → HasRoom f h p nominatedSlot ownershipSlot kw → nominated ≡ readAt figureSlots 0 f h p nominatedSlot → awards ≡ readAt figureSlots 0 f h p (awardsSlot + tier) → ltb nominated (awards + kw) ≡ beyondNominated (ledgerIn f m x) (currentTierIn f) h p kw
 unfolding beyondNominated ledgerIn
 nominated-test f m x h p kw tier nominated awards now last k n a = λ i. ltb (nominations i) (granted i + kw)
   where
     nominations : nominated ≡ ledgerIn f m x .tiers .nominated h p (currentTierIn f)
-    nominations = n ∙ from-zero f 12 1 h p 0 (k .holder) (k .place) (omega arith) ∙ sym (nominated-now f m x h p)
+    nominations = n ∙ from-zero f nominatedSlot 1 h p 0 (k .holder) (k .place) (omega arith) ∙ sym (nominated-now f m x h p)
 
-    granted : awards ≡ figureIn f 13 10 0 h p (currentTierIn f)
-    granted = a ∙ from-zero f 13 10 h p tier (k .holder) (k .place) (omega arith) ∙ ap (figureIn f 13 10 0 h p) now
+    granted : awards ≡ figureIn f awardsSlot tierSlots 0 h p (currentTierIn f)
+    granted = a ∙ from-zero f awardsSlot tierSlots h p tier (k .holder) (k .place) (omega arith) ∙ ap (figureIn f awardsSlot tierSlots 0 h p) now
 
 -- the open tier is one of nine
-pub tier-within : (o f : List ℕ) (m : List Bool) (x : List Entry) (tier : ℕ) → Reachable o f m x → tier ≡ currentTierIn f → tier ≤ 9
+pub tier-within : (o f : List ℕ) (m : List Bool) (x : List Entry) (tier : ℕ) → Reachable o f m x → tier ≡ currentTierIn f → tier ≤ lastTier
 unfolding ledgerIn
 tier-within o f m x tier r now = let last = sound o f m x r .openLast in omega arith
 
@@ -71,27 +72,27 @@ module _ (o f : List ℕ) (m : List Bool) (x : List Entry) (h p kw number : ℕ)
   path = le-trans (facts .path) (counts o f m x r .3)
 
   -- the slots of the months have room for the kW ..
-  pub months-room : HasRoom f h p 9 12 kw
-  months-room = row-room o f m x h p kw 9 12 r (facts .holder) (facts .path) (facts .high) (omega arith)
+  pub months-room : HasRoom f h p awardedSlot (awardedSlot + lastMonth) kw
+  months-room = row-room o f m x h p kw awardedSlot (awardedSlot + lastMonth) r (facts .holder) (facts .path) (facts .high) (omega arith)
 
   -- .. and after them that of the tier
-  pub tier-room : (tier term : ℕ) (f′ : List ℕ) → tier ≡ currentTierIn f → f′ ≡ addedInTerm f h p 9 term kw → HasCell figureSlots h p (13 + tier) × (length f′ ≡ figureCount) × (readAt figureSlots 0 f′ h p (13 + tier) + kw < 2 ^ 64)
+  pub tier-room : (tier term : ℕ) (f′ : List ℕ) → tier ≡ currentTierIn f → f′ ≡ addedInTerm f h p awardedSlot term kw → HasCell figureSlots h p (awardsSlot + tier) × (length f′ ≡ figureCount) × (readAt figureSlots 0 f′ h p (awardsSlot + tier) + kw < 2 ^ 64)
   tier-room tier term f′ now e =
       let last = tier-within o f m x tier r now in
-      room-now f′ h p (13 + tier) 23 kw kw
-      (room-after-term f f′ h p 9 23 term kw (13 + tier) (row-room o f m x h p kw 9 23 r (facts .holder) (facts .path) (facts .high) (omega arith)) (omega arith) (omega arith) e) (omega arith) (omega arith)
+      room-now f′ h p (awardsSlot + tier) ownershipSlot kw kw
+      (room-after-term f f′ h p awardedSlot ownershipSlot term kw (awardsSlot + tier) (row-room o f m x h p kw awardedSlot ownershipSlot r (facts .holder) (facts .path) (facts .high) (omega arith)) (omega arith) (omega arith) e) (omega arith) (omega arith)
 
   -- the awarded rights and the tier's awards are new, and nothing else
   abbrev months : Ledger
   months = withRights L (holdingsAfter (L .rights) (L .tiers .openNow) h p kw)
 
-  awarded : addedAt figureSlots (addedInTerm f h p 9 (termOf (L .tiers .openNow)) kw) h p (13 + L .tiers .openNow) kw ≡ figuresOf (effect O L (award h p kw))
+  awarded : addedAt figureSlots (addedInTerm f h p awardedSlot (termOf (L .tiers .openNow)) kw) h p (awardsSlot + L .tiers .openNow) kw ≡ figuresOf (effect O L (award h p kw))
   unfolding figuresOf figureGroups calendarOf slotsOf effect withRights withTiers holdingsAfter awardsAfter plusAt3
   awarded =
-      shown-is figureSlots 0 _ (addedAt figureSlots (addedInTerm f h p 9 (termOf (L .tiers .openNow)) kw) h p (13 + L .tiers .openNow) kw) (calendarOf L) (omega arith)
-      (slot-added figureSlots 13 10 0 (take 6 (figureGroups months)) (drop 7 (figureGroups months)) refl (omega arith) (L .tiers .awards) (plusAt3 h p (L .tiers .openNow) kw (L .tiers .awards)) _ (calendarOf L) h p (L .tiers .openNow) kw holder path (let last = sound o f m x r .openLast in omega arith)
+      shown-is figureSlots 0 _ (addedAt figureSlots (addedInTerm f h p awardedSlot (termOf (L .tiers .openNow)) kw) h p (awardsSlot + L .tiers .openNow) kw) (calendarOf L) (omega arith)
+      (slot-added figureSlots awardsSlot tierSlots 0 (take 6 (figureGroups months)) (drop 7 (figureGroups months)) refl (omega arith) (L .tiers .awards) (plusAt3 h p (L .tiers .openNow) kw (L .tiers .awards)) _ (calendarOf L) h p (L .tiers .openNow) kw holder path (let last = sound o f m x r .openLast in omega arith)
       (λ i j n low high. ap (λ k. L .tiers .awards i j n + countIf (same3 h p k i j n) kw) (sym (add-zero (L .tiers .openNow))))
-      (term-added (take 4 (figureGroups L)) (drop 5 (figureGroups L)) 9 (L .rights .awarded) f (calendarOf L) h p (termOf (L .tiers .openNow)) kw refl (omega arith) holder path (figures-shown o f m x r)))
+      (term-added (take 4 (figureGroups L)) (drop 5 (figureGroups L)) awardedSlot (L .rights .awarded) f (calendarOf L) h p (termOf (L .tiers .openNow)) kw refl (omega arith) holder path (figures-shown o f m x r)))
 
   noted : m ≡ postedOf (effect O L (award h p kw))
   unfolding postedOf postedGroups effect withRights withTiers holdingsAfter
@@ -101,9 +102,9 @@ module _ (o f : List ℕ) (m : List Bool) (x : List Entry) (h p kw number : ℕ)
   unfolding evidenceOf evidenceGroups effect withRights withTiers
   filed = evidence-known o f m x r
 
-  pub award-steps : (tier term : ℕ) (f′ f″ : List ℕ) → tier ≡ currentTierIn f → term ≡ termOf tier → f′ ≡ addedInTerm f h p 9 term kw → f″ ≡ addedAt figureSlots f′ h p (13 + tier) kw → Steps O L (award h p kw) Done f″ m x
+  pub award-steps : (tier term : ℕ) (f′ f″ : List ℕ) → tier ≡ currentTierIn f → term ≡ termOf tier → f′ ≡ addedInTerm f h p awardedSlot term kw → f″ ≡ addedAt figureSlots f′ h p (awardsSlot + tier) kw → Steps O L (award h p kw) Done f″ m x
   unfolding ledgerIn
   award-steps tier term f′ f″ now t one two =
       steps-accepted O L (award h p kw) number found f″ m x zero
-      (two ∙ (λ i. addedAt figureSlots ((one ∙ ap (λ k. addedInTerm f h p 9 k kw) (t ∙ ap termOf now)) i) h p (13 + now i) kw) ∙ awarded)
+      (two ∙ (λ i. addedAt figureSlots ((one ∙ ap (λ k. addedInTerm f h p awardedSlot k kw) (t ∙ ap termOf now)) i) h p (awardsSlot + now i) kw) ∙ awarded)
       noted filed

@@ -10,6 +10,7 @@ use Rattle.tariff.specs.declared.evidence.Entry.{Entry}
 use Rattle.tariff.specs.Ranges.{wrongMonth, within}
 use Rattle.tariff.specs.Terms.{isMonth}
 use Rattle.tariff.specs.Sum.{sumTo}
+use Rattle.tariff.specs.Sizes.{lastMonth}
 use Rattle.tariff.proofs.Sums.{sum-add, sum-part-le}
 use Rattle.tariff.proofs.Tests.{or-unmet}
 use Rattle.ledger.specs.Opening.{Opening}
@@ -23,7 +24,7 @@ use Rattle.ledger.proofs.Conserved.{carriedSum, awardedSum}
 use Rattle.ledger.proofs.Unmet.{unmet, is-within}
 use Rattle.records.specs.Opening.{openingIn}
 use Rattle.slots.specs.Cells.{readAt}
-use Rattle.slots.specs.Layout.{figureSlots, ledgerIn}
+use Rattle.slots.specs.Layout.{figureSlots, ledgerIn, carriedSlot, awardedSlot}
 use Rattle.slots.specs.Sums.{maxFigure}
 use Rattle.slots.specs.Steps.{Reachable}
 use Rattle.slots.proofs.Reachable.{counts, fits, figures-long}
@@ -50,12 +51,12 @@ net-names O p month number found zero =
     (leb-false _ _ (first .0), range .0, range .1)
 
 -- what stands in the slots of a month is the holding
-pub holding-is : (f : List ℕ) (m : List Bool) (x : List Entry) (h p month carried awarded : ℕ) → HasHolding f h p month → carried ≡ readAt figureSlots 0 f h p (6 + (month - 1)) → awarded ≡ readAt figureSlots 0 f h p (9 + (month - 1)) → carried + awarded ≡ held (ledgerIn f m x) h p month
+pub holding-is : (f : List ℕ) (m : List Bool) (x : List Entry) (h p month carried awarded : ℕ) → HasHolding f h p month → carried ≡ readAt figureSlots 0 f h p (carriedSlot + (month - 1)) → awarded ≡ readAt figureSlots 0 f h p (awardedSlot + (month - 1)) → carried + awarded ≡ held (ledgerIn f m x) h p month
 unfolding held ledgerIn
 holding-is f m x h p month carried awarded k c a =
     ap₂ (λ u v. u + v)
-    (c ∙ by-number f 6 3 h p month (k .holder) (k .place) 1 (k .low) (let l = k .high in omega arith))
-    (a ∙ by-number f 9 3 h p month (k .holder) (k .place) 1 (k .low) (let l = k .high in omega arith))
+    (c ∙ by-number f carriedSlot lastMonth h p month (k .holder) (k .place) 1 (k .low) (let l = k .high in omega arith))
+    (a ∙ by-number f awardedSlot lastMonth h p month (k .holder) (k .place) 1 (k .low) (let l = k .high in omega arith))
 
 -- what is read for a holding is small
 pub figure-small : (f : List ℕ) (h p month slot v : ℕ) → HasHolding f h p month → slot < figureSlots → v ≡ readAt figureSlots 0 f h p slot → v ≤ maxFigure

@@ -18,7 +18,7 @@ use Rattle.records.specs.declared.answers.Answer.the-variants.{Done}
 use Rattle.records.specs.Opening.{openingIn}
 use Rattle.slots.specs.Cells.{rows, clearedTo, Shows}
 use Rattle.slots.specs.Groups.{group, slotsOf, inSlot}
-use Rattle.slots.specs.Layout.{figureSlots, figureGroups, postedGroups, evidenceGroups, calendarOf, figuresOf, postedOf, evidenceOf, currentTierIn, ledgerIn}
+use Rattle.slots.specs.Layout.{figureSlots, figureGroups, postedGroups, evidenceGroups, calendarOf, figuresOf, postedOf, evidenceOf, currentTierIn, ledgerIn, nominatedSlot, lastClosedAt, currentTierAt}
 use Rattle.slots.specs.Steps.{Reachable, Steps}
 use Rattle.slots.proofs.CellLaws.{shown-is}
 use Rattle.slots.proofs.Reachable.{sound, figures-shown, posted-known, evidence-known}
@@ -29,7 +29,7 @@ use Rattle.awards.proofs.ClearedGroups.{slot-cleared, shows-behind}
 pub turn-test : (tier last current closed opened : ℕ) (next : Bool) → next ≡ (not (not (eqb current 0)) && eqb tier (suc last)) → last ≡ closed → current ≡ opened → not next ≡ not (not (not (eqb opened 0)) && eqb tier (suc closed))
 turn-test tier last current closed opened next e l c = ap not (e ∙ (λ i. not (not (eqb (c i) 0)) && eqb tier (suc (l i))))
 
-module _ (o f f′ : List ℕ) (m : List Bool) (x : List Entry) (number : ℕ) (r : Reachable o f m x) (zero : number ≡ 0) (clear : f′ ≡ clearedTo figureSlots 12 f rows) where
+module _ (o f f′ : List ℕ) (m : List Bool) (x : List Entry) (number : ℕ) (r : Reachable o f m x) (zero : number ≡ 0) (clear : f′ ≡ clearedTo figureSlots nominatedSlot f rows) where
   abbrev O : Opening
   O = openingIn o
 
@@ -37,9 +37,9 @@ module _ (o f f′ : List ℕ) (m : List Bool) (x : List Entry) (number : ℕ) (
   L = ledgerIn f m x
 
   -- with no nominations in the open tier
-  cleared : (new : ℕ → ℕ → ℕ → ℕ) → ((h p k : ℕ) → new h p k ≡ 0) → Shows figureSlots 0 (clearedTo figureSlots 12 f rows) (inSlot 0 (take 5 (figureGroups L) ++ (group 1 0 new ∷ drop 6 (figureGroups L)))) (calendarOf L)
+  cleared : (new : ℕ → ℕ → ℕ → ℕ) → ((h p k : ℕ) → new h p k ≡ 0) → Shows figureSlots 0 (clearedTo figureSlots nominatedSlot f rows) (inSlot 0 (take 5 (figureGroups L) ++ (group 1 0 new ∷ drop 6 (figureGroups L)))) (calendarOf L)
   unfolding figureGroups slotsOf
-  cleared new none = slot-cleared (drop 6 (figureGroups L)) 0 (λ h p k. L .tiers .nominated h p (L .tiers .openNow)) new none figureSlots 12 (take 5 (figureGroups L)) f (calendarOf L) refl (omega arith) (figures-shown o f m x r)
+  cleared new none = slot-cleared (drop 6 (figureGroups L)) 0 (λ h p k. L .tiers .nominated h p (L .tiers .openNow)) new none figureSlots nominatedSlot (take 5 (figureGroups L)) f (calendarOf L) refl (omega arith) (figures-shown o f m x r)
 
   module _ (tier : ℕ) (found : number ≡ refusal O L (openTier tier)) where
     -- a tier that opens has none: it was neither open nor closed
@@ -48,11 +48,11 @@ module _ (o f f′ : List ℕ) (m : List Bool) (x : List Entry) (number : ℕ) (
         let facts = open-facts O L tier (accepted-test O L (openTier tier) number found zero) in
         sound o f m x r .fresh h p tier (omega arith) (λ e. omega (arith, e))
 
-    opened : set (clearedTo figureSlots 12 f rows) 3969 tier ≡ figuresOf (effect O L (openTier tier))
+    opened : set (clearedTo figureSlots nominatedSlot f rows) currentTierAt tier ≡ figuresOf (effect O L (openTier tier))
     unfolding figuresOf figureGroups calendarOf effect withTiers afterOpen
     opened =
-        shown-is figureSlots 0 _ (set (clearedTo figureSlots 12 f rows) 3969 tier) _ (omega arith)
-        (shows-behind figureSlots 0 tier _ (clearedTo figureSlots 12 f rows) (calendarOf L) 1 (omega arith) (cleared (λ h p k. L .tiers .nominated h p tier) (λ h p k. fresh h p)))
+        shown-is figureSlots 0 _ (set (clearedTo figureSlots nominatedSlot f rows) currentTierAt tier) _ (omega arith)
+        (shows-behind figureSlots 0 tier _ (clearedTo figureSlots nominatedSlot f rows) (calendarOf L) 1 (omega arith) (cleared (λ h p k. L .tiers .nominated h p tier) (λ h p k. fresh h p)))
 
     noted : m ≡ postedOf (effect O L (openTier tier))
     unfolding postedOf postedGroups effect withTiers
@@ -62,8 +62,8 @@ module _ (o f f′ : List ℕ) (m : List Bool) (x : List Entry) (number : ℕ) (
     unfolding evidenceOf evidenceGroups effect withTiers
     filed = evidence-known o f m x r
 
-    pub open-steps : Steps O L (openTier tier) Done (set f′ 3969 tier) m x
-    open-steps = steps-accepted O L (openTier tier) number found (set f′ 3969 tier) m x zero (ap (λ z. set z 3969 tier) clear ∙ opened) noted filed
+    pub open-steps : Steps O L (openTier tier) Done (set f′ currentTierAt tier) m x
+    open-steps = steps-accepted O L (openTier tier) number found (set f′ currentTierAt tier) m x zero (ap (λ z. set z currentTierAt tier) clear ∙ opened) noted filed
 
   module _ (found : number ≡ refusal O L closeTier) where
     -- once the tier is closed no tier is open, and 0 has no nominations
@@ -72,14 +72,14 @@ module _ (o f f′ : List ℕ) (m : List Bool) (x : List Entry) (number : ℕ) (
         let isOpen = close-fact O L (accepted-test O L closeTier number found zero) in
         ap (λ t. cond t (L .tiers .awards h p 0) (L .tiers .nominated h p 0)) (ne-eqb 0 (L .tiers .openNow) (λ e. omega (arith, e))) ∙ sound o f m x r .noTierZero h p
 
-    closed : set (set (clearedTo figureSlots 12 f rows) 3968 (L .tiers .openNow)) 3969 0 ≡ figuresOf (effect O L closeTier)
+    closed : set (set (clearedTo figureSlots nominatedSlot f rows) lastClosedAt (L .tiers .openNow)) currentTierAt 0 ≡ figuresOf (effect O L closeTier)
     unfolding figuresOf figureGroups calendarOf effect withTiers afterClose
     closed =
-        shown-is figureSlots 0 _ (set (set (clearedTo figureSlots 12 f rows) 3968 (L .tiers .openNow)) 3969 0) _ (omega arith)
-        (shows-behind figureSlots 0 0 _ (set (clearedTo figureSlots 12 f rows) 3968 (L .tiers .openNow)) _ 1 (omega arith)
-        (shows-behind figureSlots 0 (L .tiers .openNow) _ (clearedTo figureSlots 12 f rows) (calendarOf L) 0 (omega arith) (cleared (λ h p k. cond (eqb 0 (L .tiers .openNow)) (L .tiers .awards h p 0) (L .tiers .nominated h p 0)) (λ h p k. idle h p))))
+        shown-is figureSlots 0 _ (set (set (clearedTo figureSlots nominatedSlot f rows) lastClosedAt (L .tiers .openNow)) currentTierAt 0) _ (omega arith)
+        (shows-behind figureSlots 0 0 _ (set (clearedTo figureSlots nominatedSlot f rows) lastClosedAt (L .tiers .openNow)) _ 1 (omega arith)
+        (shows-behind figureSlots 0 (L .tiers .openNow) _ (clearedTo figureSlots nominatedSlot f rows) (calendarOf L) 0 (omega arith) (cleared (λ h p k. cond (eqb 0 (L .tiers .openNow)) (L .tiers .awards h p 0) (L .tiers .nominated h p 0)) (λ h p k. idle h p))))
 
-    pub close-steps : (tier : ℕ) → tier ≡ currentTierIn f → Steps O L closeTier Done (set (set f′ 3968 tier) 3969 0) m x
+    pub close-steps : (tier : ℕ) → tier ≡ currentTierIn f → Steps O L closeTier Done (set (set f′ lastClosedAt tier) currentTierAt 0) m x
     unfolding ledgerIn postedOf postedGroups evidenceOf evidenceGroups effect withTiers
     close-steps tier now =
-        steps-accepted O L closeTier number found (set (set f′ 3968 tier) 3969 0) m x zero ((λ i. set (set (clear i) 3968 (now i)) 3969 0) ∙ closed) (posted-known o f m x r) (evidence-known o f m x r)
+        steps-accepted O L closeTier number found (set (set f′ lastClosedAt tier) currentTierAt 0) m x zero ((λ i. set (set (clear i) lastClosedAt (now i)) currentTierAt 0) ∙ closed) (posted-known o f m x r) (evidence-known o f m x r)

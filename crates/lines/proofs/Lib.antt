@@ -1,6 +1,6 @@
 pub mod TextLaws
 pub mod NumberLaws
-pub mod RowLaws
+pub mod WordLaws
 pub mod FieldLaws
 pub mod ReadRowLaws
 pub mod NextRowLaws

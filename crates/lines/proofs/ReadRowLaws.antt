@@ -15,7 +15,7 @@ use Rattle.lines.specs.Text.{comma, fieldsOf, valueOf}
 use Rattle.lines.specs.Rows.{kindOf, allNumbers, row, unreadableRow, rowIf, rowOfFields}
 use Rattle.lines.specs.Reading.{lengthUpTo, fieldsAfter, fieldsRead, noFields}
 use Rattle.lines.proofs.TextLaws.{up-to-le, fields-parted}
-use Rattle.lines.proofs.RowLaws.{no-form}
+use Rattle.lines.proofs.WordLaws.{no-form}
 use Rattle.lines.proofs.FieldLaws.{fieldsIf}
 
 -- a line's row is that of its word and what is read after it

@@ -1,5 +1,5 @@
 -- What a line says: its kind, by its word and count of fields, and its numbers (01, Script and host).
-use Prim.Native.Nat.{ℕ, _+_}
+use Prim.Native.Nat.{ℕ, suc, _+_}
 use Prim.Native.String.{String}
 use mathlib.Core.Bool.{Bool, true, false, cond, _&&_}
 use mathlib.Core.List.{List, [], _∷_, map}
@@ -67,27 +67,31 @@ heldLine = 17
 abbrev pub netLine : ℕ
 netLine = 18
 
--- a word, and the kind of the lines that it begins
+-- a word, and how many fields follow it
 pub data Form : Type 0 where
   form : String → ℕ → Form
 
--- the words of lines, by the count of fields after the word: none, one, two, up to seven
-unfoldable pub forms : List (List Form)
+-- the forms of lines, in the order of their kinds from 1 on
+unfoldable pub forms : List Form
 forms =
-    (form "close" closeLine ∷ [])
-    ∷ (form "holder" holderLine ∷ form "open" openLine ∷ [])
-    ∷ (form "sink" sinkLine ∷ form "path" pathLine ∷ form "limit" limitLine ∷ form "net" netLine ∷ [])
-    ∷ (form "block" blockLine
-    ∷ form "carry" carryLine
-    ∷ form "migrate" migrateLine
-    ∷ form "nominate" nominateLine
-    ∷ form "award" awardLine
-    ∷ form "held" heldLine
-    ∷ [])
-    ∷ (form "book" bookLine ∷ form "prior" priorLine ∷ [])
-    ∷ (form "class" classLine ∷ [])
-    ∷ (form "load" loadLine ∷ [])
-    ∷ (form "verify" verifyLine ∷ [])
+    form "book" 4
+    ∷ form "holder" 1
+    ∷ form "sink" 2
+    ∷ form "path" 2
+    ∷ form "load" 6
+    ∷ form "block" 3
+    ∷ form "carry" 3
+    ∷ form "prior" 4
+    ∷ form "verify" 7
+    ∷ form "migrate" 3
+    ∷ form "class" 5
+    ∷ form "open" 1
+    ∷ form "nominate" 3
+    ∷ form "award" 3
+    ∷ form "close" 0
+    ∷ form "limit" 2
+    ∷ form "held" 3
+    ∷ form "net" 2
     ∷ []
 
 -- the same bytes
@@ -97,14 +101,18 @@ sameBytes [] (y ∷ ys) = false
 sameBytes (x ∷ xs) [] = false
 sameBytes (x ∷ xs) (y ∷ ys) = eqb x y && sameBytes xs ys
 
--- the kind of a word among some
-unfoldable pub kindAmong : List ℕ → List Form → ℕ
-kindAmong word [] = unreadable
-kindAmong word (form known kind ∷ later) = cond (sameBytes word (bytesOf known)) kind (kindAmong word later)
+-- a line of this word, with so many fields, has this form
+unfoldable pub isForm : List ℕ → ℕ → Form → Bool
+isForm word count (form known fields) = sameBytes word (bytesOf known) && eqb fields count
+
+-- the kind of a line among forms, of which the first has kind k
+unfoldable pub kindFrom : ℕ → List ℕ → ℕ → List Form → ℕ
+kindFrom k word count [] = unreadable
+kindFrom k word count (known ∷ later) = cond (isForm word count known) k (kindFrom (suc k) word count later)
 
 -- a line of another word or count of fields is unreadable
 unfoldable pub kindOf : List ℕ → ℕ → ℕ
-kindOf word count = kindAmong word (getD forms count [])
+kindOf word count = kindFrom 1 word count forms
 
 unfoldable pub allNumbers : List (List ℕ) → Bool
 allNumbers [] = true

@@ -7,3 +7,4 @@ pub mod lines;
 pub mod output;
 pub mod rows;
 pub mod text;
+pub mod words;

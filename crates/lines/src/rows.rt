@@ -2,11 +2,12 @@
 use crate::text::Numeral;
 use crate::text::bytes_before;
 use crate::text::read_number;
+use crate::words::kind_of;
 ghost use mathlib.Core.Path.{_≡_};
 ghost use Prim.Native.Nat.{_+_, _≤_};
 ghost use lib.ListN.{length, drop};
 ghost use Rattle.lines.specs.Text.{comma, fieldsOf};
-ghost use Rattle.lines.specs.Rows.{sameBytes, kindOf, unreadableRow, rowOfFields};
+ghost use Rattle.lines.specs.Rows.{unreadableRow, rowOfFields};
 ghost use Rattle.lines.specs.Reading.{lengthUpTo, fieldsAfter, fieldsRead, noFields};
 
 // The kinds of lines. 0 is a line that cannot be read.
@@ -64,143 +65,6 @@ struct Fields {
     readable: bool,
     count: u64,
     numbers: [u64; MAX_FIELDS],
-}
-
-// Two words have the same bytes.
-fn is_word(word: &[u8], known: &[u8]) -> bool
-    ensures { λ r. ⌜ r ≡ sameBytes (now (word .entry)) (now (known .entry)) ⌝ }
-{
-    if word.len() != known.len() {
-        return false;
-    }
-    let mut i = 0;
-    while i < word.len() {
-        if word[i] != known[i] {
-            return false;
-        }
-        i += 1;
-    }
-    true
-}
-
-// The kind of a word that no field follows.
-fn kind_without_fields(word: &[u8]) -> u64
-    ensures { λ r. ⌜ r ≡ kindOf (now (word .entry)) 0 ⌝ }
-{
-    if is_word(word, b"close") {
-        return CLOSE;
-    }
-    UNREADABLE
-}
-
-fn kind_of_one_field(word: &[u8]) -> u64
-    ensures { λ r. ⌜ r ≡ kindOf (now (word .entry)) 1 ⌝ }
-{
-    if is_word(word, b"holder") {
-        return HOLDER;
-    }
-    if is_word(word, b"open") {
-        return OPEN;
-    }
-    UNREADABLE
-}
-
-fn kind_of_two_fields(word: &[u8]) -> u64
-    ensures { λ r. ⌜ r ≡ kindOf (now (word .entry)) 2 ⌝ }
-{
-    if is_word(word, b"sink") {
-        return SINK;
-    }
-    if is_word(word, b"path") {
-        return PATH;
-    }
-    if is_word(word, b"limit") {
-        return LIMIT;
-    }
-    if is_word(word, b"net") {
-        return NET;
-    }
-    UNREADABLE
-}
-
-fn kind_of_three_fields(word: &[u8]) -> u64
-    ensures { λ r. ⌜ r ≡ kindOf (now (word .entry)) 3 ⌝ }
-{
-    if is_word(word, b"block") {
-        return BLOCK;
-    }
-    if is_word(word, b"carry") {
-        return CARRY;
-    }
-    if is_word(word, b"migrate") {
-        return MIGRATE;
-    }
-    if is_word(word, b"nominate") {
-        return NOMINATE;
-    }
-    if is_word(word, b"award") {
-        return AWARD;
-    }
-    if is_word(word, b"held") {
-        return HELD;
-    }
-    UNREADABLE
-}
-
-fn kind_of_four_fields(word: &[u8]) -> u64
-    ensures { λ r. ⌜ r ≡ kindOf (now (word .entry)) 4 ⌝ }
-{
-    if is_word(word, b"book") {
-        return BOOK;
-    }
-    if is_word(word, b"prior") {
-        return PRIOR;
-    }
-    UNREADABLE
-}
-
-fn kind_of_five_fields(word: &[u8]) -> u64
-    ensures { λ r. ⌜ r ≡ kindOf (now (word .entry)) 5 ⌝ }
-{
-    if is_word(word, b"class") {
-        return CLASS;
-    }
-    UNREADABLE
-}
-
-fn kind_of_six_fields(word: &[u8]) -> u64
-    ensures { λ r. ⌜ r ≡ kindOf (now (word .entry)) 6 ⌝ }
-{
-    if is_word(word, b"load") {
-        return LOAD;
-    }
-    UNREADABLE
-}
-
-fn kind_of_seven_fields(word: &[u8]) -> u64
-    ensures { λ r. ⌜ r ≡ kindOf (now (word .entry)) 7 ⌝ }
-{
-    if is_word(word, b"verify") {
-        return VERIFY;
-    }
-    UNREADABLE
-}
-
-// The kind of a word with so many fields after it: a word stands with one count of fields only.
-fn kind_of(word: &[u8], count: u64) -> u64
-    ensures { λ r. ⌜ r ≡ kindOf (now (word .entry)) count ⌝ }
-{
-    match count {
-        0 => kind_without_fields(word),
-        1 => kind_of_one_field(word),
-        2 => kind_of_two_fields(word),
-        3 => kind_of_three_fields(word),
-        4 => kind_of_four_fields(word),
-        5 => kind_of_five_fields(word),
-        6 => kind_of_six_fields(word),
-        7 => kind_of_seven_fields(word),
-        _ => UNREADABLE,
-    }
 }
 
 // The row of a line that cannot be read.

@@ -14,6 +14,7 @@ use Rattle.tariff.specs.Ranges.{mostKw, within, wrongTerm}
 use Rattle.tariff.proofs.Lists.{list-is, any-list-to}
 use Rattle.tariff.proofs.Blocks.{kws-of, any-of-map}
 use Rattle.ledger.specs.Ranges.{wrongLoad}
+use Rattle.ledger.specs.Numbers.{brokenBlocks, hoursMissing}
 use Rattle.postings.specs.Loads.{exceedsMostKw, kwBlocks}
 
 -- a test on each number of a list
@@ -48,7 +49,7 @@ module _ (n : ℕ) (bs : List Block) (kw : ℕ) where
   unfolding unlessRefused meteredBy blockRefusal
   when-broken e = go (blocksBroken n bs) (tooManyMissing n bs) e
     where
-      go : (x y : Bool) → Broken ≡ meteredBy (cond x 6 (cond y 7 0)) kw → x ≡ true
+      go : (x y : Bool) → Broken ≡ meteredBy (cond x brokenBlocks (cond y hoursMissing 0)) kw → x ≡ true
       go true y q = refl
       go false true q = cc
       go false false q = cc
@@ -57,7 +58,7 @@ module _ (n : ℕ) (bs : List Block) (kw : ℕ) where
   unfolding unlessRefused meteredBy blockRefusal
   when-missing e = go (blocksBroken n bs) (tooManyMissing n bs) e
     where
-      go : (x y : Bool) → Missing ≡ meteredBy (cond x 6 (cond y 7 0)) kw → (x ≡ false) × (y ≡ true)
+      go : (x y : Bool) → Missing ≡ meteredBy (cond x brokenBlocks (cond y hoursMissing 0)) kw → (x ≡ false) × (y ≡ true)
       go true y q = (cc, cc)
       go false true q = (refl, refl)
       go false false q = (refl, cc)
@@ -66,7 +67,7 @@ module _ (n : ℕ) (bs : List Block) (kw : ℕ) where
   unfolding unlessRefused meteredBy blockRefusal
   when-kw x e = go (blocksBroken n bs) (tooManyMissing n bs) e
     where
-      go : (a b : Bool) → Kw x ≡ meteredBy (cond a 6 (cond b 7 0)) kw → (a ≡ false) × (b ≡ false) × (x ≡ kw)
+      go : (a b : Bool) → Kw x ≡ meteredBy (cond a brokenBlocks (cond b hoursMissing 0)) kw → (a ≡ false) × (b ≡ false) × (x ≡ kw)
       go true b q = (cc, cc, cc)
       go false true q = (refl, cc, cc)
       go false false q = (refl, refl, cc)
@@ -75,7 +76,7 @@ module _ (n : ℕ) (bs : List Block) (kw : ℕ) where
   unfolding unlessRefused meteredBy blockRefusal
   not-unequal e = go (blocksBroken n bs) (tooManyMissing n bs) e
     where
-      go : (x y : Bool) → Unequal ≡ meteredBy (cond x 6 (cond y 7 0)) kw → ⊥
+      go : (x y : Bool) → Unequal ≡ meteredBy (cond x brokenBlocks (cond y hoursMissing 0)) kw → ⊥
       go true y q = let z : _≡_ {A = ℕ} 0 1 = cc in omega arith
       go false true q = let z : _≡_ {A = ℕ} 0 1 = cc in omega arith
       go false false q = let z : _≡_ {A = ℕ} 0 1 = cc in omega arith

@@ -15,10 +15,11 @@ use Rattle.ledger.specs.Opening.{Opening}
 use Rattle.ledger.specs.Ledger.{Ledger}
 use Rattle.ledger.specs.Call.{Call, load}
 use Rattle.ledger.specs.Causes.{refusal}
+use Rattle.ledger.specs.Numbers.{unreadable}
 use Rattle.records.specs.declared.answers.Answer.the-variants.{Done, Refused as Answered}
 use Rattle.records.specs.Opening.{openingIn}
 use Rattle.slots.specs.Cells.{HasCell, readAt, storedAt, addedAt}
-use Rattle.slots.specs.Layout.{figureSlots, figureCount, postedSlots, postedCount, ledgerIn}
+use Rattle.slots.specs.Layout.{figureSlots, figureCount, postedSlots, postedCount, ledgerIn, loadSlot, loadPostedSlot}
 use Rattle.slots.specs.Steps.{Reachable, StepsIf}
 use Rattle.slots.proofs.Reachable.{figures-known, posted-known, evidence-known}
 use Rattle.slots.proofs.StepLaws.{steps-refused}
@@ -48,13 +49,13 @@ module _ (o f : List ℕ) (m : List Bool) (x : List Entry) (h s term contract n 
   unfolding postingOf postingBy
   load-refused stop same = go (sameLengths firsts hours kws) (eqb number 0) refl (sym same ∙ is)
     where
-      go : (even none : Bool) → eqb number 0 ≡ none → Refused stop ≡ cond even (cond none (Kw (loadPosted contract blocks)) (Refused number)) (Refused 1) → StepsIf even O L call (Answered stop) f m x
+      go : (even none : Bool) → eqb number 0 ≡ none → Refused stop ≡ cond even (cond none (Kw (loadPosted contract blocks)) (Refused number)) (Refused unreadable) → StepsIf even O L call (Answered stop) f m x
       go true true q w = absurd (let z : _≡_ {A = ℕ} 0 1 = cc in omega arith)
       go true false q w =
           let found : stop ≡ number = cc in
           record { equal = λ e. steps-refused o f m x call stop found r (λ z. eqb-false number 0 q (sym found ∙ z)); unequal = λ e. absurd (both-ways refl e) }
       go false none q w =
-          let one : stop ≡ 1 = cc in
+          let one : stop ≡ unreadable = cc in
           record { equal = λ e. absurd (both-ways e refl); unequal = λ e. record { answered = ap Answered one; figures = figures-known o f m x r; posted = posted-known o f m x r; evidence = evidence-known o f m x r } }
 
   module _ (kw : ℕ) (same : given ≡ Kw kw) where
@@ -63,7 +64,7 @@ module _ (o f : List ℕ) (m : List Bool) (x : List Entry) (h s term contract n 
     unfolding postingOf postingBy
     known = go (sameLengths firsts hours kws) (eqb number 0) refl (sym same ∙ is)
       where
-        go : (even none : Bool) → eqb number 0 ≡ none → Kw kw ≡ cond even (cond none (Kw (loadPosted contract blocks)) (Refused number)) (Refused 1) → (even ≡ true) × (number ≡ 0) × (kw ≡ loadPosted contract blocks)
+        go : (even none : Bool) → eqb number 0 ≡ none → Kw kw ≡ cond even (cond none (Kw (loadPosted contract blocks)) (Refused number)) (Refused unreadable) → (even ≡ true) × (number ≡ 0) × (kw ≡ loadPosted contract blocks)
         go true true q w = (refl, eqb-true number 0 q, cc)
         go true false q w = (refl, cc, cc)
         go false none q w = (cc, cc, cc)
@@ -74,7 +75,7 @@ module _ (o f : List ℕ) (m : List Bool) (x : List Entry) (h s term contract n 
     pub posted-cell : (slot : ℕ) → slot ≤ term → HasCell postedSlots h s slot × (length m ≡ postedCount)
     posted-cell = load-cell o f m x h s term contract n blocks kw number r refl (known .1) (known .2)
 
-    pub load-accepted : (f′ : List ℕ) (m′ : List Bool) → f′ ≡ addedAt figureSlots f h s (0 + term) kw → m′ ≡ storedAt postedSlots m h s (0 + term) true → StepsIf (sameLengths firsts hours kws) O L call Done f′ m′ x
+    pub load-accepted : (f′ : List ℕ) (m′ : List Bool) → f′ ≡ addedAt figureSlots f h s (loadSlot + term) kw → m′ ≡ storedAt postedSlots m h s (loadPostedSlot + term) true → StepsIf (sameLengths firsts hours kws) O L call Done f′ m′ x
     load-accepted f′ m′ ofFigures ofPosted =
         record {
           equal = λ e. load-steps o f m x h s term contract n blocks kw number r refl (known .1) (known .2) f′ m′ ofFigures ofPosted;

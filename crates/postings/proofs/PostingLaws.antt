@@ -15,7 +15,7 @@ use Rattle.tariff.proofs.Tests.{and-both}
 use Rattle.ledger.specs.Opening.{Opening}
 use Rattle.ledger.specs.Ledger.{Ledger}
 use Rattle.ledger.specs.Call.{Call, load}
-use Rattle.ledger.specs.Numbers.{Cause, firstMet}
+use Rattle.ledger.specs.Numbers.{Cause, firstMet, unreadable, notInBook, outOfRange, notAtThisTime, postedBefore, brokenBlocks, hoursMissing, sinkNotForIt}
 use Rattle.ledger.specs.Causes.{sinkNotFor, isSubLap, loadCauses, callCauses, refusal}
 use Rattle.ledger.proofs.Unmet.{unmet}
 use Rattle.postings.specs.declared.load.Posting.the-variants.{Kw, Refused}
@@ -38,14 +38,14 @@ module _ (O : Opening) (L : Ledger) (h s term contract n : ℕ) (firsts hours kw
   causes bs = loadCauses O L h s term contract n bs
 
   -- slices of unequal length
-  pub uneven : sameLengths firsts hours kws ≡ false → Refused 1 ≡ postingOf O L h s term contract n firsts hours kws
+  pub uneven : sameLengths firsts hours kws ≡ false → Refused unreadable ≡ postingOf O L h s term contract n firsts hours kws
   unfolding postingOf
-  uneven odd = sym (ap (λ t. cond t (postingBy number (loadPosted contract blocks)) (Refused 1)) odd)
+  uneven odd = sym (ap (λ t. cond t (postingBy number (loadPosted contract blocks)) (Refused unreadable)) odd)
 
   module _ (even : sameLengths firsts hours kws ≡ true) where
     by-number : postingBy number (loadPosted contract blocks) ≡ postingOf O L h s term contract n firsts hours kws
     unfolding postingOf
-    by-number = sym (ap (λ t. cond t (postingBy number (loadPosted contract blocks)) (Refused 1)) even)
+    by-number = sym (ap (λ t. cond t (postingBy number (loadPosted contract blocks)) (Refused unreadable)) even)
 
     stopped : (r : ℕ) → r ≡ number → (r ≡ 0 → ⊥) → Refused r ≡ postingOf O L h s term contract n firsts hours kws
     unfolding postingBy
@@ -83,7 +83,7 @@ module _ (O : Opening) (L : Ledger) (h s term contract n : ℕ) (firsts hours kw
           let r3 = unmet 2 _ _ (r2 .1) in
           let r4 = unmet 3 _ _ (r3 .1) in
           let r5 = unmet 4 _ _ (r4 .1) in
-          unmet-first 2 _ _ (r2 .0) (unmet-first 3 _ _ (r3 .0) (unmet-first 4 _ _ (r4 .0) (unmet-first 5 _ _ (r5 .0) later)))
+          unmet-first notInBook _ _ (r2 .0) (unmet-first outOfRange _ _ (r3 .0) (unmet-first notAtThisTime _ _ (r4 .0) (unmet-first postedBefore _ _ (r5 .0) later)))
 
   -- what is known past causes 2 to 5: the tests of cause 10, and what the function that finds the kW gave
   pub record Passed (early : ℕ) (notFor subLap : Bool) (given : Metered) : Type 0 where
@@ -97,7 +97,7 @@ module _ (O : Opening) (L : Ledger) (h s term contract n : ℕ) (firsts hours kw
   module _ {early : ℕ} {notFor subLap : Bool} {given : Metered} (w : Passed early notFor subLap given) where
     metered-is : {m : Metered} → given ≡ m → m ≡ unlessRefused n blocks (loadPosted contract blocks)
     unfolding postedOf meteredBy
-    metered-is same = sym same ∙ w .metered ∙ ap (λ t. cond t (unlessRefused n blocks (loadPosted contract blocks)) (meteredBy 1 0)) (w .even)
+    metered-is same = sym same ∙ w .metered ∙ ap (λ t. cond t (unlessRefused n blocks (loadPosted contract blocks)) (meteredBy unreadable 0)) (w .even)
 
     -- a number that the later causes come to is the refusal
     late : (r : ℕ) → r ≡ firstMet (drop 4 (causes blocks)) → r ≡ number
@@ -106,32 +106,32 @@ module _ (O : Opening) (L : Ledger) (h s term contract n : ℕ) (firsts hours kw
     late-stops : (r : ℕ) → r ≡ firstMet (drop 4 (causes blocks)) → (r ≡ 0 → ⊥) → Refused r ≡ postingOf O L h s term contract n firsts hours kws
     late-stops r later ne = stopped (w .even) r (late r later) ne
 
-    pub unequal-stops : given ≡ Unequal → Refused 1 ≡ postingOf O L h s term contract n firsts hours kws
+    pub unequal-stops : given ≡ Unequal → Refused unreadable ≡ postingOf O L h s term contract n firsts hours kws
     unequal-stops same = absurd (not-unequal n blocks (loadPosted contract blocks) (metered-is same))
 
-    pub broken-stops : given ≡ Broken → Refused 6 ≡ postingOf O L h s term contract n firsts hours kws
+    pub broken-stops : given ≡ Broken → Refused brokenBlocks ≡ postingOf O L h s term contract n firsts hours kws
     unfolding loadCauses
-    broken-stops same = late-stops 6 (met-first 6 _ _ (when-broken n blocks (loadPosted contract blocks) (metered-is same))) (λ z. omega (arith, z))
+    broken-stops same = late-stops brokenBlocks (met-first brokenBlocks _ _ (when-broken n blocks (loadPosted contract blocks) (metered-is same))) (λ z. omega (arith, z))
 
-    pub missing-stops : given ≡ Missing → Refused 7 ≡ postingOf O L h s term contract n firsts hours kws
+    pub missing-stops : given ≡ Missing → Refused hoursMissing ≡ postingOf O L h s term contract n firsts hours kws
     unfolding loadCauses
     missing-stops same =
         let t = when-missing n blocks (loadPosted contract blocks) (metered-is same) in
-        late-stops 7 (unmet-first 6 _ _ (t .0) (met-first 7 _ _ (t .1))) (λ z. omega (arith, z))
+        late-stops hoursMissing (unmet-first brokenBlocks _ _ (t .0) (met-first hoursMissing _ _ (t .1))) (λ z. omega (arith, z))
 
     module _ (kw : ℕ) (same : given ≡ Posted kw) where
       -- the tests of cause 10
       sink-test : {t : Bool} → (notFor || subLap) ≡ t → (sinkNotFor O h s || isSubLap O s) ≡ t
       sink-test e = ap₂ (λ x y. x || y) (sym (w .ofSink)) (sym (w .ofSubLap)) ∙ e
 
-      pub sink-stops : (notFor || subLap) ≡ true → Refused 10 ≡ postingOf O L h s term contract n firsts hours kws
+      pub sink-stops : (notFor || subLap) ≡ true → Refused sinkNotForIt ≡ postingOf O L h s term contract n firsts hours kws
       unfolding loadCauses
       sink-stops e =
           let t = when-kw n blocks (loadPosted contract blocks) kw (metered-is same) in
-          late-stops 10 (unmet-first 6 _ _ (t .0) (unmet-first 7 _ _ (t .1) (met-first 10 _ _ (sink-test e)))) (λ z. omega (arith, z))
+          late-stops sinkNotForIt (unmet-first brokenBlocks _ _ (t .0) (unmet-first hoursMissing _ _ (t .1) (met-first sinkNotForIt _ _ (sink-test e)))) (λ z. omega (arith, z))
 
       pub kw-posts : (notFor || subLap) ≡ false → Kw kw ≡ postingOf O L h s term contract n firsts hours kws
       unfolding loadCauses
       kw-posts e =
           let t = when-kw n blocks (loadPosted contract blocks) kw (metered-is same) in
-          posted (w .even) kw (late 0 (unmet-first 6 _ _ (t .0) (unmet-first 7 _ _ (t .1) (unmet-first 10 _ _ (sink-test e) no-more)))) (t .2)
+          posted (w .even) kw (late 0 (unmet-first brokenBlocks _ _ (t .0) (unmet-first hoursMissing _ _ (t .1) (unmet-first sinkNotForIt _ _ (sink-test e) no-more)))) (t .2)

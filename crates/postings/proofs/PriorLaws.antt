@@ -17,7 +17,7 @@ use Rattle.records.specs.declared.answers.Answer.the-variants.{Done}
 use Rattle.records.specs.Opening.{openingIn}
 use Rattle.slots.specs.Cells.{HasCell, storedAt, addedAt}
 use Rattle.slots.specs.Groups.{slotsOf}
-use Rattle.slots.specs.Layout.{figureSlots, postedSlots, postedCount, figureGroups, postedGroups, evidenceGroups, calendarOf, figuresOf, postedOf, evidenceOf, ledgerIn}
+use Rattle.slots.specs.Layout.{figureSlots, postedSlots, postedCount, figureGroups, postedGroups, evidenceGroups, calendarOf, figuresOf, postedOf, evidenceOf, ledgerIn, priorSlot, priorRemainingSlot, carriedSlot, priorPostedSlot}
 use Rattle.slots.specs.Months.{HasRoom}
 use Rattle.slots.specs.Steps.{Reachable, Steps}
 use Rattle.slots.proofs.CellLaws.{shown-is}
@@ -51,7 +51,7 @@ module _ (o f : List ℕ) (m : List Bool) (x : List Entry) (h p a l number : ℕ
   prior-part = facts .part
 
   -- the two slots are there, and have room for a
-  pub prior-room : HasRoom f h p 4 6 a
+  pub prior-room : HasRoom f h p priorSlot carriedSlot a
   prior-room =
       record {
         long = figures-long o f m x r;
@@ -62,30 +62,30 @@ module _ (o f : List ℕ) (m : List Bool) (x : List Entry) (h p a l number : ℕ
       }
 
   -- and so has the second one once a was added in the first
-  pub remaining-room : (f′ : List ℕ) → f′ ≡ addedAt figureSlots f h p 4 a → HasRoom f′ h p 5 6 a
-  remaining-room f′ e = room-next f f′ h p 4 6 a a 5 prior-room (omega arith) (omega arith) e
+  pub remaining-room : (f′ : List ℕ) → f′ ≡ addedAt figureSlots f h p priorSlot a → HasRoom f′ h p priorRemainingSlot carriedSlot a
+  remaining-room f′ e = room-next f f′ h p priorSlot carriedSlot a a priorRemainingSlot prior-room (omega arith) (omega arith) e
 
-  pub prior-cell : HasCell postedSlots h p 5 × (length m ≡ postedCount)
+  pub prior-cell : HasCell postedSlots h p priorPostedSlot × (length m ≡ postedCount)
   prior-cell = (record { holder = holder; place = path; inRow = omega arith }, posted-long o f m x r)
 
   -- last year's allocation, what remains of it and the note of the posting are new, and nothing else
-  allocated : (f₁ f₂ : List ℕ) → f₁ ≡ addedAt figureSlots f h p 4 a → f₂ ≡ addedAt figureSlots f₁ h p 5 (a - l) → f₂ ≡ figuresOf (effect O L call)
+  allocated : (f₁ f₂ : List ℕ) → f₁ ≡ addedAt figureSlots f h p priorSlot a → f₂ ≡ addedAt figureSlots f₁ h p priorRemainingSlot (a - l) → f₂ ≡ figuresOf (effect O L call)
   unfolding figuresOf figureGroups calendarOf slotsOf effect withPriors afterPrior
   allocated f₁ f₂ e d =
-      d ∙ ap (λ z. addedAt figureSlots z h p 5 (a - l)) e
-      ∙ shown-is figureSlots 0 _ (addedAt figureSlots (addedAt figureSlots f h p 4 a) h p 5 (a - l)) (calendarOf L) (omega arith)
-      (slot-added figureSlots 5 1 0 (take 2 (figureGroups (effect O L call))) (drop 3 (figureGroups L)) refl (omega arith) (λ i j n. L .priors .renewable i j) (λ i j n. plusAt2 h p (a - l) (L .priors .renewable) i j) _ (calendarOf L) h p 0 (a - l) holder path (omega arith) (single-added h p (a - l) (L .priors .renewable))
-      (slot-added figureSlots 4 1 0 (take 1 (figureGroups L)) (drop 2 (figureGroups L)) refl (omega arith) (λ i j n. L .priors .allocated i j) (λ i j n. plusAt2 h p a (L .priors .allocated) i j) f (calendarOf L) h p 0 a holder path (omega arith) (single-added h p a (L .priors .allocated)) (figures-shown o f m x r)))
+      d ∙ ap (λ z. addedAt figureSlots z h p priorRemainingSlot (a - l)) e
+      ∙ shown-is figureSlots 0 _ (addedAt figureSlots (addedAt figureSlots f h p priorSlot a) h p priorRemainingSlot (a - l)) (calendarOf L) (omega arith)
+      (slot-added figureSlots priorRemainingSlot 1 0 (take 2 (figureGroups (effect O L call))) (drop 3 (figureGroups L)) refl (omega arith) (λ i j n. L .priors .renewable i j) (λ i j n. plusAt2 h p (a - l) (L .priors .renewable) i j) _ (calendarOf L) h p 0 (a - l) holder path (omega arith) (single-added h p (a - l) (L .priors .renewable))
+      (slot-added figureSlots priorSlot 1 0 (take 1 (figureGroups L)) (drop 2 (figureGroups L)) refl (omega arith) (λ i j n. L .priors .allocated i j) (λ i j n. plusAt2 h p a (L .priors .allocated) i j) f (calendarOf L) h p 0 a holder path (omega arith) (single-added h p a (L .priors .allocated)) (figures-shown o f m x r)))
 
-  noted : (m′ : List Bool) → m′ ≡ storedAt postedSlots m h p 5 true → m′ ≡ postedOf (effect O L call)
+  noted : (m′ : List Bool) → m′ ≡ storedAt postedSlots m h p priorPostedSlot true → m′ ≡ postedOf (effect O L call)
   unfolding postedOf postedGroups slotsOf effect withPriors afterPrior
   noted m′ e =
-      e ∙ shown-is postedSlots false _ (storedAt postedSlots m h p 5 true) [] (omega arith)
-      (slot-stored false postedSlots 5 1 0 (take 2 (postedGroups L)) (drop 3 (postedGroups L)) refl (omega arith) (λ i j n. L .priors .posted i j) _ m [] h p 0 true holder path (omega arith) (single-posted h p (L .priors .posted)) (posted-shown o f m x r))
+      e ∙ shown-is postedSlots false _ (storedAt postedSlots m h p priorPostedSlot true) [] (omega arith)
+      (slot-stored false postedSlots priorPostedSlot 1 0 (take 2 (postedGroups L)) (drop 3 (postedGroups L)) refl (omega arith) (λ i j n. L .priors .posted i j) _ m [] h p 0 true holder path (omega arith) (single-posted h p (L .priors .posted)) (posted-shown o f m x r))
 
   filed : x ≡ evidenceOf (effect O L call)
   unfolding evidenceOf evidenceGroups effect withPriors
   filed = evidence-known o f m x r
 
-  pub prior-steps : (f₁ f₂ : List ℕ) (m′ : List Bool) → f₁ ≡ addedAt figureSlots f h p 4 a → f₂ ≡ addedAt figureSlots f₁ h p 5 (a - l) → m′ ≡ storedAt postedSlots m h p 5 true → Steps O L call Done f₂ m′ x
+  pub prior-steps : (f₁ f₂ : List ℕ) (m′ : List Bool) → f₁ ≡ addedAt figureSlots f h p priorSlot a → f₂ ≡ addedAt figureSlots f₁ h p priorRemainingSlot (a - l) → m′ ≡ storedAt postedSlots m h p priorPostedSlot true → Steps O L call Done f₂ m′ x
   prior-steps f₁ f₂ m′ first second ofPosted = steps-accepted O L call number found f₂ m′ x zero (allocated f₁ f₂ first second) (noted m′ ofPosted) filed

@@ -12,6 +12,7 @@ use borrow.Author.Tests.{eq-eqb, ne-eqb, eqb-true, eqb-false}
 use Rattle.tariff.specs.declared.evidence.Entry.{Entry}
 use Rattle.tariff.specs.declared.evidence.Filing.{Filing}
 use Rattle.tariff.specs.declared.evidence.Filing.the-variants.{OutOfRange, Filed}
+use Rattle.tariff.specs.Sizes.{terms, ownership, contract, evidenceKinds}
 use Rattle.tariff.specs.Evidence.{noEntry, entryOf, entryKw}
 use Rattle.tariff.specs.Filing.{filingOf, filingBy}
 use Rattle.tariff.specs.Ranges.{wrongEvidence}
@@ -22,13 +23,14 @@ use Rattle.ledger.specs.Call.{Call, verify}
 use Rattle.ledger.specs.Causes.{verifyCauses, callCauses, refusal}
 use Rattle.ledger.specs.Effects.{same2, same3, afterVerify, effect}
 use Rattle.ledger.specs.Season.{accepted}
+use Rattle.ledger.specs.Numbers.{outOfRange}
 use Rattle.ledger.proofs.Unmet.{unmet, accepted-zero}
 use Rattle.ledger.proofs.PostingFacts.{VerifyFacts, verify-facts}
 use Rattle.records.specs.declared.answers.Answer.the-variants.{Done}
 use Rattle.records.specs.Opening.{openingIn}
 use Rattle.slots.specs.Cells.{HasCell, storedAt, Shows}
 use Rattle.slots.specs.Groups.{group, slotsOf, inSlot}
-use Rattle.slots.specs.Layout.{figureSlots, postedSlots, postedCount, evidenceSlots, figureGroups, postedGroups, evidenceGroups, calendarOf, figuresOf, postedOf, evidenceOf, ledgerIn}
+use Rattle.slots.specs.Layout.{figureSlots, postedSlots, postedCount, evidenceSlots, figureGroups, postedGroups, evidenceGroups, calendarOf, figuresOf, postedOf, evidenceOf, ledgerIn, ownershipSlot, contractSlot, evidencePostedSlot}
 use Rattle.slots.specs.Steps.{Reachable, Steps}
 use Rattle.slots.proofs.CellLaws.{array-shows, shown-is}
 use Rattle.slots.proofs.StoreLaws.{StoredIn, slot-stored, number-posted}
@@ -45,7 +47,7 @@ entry-in (Filed e) = e
 -- evidence in range is filed
 pub in-range-filed : (kind capacity right first last : ℕ) → wrongEvidence kind capacity right first last ≡ false → filingOf kind capacity right first last ≡ Filed (entryOf kind capacity right first last)
 unfolding filingOf filingBy
-in-range-filed kind capacity right first last e = ap (λ b. filingBy (cond b 3 0) (entryOf kind capacity right first last)) e
+in-range-filed kind capacity right first last e = ap (λ b. filingBy (cond b outOfRange 0) (entryOf kind capacity right first last)) e
 
 accepted-in-range : (O : Opening) (L : Ledger) (h s kind capacity right first last : ℕ) → accepted O L (verify h s kind capacity right first last) ≡ true → wrongEvidence kind capacity right first last ≡ false
 unfolding callCauses verifyCauses
@@ -102,7 +104,7 @@ module _ (o f : List ℕ) (m : List Bool) (x : List Entry) (h s kind capacity ri
   source = le-trans (facts .source) (counts o f m x r .1)
 
   -- the slots are there
-  pub verify-terms : (from : ℕ) → from + 4 ≤ figureSlots → HasTerms f h s from
+  pub verify-terms : (from : ℕ) → from + terms ≤ figureSlots → HasTerms f h s from
   verify-terms from fits = record { long = figures-long o f m x r; holder = holder; place = source; inRow = fits }
 
   pub verify-cell : (slot : ℕ) → slot < postedSlots → HasCell postedSlots h s slot × (length m ≡ postedCount)
@@ -112,41 +114,41 @@ module _ (o f : List ℕ) (m : List Bool) (x : List Entry) (h s kind capacity ri
   verify-entry slot inRow = record { holder = holder; place = source; inRow = inRow }
 
   -- the kW of the kind's terms, the note of the posting and the entry are new, and nothing else
-  verified : (f′ : List ℕ) → f′ ≡ storedByTerm f h s (23 + 4 * (kind - 1)) filed → f′ ≡ figuresOf (effect O L call)
+  verified : (f′ : List ℕ) → f′ ≡ storedByTerm f h s (ownershipSlot + terms * (kind - 1)) filed → f′ ≡ figuresOf (effect O L call)
   unfolding figuresOf figureGroups calendarOf slotsOf effect withPapers afterVerify
-  verified f′ e = e ∙ go (decided (eqb kind 1))
+  verified f′ e = e ∙ go (decided (eqb kind ownership))
     where
       entries : ℕ → ℕ → ℕ → Entry
       entries = L .papers .entry
 
-      go : (eqb kind 1 ≡ true) ⊎ (eqb kind 1 ≡ false) → storedByTerm f h s (23 + 4 * (kind - 1)) filed ≡ figuresOf (effect O L call)
+      go : (eqb kind ownership ≡ true) ⊎ (eqb kind ownership ≡ false) → storedByTerm f h s (ownershipSlot + terms * (kind - 1)) filed ≡ figuresOf (effect O L call)
       go (inl t) =
-          let one = eqb-true kind 1 t in
-          let from : 23 + 4 * (kind - 1) ≡ 23 = omega arith in
+          let one = eqb-true kind ownership t in
+          let from : ownershipSlot + terms * (kind - 1) ≡ ownershipSlot = omega arith in
           ap (λ n. storedByTerm f h s n filed) from
-          ∙ shown-is figureSlots 0 _ (storedByTerm f h s 23 filed) (calendarOf L) (omega arith)
-          (subst (λ g. Shows figureSlots 0 (storedByTerm f h s 23 filed) (inSlot 0 g) (calendarOf L)) (λ i. take 7 (figureGroups L) ++ (group 4 0 (λ u v n. this-kind h s kind filed entries 1 u v n (sym one) i) ∷ group 4 0 (λ u v n. other-kind h s kind filed entries 2 u v n (λ q. omega (arith, q)) i) ∷ []))
-          (terms-stored (take 7 (figureGroups L)) (drop 8 (figureGroups L)) 23 (λ u v n. entryKw n (entries u v 1)) f (calendarOf L) h s filed refl (omega arith) holder source (figures-shown o f m x r)))
+          ∙ shown-is figureSlots 0 _ (storedByTerm f h s ownershipSlot filed) (calendarOf L) (omega arith)
+          (subst (λ g. Shows figureSlots 0 (storedByTerm f h s ownershipSlot filed) (inSlot 0 g) (calendarOf L)) (λ i. take 7 (figureGroups L) ++ (group terms 0 (λ u v n. this-kind h s kind filed entries ownership u v n (sym one) i) ∷ group terms 0 (λ u v n. other-kind h s kind filed entries contract u v n (λ q. omega (arith, q)) i) ∷ []))
+          (terms-stored (take 7 (figureGroups L)) (drop 8 (figureGroups L)) ownershipSlot (λ u v n. entryKw n (entries u v ownership)) f (calendarOf L) h s filed refl (omega arith) holder source (figures-shown o f m x r)))
       go (inr t) =
-          let other = eqb-false kind 1 t in
+          let other = eqb-false kind ownership t in
           let range = verify-kinds in
-          let two : 2 ≡ kind = omega (arith, other) in
-          let from : 23 + 4 * (kind - 1) ≡ 27 = omega arith in
+          let two : contract ≡ kind = omega (arith, other) in
+          let from : ownershipSlot + terms * (kind - 1) ≡ contractSlot = omega arith in
           ap (λ n. storedByTerm f h s n filed) from
-          ∙ shown-is figureSlots 0 _ (storedByTerm f h s 27 filed) (calendarOf L) (omega arith)
-          (subst (λ g. Shows figureSlots 0 (storedByTerm f h s 27 filed) (inSlot 0 g) (calendarOf L)) (λ i. take 7 (figureGroups L) ++ (group 4 0 (λ u v n. other-kind h s kind filed entries 1 u v n (λ q. other (sym q)) i) ∷ group 4 0 (λ u v n. this-kind h s kind filed entries 2 u v n two i) ∷ []))
-          (terms-stored (take 8 (figureGroups L)) (drop 9 (figureGroups L)) 27 (λ u v n. entryKw n (entries u v 2)) f (calendarOf L) h s filed refl (omega arith) holder source (figures-shown o f m x r)))
+          ∙ shown-is figureSlots 0 _ (storedByTerm f h s contractSlot filed) (calendarOf L) (omega arith)
+          (subst (λ g. Shows figureSlots 0 (storedByTerm f h s contractSlot filed) (inSlot 0 g) (calendarOf L)) (λ i. take 7 (figureGroups L) ++ (group terms 0 (λ u v n. other-kind h s kind filed entries ownership u v n (λ q. other (sym q)) i) ∷ group terms 0 (λ u v n. this-kind h s kind filed entries contract u v n two i) ∷ []))
+          (terms-stored (take 8 (figureGroups L)) (drop 9 (figureGroups L)) contractSlot (λ u v n. entryKw n (entries u v contract)) f (calendarOf L) h s filed refl (omega arith) holder source (figures-shown o f m x r)))
 
   -- the kind's number, from its slot
   kind-back : kind - 1 + 1 ≡ kind
   kind-back = let range = verify-kinds in omega arith
 
-  noted : (m′ : List Bool) → m′ ≡ storedAt postedSlots m h s (6 + (kind - 1)) true → m′ ≡ postedOf (effect O L call)
+  noted : (m′ : List Bool) → m′ ≡ storedAt postedSlots m h s (evidencePostedSlot + (kind - 1)) true → m′ ≡ postedOf (effect O L call)
   unfolding postedOf postedGroups slotsOf effect withPapers afterVerify
   noted m′ e =
-      e ∙ shown-is postedSlots false _ (storedAt postedSlots m h s (6 + (kind - 1)) true) [] (omega arith)
-      (slot-stored false postedSlots 6 2 1 (take 3 (postedGroups L)) [] refl (omega arith) (L .papers .posted) (λ i j k. same3 h s kind i j k || L .papers .posted i j k) m [] h s (kind - 1) true holder source (let range = verify-kinds in omega arith)
-      (subst (λ n. StoredIn 2 1 h s n true (L .papers .posted) (λ i j k. same3 h s kind i j k || L .papers .posted i j k)) (sym kind-back) (number-posted 2 1 h s kind (L .papers .posted)))
+      e ∙ shown-is postedSlots false _ (storedAt postedSlots m h s (evidencePostedSlot + (kind - 1)) true) [] (omega arith)
+      (slot-stored false postedSlots evidencePostedSlot evidenceKinds 1 (take 3 (postedGroups L)) [] refl (omega arith) (L .papers .posted) (λ i j k. same3 h s kind i j k || L .papers .posted i j k) m [] h s (kind - 1) true holder source (let range = verify-kinds in omega arith)
+      (subst (λ n. StoredIn evidenceKinds 1 h s n true (L .papers .posted) (λ i j k. same3 h s kind i j k || L .papers .posted i j k)) (sym kind-back) (number-posted evidenceKinds 1 h s kind (L .papers .posted)))
       (posted-shown o f m x r))
 
   evidence-shown : Shows evidenceSlots noEntry x (inSlot noEntry (evidenceGroups L)) []
@@ -158,13 +160,13 @@ module _ (o f : List ℕ) (m : List Bool) (x : List Entry) (h s kind capacity ri
   entered x′ e =
       e ∙ ap (λ n. storedAt evidenceSlots x h s n filed) (let same : kind - 1 ≡ 0 + (kind - 1) = omega arith in same)
       ∙ shown-is evidenceSlots noEntry _ (storedAt evidenceSlots x h s (0 + (kind - 1)) filed) [] (omega arith)
-      (slot-stored noEntry evidenceSlots 0 2 1 [] [] refl (omega arith) (L .papers .entry) (λ i j k. cond (same3 h s kind i j k) filed (L .papers .entry i j k)) x [] h s (kind - 1) filed holder source (let range = verify-kinds in omega arith)
+      (slot-stored noEntry evidenceSlots 0 evidenceKinds 1 [] [] refl (omega arith) (L .papers .entry) (λ i j k. cond (same3 h s kind i j k) filed (L .papers .entry i j k)) x [] h s (kind - 1) filed holder source (let range = verify-kinds in omega arith)
       (λ i j k low high. ap (λ n. cond (same3 h s n i j k) filed (L .papers .entry i j k)) (sym kind-back))
       evidence-shown)
 
-  pub verify-steps : (entry : Entry) (f′ : List ℕ) (m′ : List Bool) (x′ : List Entry) → entry ≡ filed → f′ ≡ storedByTerm f h s (23 + 4 * (kind - 1)) entry → m′ ≡ storedAt postedSlots m h s (6 + (kind - 1)) true → x′ ≡ storedAt evidenceSlots x h s (kind - 1) entry → Steps O L call Done f′ m′ x′
+  pub verify-steps : (entry : Entry) (f′ : List ℕ) (m′ : List Bool) (x′ : List Entry) → entry ≡ filed → f′ ≡ storedByTerm f h s (ownershipSlot + terms * (kind - 1)) entry → m′ ≡ storedAt postedSlots m h s (evidencePostedSlot + (kind - 1)) true → x′ ≡ storedAt evidenceSlots x h s (kind - 1) entry → Steps O L call Done f′ m′ x′
   verify-steps entry f′ m′ x′ is ofFigures ofPosted ofEvidence =
       steps-accepted O L call number found f′ m′ x′ zero
-      (verified f′ (ofFigures ∙ ap (storedByTerm f h s (23 + 4 * (kind - 1))) is))
+      (verified f′ (ofFigures ∙ ap (storedByTerm f h s (ownershipSlot + terms * (kind - 1))) is))
       (noted m′ ofPosted)
       (entered x′ (ofEvidence ∙ ap (storedAt evidenceSlots x h s (kind - 1)) is))

@@ -9,6 +9,7 @@ use lib.Dec.{eqb}
 use Rattle.tariff.specs.Load.{loadPosted}
 use Rattle.tariff.specs.Terms.{termOf, hasMonth}
 use Rattle.tariff.specs.Evidence.{noEntry, entryOf}
+use Rattle.tariff.specs.Sizes.{lastMonth, terms, evidenceKinds}
 use Rattle.ledger.specs.Opening.{Opening, legal, endsAt}
 use Rattle.ledger.specs.Ledger.{Ledger, Loads, Rights, Priors, Papers, Tiers, emptyLedger, withLoads, withRights, withPriors, withPapers, withTiers}
 use Rattle.ledger.specs.Call.{Call, load, carry, prior, verify, migrate, openTier, nominate, award, closeTier}
@@ -21,17 +22,18 @@ use Rattle.ledger.proofs.PostingFacts.{load-facts, carry-facts, prior-facts, ve
 use Rattle.ledger.proofs.TierFacts.{migrate-facts, nominate-facts, award-facts}
 use Rattle.ledger.proofs.TiersSound.{TiersSound, sound-step, sound-empty}
 use Rattle.slots.specs.Groups.{inGroup}
+use Rattle.slots.specs.Layout.{tierSlots}
 use Rattle.slots.proofs.GroupLaws.{in-group}
 use Rattle.slots.proofs.Inside.{Inside, Inside2, not-there, added-inside, added-inside2, marked-inside, marked-inside2, term-inside}
 use Rattle.slots.proofs.MovesInside.{column-inside, loads-inside}
 
 pub record LoadsInside (x : Loads) : Type 0 where
-  pub kw : Inside 4 0 0 (x .kw)
-  pub posted : Inside 4 0 false (x .posted)
+  pub kw : Inside terms 0 0 (x .kw)
+  pub posted : Inside terms 0 false (x .posted)
 
 pub record RightsInside (x : Rights) : Type 0 where
-  pub carried : Inside 3 1 0 (x .carried)
-  pub awarded : Inside 3 1 0 (x .awarded)
+  pub carried : Inside lastMonth 1 0 (x .carried)
+  pub awarded : Inside lastMonth 1 0 (x .awarded)
   pub posted : Inside2 false (x .posted)
 
 pub record PriorsInside (x : Priors) : Type 0 where
@@ -40,12 +42,12 @@ pub record PriorsInside (x : Priors) : Type 0 where
   pub posted : Inside2 false (x .posted)
 
 pub record PapersInside (x : Papers) : Type 0 where
-  pub entry : Inside 2 1 noEntry (x .entry)
-  pub posted : Inside 2 1 false (x .posted)
+  pub entry : Inside evidenceKinds 1 noEntry (x .entry)
+  pub posted : Inside evidenceKinds 1 false (x .posted)
 
 pub record TiersInside (x : Tiers) : Type 0 where
-  pub nominated : Inside 10 0 0 (x .nominated)
-  pub awards : Inside 10 0 0 (x .awards)
+  pub nominated : Inside tierSlots 0 0 (x .nominated)
+  pub awards : Inside tierSlots 0 0 (x .awards)
 
 pub record Confined (L : Ledger) : Type 0 where
   pub sound : TiersSound (L .tiers)
@@ -67,8 +69,8 @@ module _ (o : Opening) (ok : legal o ≡ true) (L : Ledger) (k : Confined L) whe
   unfolding effect withLoads withRights withPriors withPapers withTiers migrated movedWhere loadsAfter afterLoad
   in-loads (load h s term contract n blocks) e =
       let f = load-facts o L h s term contract n blocks e in
-      let there = in-group 4 0 h s term (le-trans (f .holder) (counts .0)) (le-trans (f .sink) (counts .2)) zero-le (let t = f .termInRange in omega arith) in
-      record { kw = added-inside 4 0 h s term (loadPosted contract blocks) (L .loads .kw) there (k .loads .kw); posted = marked-inside 4 0 h s term (L .loads .posted) there (k .loads .posted) }
+      let there = in-group terms 0 h s term (le-trans (f .holder) (counts .0)) (le-trans (f .sink) (counts .2)) zero-le (let t = f .termInRange in omega arith) in
+      record { kw = added-inside terms 0 h s term (loadPosted contract blocks) (L .loads .kw) there (k .loads .kw); posted = marked-inside terms 0 h s term (L .loads .posted) there (k .loads .posted) }
   in-loads (carry h p kw) e = k .loads
   in-loads (prior h p a l) e = k .loads
   in-loads (verify h s kind capacity right first last) e = k .loads
@@ -93,8 +95,8 @@ module _ (o : Opening) (ok : legal o ≡ true) (L : Ledger) (k : Confined L) whe
   in-rights (migrate term sink lines) e =
       let f = migrate-facts o L term sink lines e in
       record {
-        carried = λ h p m. column-inside o L term sink lines (counts .0) f 3 1 p m (endsAt o sink p && hasMonth term m) (λ i. L .rights .carried i p m) (λ j. k .rights .carried j p m) h;
-        awarded = λ h p m. column-inside o L term sink lines (counts .0) f 3 1 p m (endsAt o sink p && hasMonth term m && not (eqb term 0)) (λ i. L .rights .awarded i p m) (λ j. k .rights .awarded j p m) h;
+        carried = λ h p m. column-inside o L term sink lines (counts .0) f lastMonth 1 p m (endsAt o sink p && hasMonth term m) (λ i. L .rights .carried i p m) (λ j. k .rights .carried j p m) h;
+        awarded = λ h p m. column-inside o L term sink lines (counts .0) f lastMonth 1 p m (endsAt o sink p && hasMonth term m && not (eqb term 0)) (λ i. L .rights .awarded i p m) (λ j. k .rights .awarded j p m) h;
         posted = k .rights .posted;
       }
   in-rights (openTier tier) e = k .rights
@@ -140,10 +142,10 @@ module _ (o : Opening) (ok : legal o ≡ true) (L : Ledger) (k : Confined L) whe
   in-papers (prior h p a l) e = k .papers
   in-papers (verify h s kind capacity right first last) e =
       let f = verify-facts o L h s kind capacity right first last e in
-      let there = in-group 2 1 h s kind (le-trans (f .holder) (counts .0)) (le-trans (f .source) (counts .1)) (f .kinds .0) (let t = f .kinds .1 in omega arith) in
+      let there = in-group evidenceKinds 1 h s kind (le-trans (f .holder) (counts .0)) (le-trans (f .source) (counts .1)) (f .kinds .0) (let t = f .kinds .1 in omega arith) in
       record {
-        entry = λ i j m none. ap (λ t. cond t (entryOf kind capacity right first last) (L .papers .entry i j m)) (not-there 2 1 h s kind i j m there none) ∙ k .papers .entry i j m none;
-        posted = marked-inside 2 1 h s kind (L .papers .posted) there (k .papers .posted);
+        entry = λ i j m none. ap (λ t. cond t (entryOf kind capacity right first last) (L .papers .entry i j m)) (not-there evidenceKinds 1 h s kind i j m there none) ∙ k .papers .entry i j m none;
+        posted = marked-inside evidenceKinds 1 h s kind (L .papers .posted) there (k .papers .posted);
       }
   in-papers (migrate term sink lines) e = k .papers
   in-papers (openTier tier) e = k .papers
@@ -151,8 +153,8 @@ module _ (o : Opening) (ok : legal o ≡ true) (L : Ledger) (k : Confined L) whe
   in-papers (award h p kw) e = k .papers
   in-papers closeTier e = k .papers
 
-  tier-cell : (h p : ℕ) → h < o .holders → p < o .paths → inGroup 10 0 h p (L .tiers .openNow) ≡ true
-  tier-cell h p a b = in-group 10 0 h p (L .tiers .openNow) (le-trans a (counts .0)) (le-trans b (counts .3)) zero-le (let t = k .sound .openLast in omega arith)
+  tier-cell : (h p : ℕ) → h < o .holders → p < o .paths → inGroup tierSlots 0 h p (L .tiers .openNow) ≡ true
+  tier-cell h p a b = in-group tierSlots 0 h p (L .tiers .openNow) (le-trans a (counts .0)) (le-trans b (counts .3)) zero-le (let t = k .sound .openLast in omega arith)
 
   in-tiers : (c : Call) → accepted o L c ≡ true → TiersInside (effect o L c .tiers)
   unfolding effect withLoads withRights withPriors withPapers withTiers migrated afterOpen afterNominate awardsAfter afterClose
@@ -164,13 +166,13 @@ module _ (o : Opening) (ok : legal o ≡ true) (L : Ledger) (k : Confined L) whe
   in-tiers (openTier tier) e = record { nominated = k .tiers .nominated; awards = k .tiers .awards }
   in-tiers (nominate h p kw) e =
       let f = nominate-facts o L h p kw e in
-      record { nominated = added-inside 10 0 h p (L .tiers .openNow) kw (L .tiers .nominated) (tier-cell h p (f .holder) (f .path)) (k .tiers .nominated); awards = k .tiers .awards }
+      record { nominated = added-inside tierSlots 0 h p (L .tiers .openNow) kw (L .tiers .nominated) (tier-cell h p (f .holder) (f .path)) (k .tiers .nominated); awards = k .tiers .awards }
   in-tiers (award h p kw) e =
       let f = award-facts o L h p kw e in
-      record { nominated = k .tiers .nominated; awards = added-inside 10 0 h p (L .tiers .openNow) kw (L .tiers .awards) (tier-cell h p (f .holder) (f .path)) (k .tiers .awards) }
+      record { nominated = k .tiers .nominated; awards = added-inside tierSlots 0 h p (L .tiers .openNow) kw (L .tiers .awards) (tier-cell h p (f .holder) (f .path)) (k .tiers .awards) }
   in-tiers closeTier e = record { nominated = λ h p t none. closed h p t none (eqb t (L .tiers .openNow)); awards = k .tiers .awards }
     where
-      closed : (h p t : ℕ) → inGroup 10 0 h p t ≡ false → (b : Bool) → cond b (L .tiers .awards h p t) (L .tiers .nominated h p t) ≡ 0
+      closed : (h p t : ℕ) → inGroup tierSlots 0 h p t ≡ false → (b : Bool) → cond b (L .tiers .awards h p t) (L .tiers .nominated h p t) ≡ 0
       closed h p t none true = k .tiers .awards h p t none
       closed h p t none false = k .tiers .nominated h p t none
 

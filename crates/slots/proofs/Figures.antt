@@ -11,6 +11,7 @@ use lib.Dec.{ltb, eqb}
 use borrow.Author.Tests.{eq-eqb, ltb-true}
 use Rattle.tariff.specs.declared.evidence.Entry.{Entry}
 use Rattle.tariff.specs.Sum.{countIf, sumTo}
+use Rattle.tariff.specs.Sizes.{terms, ownership, contract}
 use Rattle.tariff.specs.Ranges.{mostKw}
 use Rattle.tariff.specs.Evidence.{entryKw}
 use Rattle.tariff.proofs.Sums.{count-true, term-le-sum}
@@ -87,13 +88,13 @@ module _ (o f : List ℕ) (m : List Bool) (x : List Entry) (r : Reachable o f m 
       le-trans (nominated-at-base O L h p t k) (one-fits (λ y. nominatedAt O L y (pathBase O p) t) (O .holders) mostTogether h l (fits o f m x r .nominatedFit (pathBase O p) t))
 
   -- what evidence gives for a term stands at the source, ownership and contract apart
-  pub ownership-read : (h s term : ℕ) → h < 8 → s < 16 → term < 4 → readAt figureSlots 0 f h s (ownershipSlot + term) ≡ entryKw term (L .papers .entry h s 1)
+  pub ownership-read : (h s term : ℕ) → h < 8 → s < 16 → term < terms → readAt figureSlots 0 f h s (ownershipSlot + term) ≡ entryKw term (L .papers .entry h s ownership)
   unfolding figureGroups slotsOf
-  ownership-read h s term a b l = shown 7 23 4 0 (λ h s n. entryKw n (L .papers .entry h s 1)) refl (omega arith) refl h s term a b l ∙ ap (λ n. entryKw n (L .papers .entry h s 1)) (add-zero term)
+  ownership-read h s term a b l = shown 7 ownershipSlot terms 0 (λ h s n. entryKw n (L .papers .entry h s ownership)) refl (omega arith) refl h s term a b l ∙ ap (λ n. entryKw n (L .papers .entry h s ownership)) (add-zero term)
 
-  pub contract-read : (h s term : ℕ) → h < 8 → s < 16 → term < 4 → readAt figureSlots 0 f h s (contractSlot + term) ≡ entryKw term (L .papers .entry h s 2)
+  pub contract-read : (h s term : ℕ) → h < 8 → s < 16 → term < terms → readAt figureSlots 0 f h s (contractSlot + term) ≡ entryKw term (L .papers .entry h s contract)
   unfolding figureGroups slotsOf
-  contract-read h s term a b l = shown 8 27 4 0 (λ h s n. entryKw n (L .papers .entry h s 2)) refl (omega arith) refl h s term a b l ∙ ap (λ n. entryKw n (L .papers .entry h s 2)) (add-zero term)
+  contract-read h s term a b l = shown 8 contractSlot terms 0 (λ h s n. entryKw n (L .papers .entry h s contract)) refl (omega arith) refl h s term a b l ∙ ap (λ n. entryKw n (L .papers .entry h s contract)) (add-zero term)
 
   pub evidence-fits : (h s kind term : ℕ) → entryKw term (L .papers .entry h s kind) ≤ mostKw
   evidence-fits h s kind term = entry-le mostKw term (L .papers .entry h s kind) (fits o f m x r .evidenceFits h s kind)
@@ -125,9 +126,9 @@ module _ (o f : List ℕ) (m : List Bool) (x : List Entry) (r : Reachable o f m 
                   (
                     λ j i. one (λ y. L .tiers .awards y p (j + 0)) (all .awardsFit p (j + 0) k),
                     (
-                      λ j i. le-trans (evidence-fits h p 1 (j + 0)) (omega arith),
+                      λ j i. le-trans (evidence-fits h p ownership (j + 0)) (omega arith),
                       (
-                        λ j i. le-trans (evidence-fits h p 2 (j + 0)) (omega arith),
+                        λ j i. le-trans (evidence-fits h p contract (j + 0)) (omega arith),
                         tt,
                       ),
                     ),

@@ -7,6 +7,7 @@ use native.Mathlib.Omega.{arith}
 use lib.Dec.{leb, eqb}
 use borrow.Author.Tests.{leb-true, eqb-true}
 use Rattle.tariff.specs.Terms.{isMonth, hasMonth}
+use Rattle.tariff.specs.Sizes.{lastMonth}
 use Rattle.tariff.proofs.Sums.{count-false}
 use Rattle.tariff.proofs.Tests.{and-both, decided, both-ways}
 use Rattle.ledger.specs.Effects.{same2, same3, plusAt2, plusAt3, plusInTerm}
@@ -54,7 +55,7 @@ pub marked-inside2 : (a b : ℕ) (f : ℕ → ℕ → Bool) → inGroup 1 0 a b 
 marked-inside2 a b f there inside h p none = (λ i. not-there2 a b h p there none i || inside h p none i)
 
 -- what is added in the months of a term
-pub term-inside : (term a b kw : ℕ) (f : ℕ → ℕ → ℕ → ℕ) → a < 8 → b < 16 → Inside 3 1 0 f → Inside 3 1 0 (plusInTerm term a b kw f)
+pub term-inside : (term a b kw : ℕ) (f : ℕ → ℕ → ℕ → ℕ) → a < 8 → b < 16 → Inside lastMonth 1 0 f → Inside lastMonth 1 0 (plusInTerm term a b kw f)
 unfolding plusInTerm same2 hasMonth isMonth
 term-inside term a b kw f la lb inside h p m none =
     let old = inside h p m none in
@@ -70,5 +71,5 @@ term-inside term a b kw f la lb inside h p m none =
         let pb = eqb-true p b (place .1) in
         let low = leb-true 1 m (month .0) in
         let high = leb-true m 3 (month .1) in
-        absurd (both-ways (in-group 3 1 h p m (omega arith) (omega arith) low (omega arith)) none)
+        absurd (both-ways (in-group lastMonth 1 h p m (omega arith) (omega arith) low (omega arith)) none)
     outside (inr s) = s

@@ -8,6 +8,7 @@ use native.Mathlib.Nat.{mul-zero, zero-mul, zero-div}
 use native.Mathlib.Omega.{arith}
 use lib.Dec.{ltb, eqb}
 use borrow.Author.Tests.{ltb-true, ltb-false, eqb-true}
+use Rattle.tariff.specs.Sizes.{terms}
 use Rattle.migration.specs.declared.netting.ClassLine.{ClassLine}
 use Rattle.migration.specs.Migration.{netted, share, shares, shifted}
 use Rattle.tariff.proofs.Sums.{sum-zero}
@@ -54,7 +55,7 @@ module _ (o : Opening) (L : Ledger) (term sink : ℕ) (lines : List ClassLine) (
       go false = inside h none
 
   -- the loads
-  pub loads-inside : o .sinks ≤ 16 → Inside 4 0 0 (L .loads .kw) → Inside 4 0 0 (loadsAfter term sink (loadAfter o lines) (L .loads) .kw)
+  pub loads-inside : o .sinks ≤ 16 → Inside terms 0 0 (L .loads .kw) → Inside terms 0 0 (loadsAfter term sink (loadAfter o lines) (L .loads) .kw)
   unfolding loadsAfter movedWhere loadAfter
   loads-inside sinks inside h s t none = go (decided (eqb s sink && eqb t term))
     where
@@ -70,6 +71,6 @@ module _ (o : Opening) (L : Ledger) (term sink : ℕ) (lines : List ClassLine) (
               let tq = eqb-true t term (both .1) in
               let a = f .sinkInBook in
               let b = f .termInRange in
-              absurd (both-ways (in-group 4 0 h s t (ltb-true h 8 u) (omega arith) zero-le (omega arith)) none)
+              absurd (both-ways (in-group terms 0 h s t (ltb-true h 8 u) (omega arith) zero-le (omega arith)) none)
           far (inr u) = let b = ltb-false h 8 u in omega arith
       go (inr e) = ap (λ b. cond b (shifted (o .holders) (netted lines) (λ i. L .loads .kw i s t) h) (L .loads .kw h s t)) e ∙ inside h s t none

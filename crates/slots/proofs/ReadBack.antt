@@ -10,11 +10,12 @@ use lib.Dec.{leb, eqb}
 use borrow.Author.Tests.{eqb-true, eqb-false, leb-true, leb-false}
 use Rattle.tariff.proofs.Tests.{decided, both-ways}
 use Rattle.tariff.specs.Evidence.{noEntry}
+use Rattle.tariff.specs.Sizes.{lastMonth, terms, evidenceKinds}
 use Rattle.ledger.specs.Ledger.{Ledger, Tiers}
 use Rattle.ledger.proofs.TiersSound.{TiersSound}
 use Rattle.slots.specs.Cells.{readAt, arrayOf}
 use Rattle.slots.specs.Groups.{Group, group, slotsOf, inSlot, inGroup, figureFrom}
-use Rattle.slots.specs.Layout.{figureSlots, postedSlots, evidenceSlots, figureGroups, postedGroups, evidenceGroups, calendarOf, figuresOf, postedOf, evidenceOf, lastClosedIn, currentTierIn, figureIn, postedIn, ledgerIn}
+use Rattle.slots.specs.Layout.{figureSlots, postedSlots, evidenceSlots, figureGroups, postedGroups, evidenceGroups, calendarOf, figuresOf, postedOf, evidenceOf, lastClosedIn, currentTierIn, figureIn, postedIn, ledgerIn, loadSlot, priorSlot, priorRemainingSlot, carriedSlot, awardedSlot, nominatedSlot, awardsSlot, tierSlots, loadPostedSlot, carryPostedSlot, priorPostedSlot, evidencePostedSlot}
 use Rattle.slots.proofs.CellLaws.{array-shows}
 use Rattle.slots.proofs.GroupLaws.{group-facts, in-group, group-slot}
 use Rattle.slots.proofs.Confined.{Confined}
@@ -71,29 +72,29 @@ module _ (L : Ledger) (k : Confined L) where
   unfolding currentTierIn figuresOf calendarOf
   current-back = array-shows figureSlots 0 (inSlot 0 (figureGroups L)) (calendarOf L) .behind 1
 
-  nominated-back : (h p t : ℕ) → cond (eqb t (currentTierIn (figuresOf L))) (figureIn (figuresOf L) 12 1 0 h p 0) (figureIn (figuresOf L) 13 10 0 h p t) ≡ L .tiers .nominated h p t
+  nominated-back : (h p t : ℕ) → cond (eqb t (currentTierIn (figuresOf L))) (figureIn (figuresOf L) nominatedSlot 1 0 h p 0) (figureIn (figuresOf L) awardsSlot tierSlots 0 h p t) ≡ L .tiers .nominated h p t
   unfolding figureGroups slotsOf
-  nominated-back h p t = ap (λ n. cond (eqb t n) (figureIn (figuresOf L) 12 1 0 h p 0) (figureIn (figuresOf L) 13 10 0 h p t)) current-back ∙ go (eqb t (L .tiers .openNow)) refl
+  nominated-back h p t = ap (λ n. cond (eqb t n) (figureIn (figuresOf L) nominatedSlot 1 0 h p 0) (figureIn (figuresOf L) awardsSlot tierSlots 0 h p t)) current-back ∙ go (eqb t (L .tiers .openNow)) refl
     where
       opened : inGroup 1 0 h p 0 ≡ false → L .tiers .nominated h p (L .tiers .openNow) ≡ 0
-      opened none = k .tiers .nominated h p (L .tiers .openNow) (outside (decided (inGroup 10 0 h p (L .tiers .openNow))))
+      opened none = k .tiers .nominated h p (L .tiers .openNow) (outside (decided (inGroup tierSlots 0 h p (L .tiers .openNow))))
         where
-          outside : (inGroup 10 0 h p (L .tiers .openNow) ≡ true) ⊎ (inGroup 10 0 h p (L .tiers .openNow) ≡ false) → inGroup 10 0 h p (L .tiers .openNow) ≡ false
-          outside (inl e) = let f = group-facts 10 0 h p (L .tiers .openNow) e in absurd (both-ways (in-group 1 0 h p 0 (f .0) (f .1) (omega arith) (omega arith)) none)
+          outside : (inGroup tierSlots 0 h p (L .tiers .openNow) ≡ true) ⊎ (inGroup tierSlots 0 h p (L .tiers .openNow) ≡ false) → inGroup tierSlots 0 h p (L .tiers .openNow) ≡ false
+          outside (inl e) = let f = group-facts tierSlots 0 h p (L .tiers .openNow) e in absurd (both-ways (in-group 1 0 h p 0 (f .0) (f .1) (omega arith) (omega arith)) none)
           outside (inr e) = e
 
-      go : (b : Bool) → eqb t (L .tiers .openNow) ≡ b → cond b (figureIn (figuresOf L) 12 1 0 h p 0) (figureIn (figuresOf L) 13 10 0 h p t) ≡ L .tiers .nominated h p t
-      go true e = figure-back 5 12 1 0 (λ h p n. L .tiers .nominated h p (L .tiers .openNow)) refl (omega arith) refl h p 0 opened ∙ ap (L .tiers .nominated h p) (sym (eqb-true t (L .tiers .openNow) e))
-      go false e = figure-back 6 13 10 0 (L .tiers .awards) refl (omega arith) refl h p t (k .tiers .awards h p t) ∙ settled-even (L .tiers) (k .sound) h p t (eqb-false t (L .tiers .openNow) e)
+      go : (b : Bool) → eqb t (L .tiers .openNow) ≡ b → cond b (figureIn (figuresOf L) nominatedSlot 1 0 h p 0) (figureIn (figuresOf L) awardsSlot tierSlots 0 h p t) ≡ L .tiers .nominated h p t
+      go true e = figure-back 5 nominatedSlot 1 0 (λ h p n. L .tiers .nominated h p (L .tiers .openNow)) refl (omega arith) refl h p 0 opened ∙ ap (L .tiers .nominated h p) (sym (eqb-true t (L .tiers .openNow) e))
+      go false e = figure-back 6 awardsSlot tierSlots 0 (L .tiers .awards) refl (omega arith) refl h p t (k .tiers .awards h p t) ∙ settled-even (L .tiers) (k .sound) h p t (eqb-false t (L .tiers .openNow) e)
 
   pub read-back : ledgerIn (figuresOf L) (postedOf L) (evidenceOf L) ≡ L
   unfolding ledgerIn figureGroups postedGroups evidenceGroups evidenceOf slotsOf
   read-back =
       λ i.
       record {
-        loads = record { kw = λ h s t. figure-back 0 0 4 0 (L .loads .kw) refl (omega arith) refl h s t (k .loads .kw h s t) i; posted = λ h s t. posted-back 0 0 4 0 (L .loads .posted) refl (omega arith) refl h s t (k .loads .posted h s t) i };
-        rights = record { carried = λ h p m. figure-back 3 6 3 1 (L .rights .carried) refl (omega arith) refl h p m (k .rights .carried h p m) i; awarded = λ h p m. figure-back 4 9 3 1 (L .rights .awarded) refl (omega arith) refl h p m (k .rights .awarded h p m) i; posted = λ h p. posted-back 1 4 1 0 (λ h p n. L .rights .posted h p) refl (omega arith) refl h p 0 (k .rights .posted h p) i };
-        priors = record { allocated = λ h p. figure-back 1 4 1 0 (λ h p n. L .priors .allocated h p) refl (omega arith) refl h p 0 (k .priors .allocated h p) i; renewable = λ h p. figure-back 2 5 1 0 (λ h p n. L .priors .renewable h p) refl (omega arith) refl h p 0 (k .priors .renewable h p) i; posted = λ h p. posted-back 2 5 1 0 (λ h p n. L .priors .posted h p) refl (omega arith) refl h p 0 (k .priors .posted h p) i };
-        papers = record { entry = λ h s n. group-back noEntry evidenceSlots [] [] [] 0 2 1 (L .papers .entry) refl (omega arith) h s n (k .papers .entry h s n) i; posted = λ h s n. posted-back 3 6 2 1 (L .papers .posted) refl (omega arith) refl h s n (k .papers .posted h s n) i };
-        tiers = record { nominated = λ h p t. nominated-back h p t i; awards = λ h p t. figure-back 6 13 10 0 (L .tiers .awards) refl (omega arith) refl h p t (k .tiers .awards h p t) i; lastClosed = closed-back i; openNow = current-back i };
+        loads = record { kw = λ h s t. figure-back 0 loadSlot terms 0 (L .loads .kw) refl (omega arith) refl h s t (k .loads .kw h s t) i; posted = λ h s t. posted-back 0 loadPostedSlot terms 0 (L .loads .posted) refl (omega arith) refl h s t (k .loads .posted h s t) i };
+        rights = record { carried = λ h p m. figure-back 3 carriedSlot lastMonth 1 (L .rights .carried) refl (omega arith) refl h p m (k .rights .carried h p m) i; awarded = λ h p m. figure-back 4 awardedSlot lastMonth 1 (L .rights .awarded) refl (omega arith) refl h p m (k .rights .awarded h p m) i; posted = λ h p. posted-back 1 carryPostedSlot 1 0 (λ h p n. L .rights .posted h p) refl (omega arith) refl h p 0 (k .rights .posted h p) i };
+        priors = record { allocated = λ h p. figure-back 1 priorSlot 1 0 (λ h p n. L .priors .allocated h p) refl (omega arith) refl h p 0 (k .priors .allocated h p) i; renewable = λ h p. figure-back 2 priorRemainingSlot 1 0 (λ h p n. L .priors .renewable h p) refl (omega arith) refl h p 0 (k .priors .renewable h p) i; posted = λ h p. posted-back 2 priorPostedSlot 1 0 (λ h p n. L .priors .posted h p) refl (omega arith) refl h p 0 (k .priors .posted h p) i };
+        papers = record { entry = λ h s n. group-back noEntry evidenceSlots [] [] [] 0 evidenceKinds 1 (L .papers .entry) refl (omega arith) h s n (k .papers .entry h s n) i; posted = λ h s n. posted-back 3 evidencePostedSlot evidenceKinds 1 (L .papers .posted) refl (omega arith) refl h s n (k .papers .posted h s n) i };
+        tiers = record { nominated = λ h p t. nominated-back h p t i; awards = λ h p t. figure-back 6 awardsSlot tierSlots 0 (L .tiers .awards) refl (omega arith) refl h p t (k .tiers .awards h p t) i; lastClosed = closed-back i; openNow = current-back i };
       }

@@ -4,6 +4,7 @@ use mathlib.Core.Path.{sym, ap, ap₂, _∙_}
 use native.Mathlib.Omega.{arith}
 use Rattle.ledger.specs.Calendar.{tierIsOpen}
 use Rattle.ledger.specs.Causes.{awardCauses, callCauses, refusal}
+use Rattle.ledger.specs.Numbers.{notInBook, outOfRange, notAtThisTime, aboveNominated}
 use Rattle.records.proofs.CauseLaws.{link, no-more}
 use Rattle.records.proofs.MetCauses.{met-first, unmet-first}
 use Rattle.slots.specs.Layout.{ledgerIn}
@@ -22,7 +23,7 @@ no-path-requires c κs = search needs
 
 returns : tie.Need-returns
 unfolding refusal callCauses awardCauses
-returns c = λ m x r. met-first 2 _ _ (sym (ap₂ (λ a b. a || b) (c .before .before .no-holder .ensures) (c .before .no-path .ensures)) ∙ c .if1 .taken)
+returns c = λ m x r. met-first notInBook _ _ (sym (ap₂ (λ a b. a || b) (c .before .before .no-holder .ensures) (c .before .no-path .ensures)) ∙ c .if1 .taken)
 
 wrong-kw-requires : tie.Need-wrong-kw-requires
 wrong-kw-requires c κs = search needs
@@ -30,8 +31,8 @@ wrong-kw-requires c κs = search needs
 returns-2 : tie.Need-returns-2
 unfolding refusal callCauses awardCauses
 returns-2 c = λ m x r.
-    unmet-first 2 _ _ (sym (ap₂ (λ a b. a || b) (c .before .before .before .before .no-holder .ensures) (c .before .before .before .no-path .ensures)) ∙ c .before .before .if1 .left)
-    (met-first 3 _ _ (sym (c .before .wrong-kw .ensures) ∙ c .if2 .taken))
+    unmet-first notInBook _ _ (sym (ap₂ (λ a b. a || b) (c .before .before .before .before .no-holder .ensures) (c .before .before .before .no-path .ensures)) ∙ c .before .before .if1 .left)
+    (met-first outOfRange _ _ (sym (c .before .wrong-kw .ensures) ∙ c .if2 .taken))
 
 current-tier-requires : tie.Need-current-tier-requires
 current-tier-requires c κs = search needs
@@ -42,9 +43,9 @@ is-open-requires c κs = search needs
 returns-3 : tie.Need-returns-3
 unfolding refusal callCauses awardCauses tierIsOpen ledgerIn
 returns-3 c = λ m x r.
-    unmet-first 2 _ _ (sym (ap₂ (λ a b. a || b) (c .before .before .before .before .before .before .before .no-holder .ensures) (c .before .before .before .before .before .before .no-path .ensures)) ∙ c .before .before .before .before .before .if1 .left)
-    (unmet-first 3 _ _ (sym (c .before .before .before .before .wrong-kw .ensures) ∙ c .before .before .before .if2 .left)
-    (met-first 4 _ _ (sym (ap not (open-test _ _ _ (c .before .is-open .ensures) (c .before .before .current-tier .ensures))) ∙ c .if3 .taken)))
+    unmet-first notInBook _ _ (sym (ap₂ (λ a b. a || b) (c .before .before .before .before .before .before .before .no-holder .ensures) (c .before .before .before .before .before .before .no-path .ensures)) ∙ c .before .before .before .before .before .if1 .left)
+    (unmet-first outOfRange _ _ (sym (c .before .before .before .before .wrong-kw .ensures) ∙ c .before .before .before .if2 .left)
+    (met-first notAtThisTime _ _ (sym (ap not (open-test _ _ _ (c .before .is-open .ensures) (c .before .before .current-tier .ensures))) ∙ c .if3 .taken)))
 
 exceeds-nominated-requires : tie.Need-exceeds-nominated-requires
 exceeds-nominated-requires c κs = (c .before .before .current-tier .ensures, tier-within _ _ _ _ _ (c .before .before .before .before .before .before .before .before .before .before .pre .reachable) (c .before .before .current-tier .ensures), known-room _ _ _ _ _ _ _ _ _ (c .before .before .before .before .before .before .before .before .before .before .pre .reachable) (c .before .before .before .before .before .before .before .no-holder .ensures) (c .before .before .before .before .before .before .no-path .ensures) (c .before .before .before .before .before .if1 .left) (c .before .before .before .before .wrong-kw .ensures) (c .before .before .before .if2 .left) (omega arith))
@@ -55,10 +56,10 @@ refuse-requires c κs = search needs
 returns-4 : tie.Need-returns-4
 unfolding refusal callCauses awardCauses tierIsOpen ledgerIn
 returns-4 c = λ m x r.
-    unmet-first 2 _ _ (sym (ap₂ (λ a b. a || b) (c .before .before .before .before .before .before .before .before .before .no-holder .ensures) (c .before .before .before .before .before .before .before .before .no-path .ensures)) ∙ c .before .before .before .before .before .before .before .if1 .left)
-    (unmet-first 3 _ _ (sym (c .before .before .before .before .before .before .wrong-kw .ensures) ∙ c .before .before .before .before .before .if2 .left)
-    (unmet-first 4 _ _ (sym (ap not (open-test _ _ _ (c .before .before .before .is-open .ensures) (c .before .before .before .before .current-tier .ensures))) ∙ c .before .before .if3 .left)
-    (link 14 _ _ _ (c .refuse .ensures) (c .before .exceeds-nominated .ensures m x) no-more)))
+    unmet-first notInBook _ _ (sym (ap₂ (λ a b. a || b) (c .before .before .before .before .before .before .before .before .before .no-holder .ensures) (c .before .before .before .before .before .before .before .before .no-path .ensures)) ∙ c .before .before .before .before .before .before .before .if1 .left)
+    (unmet-first outOfRange _ _ (sym (c .before .before .before .before .before .before .wrong-kw .ensures) ∙ c .before .before .before .before .before .if2 .left)
+    (unmet-first notAtThisTime _ _ (sym (ap not (open-test _ _ _ (c .before .before .before .is-open .ensures) (c .before .before .before .before .current-tier .ensures))) ∙ c .before .before .if3 .left)
+    (link aboveNominated _ _ _ (c .refuse .ensures) (c .before .exceeds-nominated .ensures m x) no-more)))
 
 pub award-refusal-spec : {M : Type 1} → statement M
 award-refusal-spec =

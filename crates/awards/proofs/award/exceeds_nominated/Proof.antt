@@ -1,6 +1,7 @@
 -- `awards::award::exceeds_nominated` meets its contract: the figures that it reads are the open tier's nominations and awards. Assumes nothing.
 use Prim.Native.Nat.{_+_}
 use native.Mathlib.Omega.{arith}
+use Rattle.slots.specs.Layout.{awardsSlot}
 use Rattle.awards.proofs.AwardLaws.{nominated-test}
 use borrow.Author.Needs.{needs}
 use Rattle.awards.proofs.award.exceeds_nominated.Statement.{statement}
@@ -16,7 +17,7 @@ read-requires-2 : tie.Need-read-requires-2
 read-requires-2 c κs = search needs
 
 add-wanted : tie.Need-add-wanted
-add-wanted c = let e = c .read2 .ensures in let fits = c .before .before .before .pre .2 .room (13 + c .before .before .before .args .tier) (omega arith) (omega arith) in omega arith
+add-wanted c = let e = c .read2 .ensures in let fits = c .before .before .before .pre .2 .room (awardsSlot + c .before .before .before .args .tier) (omega arith) (omega arith) in omega arith
 
 returns : tie.Need-returns
 returns c = λ m x. nominated-test (c .before .before .before .args .f .now) m x _ _ _ _ _ _ (c .before .before .before .pre .0) (c .before .before .before .pre .1) (c .before .before .before .pre .2) (c .before .read .ensures) (c .read2 .ensures)

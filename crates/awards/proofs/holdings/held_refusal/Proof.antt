@@ -2,6 +2,7 @@
 use mathlib.Core.Bool.{_||_}
 use mathlib.Core.Path.{ap₂}
 use Rattle.ledger.specs.Causes.{heldCauses, queryCauses, queryRefusal}
+use Rattle.ledger.specs.Numbers.{notInBook, outOfRange}
 use Rattle.records.proofs.CauseLaws.{link, no-more}
 use borrow.Author.Needs.{needs}
 use Rattle.awards.proofs.holdings.held_refusal.Statement.{statement}
@@ -24,7 +25,7 @@ refuse-requires-2 c κs = search needs
 
 returns : tie.Need-returns
 unfolding queryRefusal queryCauses heldCauses
-returns c = λ L. link 2 _ _ _ (c .refuse2 .ensures) (ap₂ (λ a b. a || b) (c .before .before .before .before .no-holder .ensures) (c .before .before .before .no-path .ensures)) (link 3 _ _ _ (c .before .refuse .ensures) (c .before .before .wrong-month .ensures) no-more)
+returns c = λ L. link notInBook _ _ _ (c .refuse2 .ensures) (ap₂ (λ a b. a || b) (c .before .before .before .before .no-holder .ensures) (c .before .before .before .no-path .ensures)) (link outOfRange _ _ _ (c .before .refuse .ensures) (c .before .before .wrong-month .ensures) no-more)
 
 pub held-refusal-spec : {M : Type 1} → statement M
 held-refusal-spec =

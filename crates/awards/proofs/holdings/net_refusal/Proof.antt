@@ -1,5 +1,6 @@
 -- `awards::holdings::net_refusal` meets its contract: its tests are the causes, in their order. Assumes nothing.
 use Rattle.ledger.specs.Causes.{netCauses, queryCauses, queryRefusal}
+use Rattle.ledger.specs.Numbers.{notInBook, outOfRange}
 use Rattle.records.proofs.CauseLaws.{link, no-more}
 use borrow.Author.Needs.{needs}
 use Rattle.awards.proofs.holdings.net_refusal.Statement.{statement}
@@ -19,7 +20,7 @@ refuse-requires-2 c κs = search needs
 
 returns : tie.Need-returns
 unfolding queryRefusal queryCauses netCauses
-returns c = λ L. link 2 _ _ _ (c .refuse2 .ensures) (c .before .before .before .no-path .ensures) (link 3 _ _ _ (c .before .refuse .ensures) (c .before .before .wrong-month .ensures) no-more)
+returns c = λ L. link notInBook _ _ _ (c .refuse2 .ensures) (c .before .before .before .no-path .ensures) (link outOfRange _ _ _ (c .before .refuse .ensures) (c .before .before .wrong-month .ensures) no-more)
 
 pub net-refusal-spec : {M : Type 1} → statement M
 net-refusal-spec =

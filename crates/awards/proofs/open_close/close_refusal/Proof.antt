@@ -3,6 +3,7 @@ use mathlib.Core.Bool.{not}
 use mathlib.Core.Path.{ap}
 use Rattle.ledger.specs.Calendar.{tierIsOpen}
 use Rattle.ledger.specs.Causes.{closeCauses, callCauses, refusal}
+use Rattle.ledger.specs.Numbers.{notAtThisTime}
 use Rattle.records.proofs.CauseLaws.{link, no-more}
 use Rattle.slots.specs.Layout.{ledgerIn}
 use Rattle.slots.proofs.CalendarLaws.{open-test}
@@ -21,7 +22,7 @@ refuse-requires c κs = search needs
 
 returns : tie.Need-returns
 unfolding refusal callCauses closeCauses tierIsOpen ledgerIn
-returns c = λ O m x. link 4 _ _ _ (c .refuse .ensures) (ap not (open-test _ _ _ (c .before .is-open .ensures) (c .before .before .current-tier .ensures))) no-more
+returns c = λ O m x. link notAtThisTime _ _ _ (c .refuse .ensures) (ap not (open-test _ _ _ (c .before .is-open .ensures) (c .before .before .current-tier .ensures))) no-more
 
 pub close-refusal-spec : {M : Type 1} → statement M
 close-refusal-spec =

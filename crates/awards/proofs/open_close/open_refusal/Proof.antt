@@ -1,6 +1,7 @@
 -- `awards::open_close::open_refusal` meets its contract: its tests are the causes, in their order. Assumes nothing.
 use Rattle.ledger.specs.Calendar.{tierIsOpen, tierInTurn}
 use Rattle.ledger.specs.Causes.{openCauses, callCauses, refusal}
+use Rattle.ledger.specs.Numbers.{outOfRange, notAtThisTime}
 use Rattle.records.proofs.CauseLaws.{link, no-more}
 use Rattle.slots.specs.Layout.{ledgerIn}
 use Rattle.awards.proofs.OpenCloseLaws.{turn-test}
@@ -29,8 +30,8 @@ refuse-requires-2 c κs = search needs
 returns : tie.Need-returns
 unfolding refusal callCauses openCauses tierInTurn tierIsOpen ledgerIn
 returns c = λ O m x.
-    link 3 _ _ _ (c .refuse2 .ensures) (c .before .before .before .before .before .wrong-tier .ensures)
-    (link 4 _ _ _ (c .before .refuse .ensures) (turn-test _ _ _ _ _ _ (c .before .before .in-turn .ensures) (c .before .before .before .before .last-closed .ensures) (c .before .before .before .current-tier .ensures)) no-more)
+    link outOfRange _ _ _ (c .refuse2 .ensures) (c .before .before .before .before .before .wrong-tier .ensures)
+    (link notAtThisTime _ _ _ (c .before .refuse .ensures) (turn-test _ _ _ _ _ _ (c .before .before .in-turn .ensures) (c .before .before .before .before .last-closed .ensures) (c .before .before .before .current-tier .ensures)) no-more)
 
 pub open-refusal-spec : {M : Type 1} → statement M
 open-refusal-spec =

@@ -4,8 +4,9 @@ use mathlib.Core.Path.{ap, ap₂, _∙_}
 use native.Mathlib.Omega.{arith}
 use Rattle.ledger.specs.Causes.{sinkNotFor, carryCauses, callCauses, refusal}
 use Rattle.ledger.specs.Calendar.{tierIsOpen, beforeTier}
+use Rattle.ledger.specs.Numbers.{notInBook, outOfRange, notAtThisTime, postedBefore, sinkNotForIt}
 use Rattle.records.proofs.CauseLaws.{link, no-more}
-use Rattle.slots.specs.Layout.{ledgerIn}
+use Rattle.slots.specs.Layout.{ledgerIn, carryPostedSlot}
 use Rattle.slots.proofs.Reachable.{posted-long}
 use Rattle.slots.proofs.PostedLaws.{posted-one}
 use Rattle.slots.proofs.CalendarLaws.{late-test}
@@ -58,11 +59,11 @@ refuse-requires-5 c κs = search needs
 returns : tie.Need-returns
 unfolding refusal callCauses carryCauses beforeTier tierIsOpen ledgerIn
 returns c x r =
-    link 2 _ _ _ (c .refuse5 .ensures) (ap₂ (λ a b. a || b) (c .before .before .before .before .before .before .before .before .before .before .before .before .before .no-holder .ensures) (c .before .before .before .before .before .before .before .before .before .before .before .before .no-path .ensures))
-    (link 3 _ _ _ (c .before .refuse4 .ensures) (c .before .before .before .before .before .before .before .before .before .before .before .wrong-kw .ensures)
-    (link 4 _ _ _ (c .before .before .refuse3 .ensures) (late-test 1 _ _ _ _ _ (c .before .before .before .before .before .before .before .before .before-tier .ensures) (c .before .before .before .before .before .before .before .before .before .before .last-closed .ensures) (c .before .before .before .before .before .before .before .before .before .current-tier .ensures))
-    (link 5 _ _ _ (c .before .before .before .refuse2 .ensures) (c .before .before .before .before .before .before .before .is-posted .ensures ∙ posted-one _ _ _ 4 (omega arith))
-    (link 10 _ _ _ (c .before .before .before .before .refuse .ensures) (c .before .before .before .before .before .sink-not-for .ensures ∙ ap (sinkNotFor _ _) (c .before .before .before .before .before .before .path-sink .ensures)) no-more))))
+    link notInBook _ _ _ (c .refuse5 .ensures) (ap₂ (λ a b. a || b) (c .before .before .before .before .before .before .before .before .before .before .before .before .before .no-holder .ensures) (c .before .before .before .before .before .before .before .before .before .before .before .before .no-path .ensures))
+    (link outOfRange _ _ _ (c .before .refuse4 .ensures) (c .before .before .before .before .before .before .before .before .before .before .before .wrong-kw .ensures)
+    (link notAtThisTime _ _ _ (c .before .before .refuse3 .ensures) (late-test 1 _ _ _ _ _ (c .before .before .before .before .before .before .before .before .before-tier .ensures) (c .before .before .before .before .before .before .before .before .before .before .last-closed .ensures) (c .before .before .before .before .before .before .before .before .before .current-tier .ensures))
+    (link postedBefore _ _ _ (c .before .before .before .refuse2 .ensures) (c .before .before .before .before .before .before .before .is-posted .ensures ∙ posted-one _ _ _ carryPostedSlot (omega arith))
+    (link sinkNotForIt _ _ _ (c .before .before .before .before .refuse .ensures) (c .before .before .before .before .before .sink-not-for .ensures ∙ ap (sinkNotFor _ _) (c .before .before .before .before .before .before .path-sink .ensures)) no-more))))
 
 pub carry-refusal-spec : {M : Type 1} → statement M
 carry-refusal-spec =

@@ -2,10 +2,12 @@
 use mathlib.Core.Bool.{_||_}
 use mathlib.Core.Path.{ap₂, _∙_}
 use native.Mathlib.Omega.{arith}
+use Rattle.tariff.specs.Sizes.{terms}
 use Rattle.ledger.specs.Calendar.{tierIsOpen, beforeTier, loadInTime}
 use Rattle.ledger.specs.Causes.{loadCauses}
+use Rattle.ledger.specs.Numbers.{notInBook, outOfRange, notAtThisTime, postedBefore}
 use Rattle.records.proofs.CauseLaws.{link, no-more}
-use Rattle.slots.specs.Layout.{ledgerIn}
+use Rattle.slots.specs.Layout.{ledgerIn, loadPostedSlot}
 use Rattle.slots.proofs.Reachable.{posted-long}
 use Rattle.slots.proofs.CalendarLaws.{late-test}
 use Rattle.postings.proofs.PostedSlotLaws.{posted-there}
@@ -52,10 +54,10 @@ refuse-requires-4 c κs = search needs
 returns : tie.Need-returns
 unfolding loadCauses loadInTime beforeTier tierIsOpen ledgerIn
 returns c x r =
-    link 2 _ _ _ (c .refuse4 .ensures) (ap₂ (λ a b. a || b) (c .before .before .before .before .before .before .before .before .before .before .before .no-holder .ensures) (c .before .before .before .before .before .before .before .before .before .before .no-sink .ensures))
-    (link 3 _ _ _ (c .before .refuse3 .ensures) (c .before .before .before .before .before .before .before .before .before .load-out-of-range .ensures)
-    (link 4 _ _ _ (c .before .before .refuse2 .ensures) (late-test _ _ _ _ _ _ (c .before .before .before .before .before .before .before-term .ensures) (c .before .before .before .before .before .before .before .before .last-closed .ensures) (c .before .before .before .before .before .before .before .current-tier .ensures))
-    (link 5 _ _ _ (c .before .before .before .refuse .ensures) (c .before .before .before .before .is-posted .ensures ∙ posted-there 0 4 0 _ _ _ _ _ (omega arith) (c .before .before .before .before .before .posted-slot .ensures)) no-more)))
+    link notInBook _ _ _ (c .refuse4 .ensures) (ap₂ (λ a b. a || b) (c .before .before .before .before .before .before .before .before .before .before .before .no-holder .ensures) (c .before .before .before .before .before .before .before .before .before .before .no-sink .ensures))
+    (link outOfRange _ _ _ (c .before .refuse3 .ensures) (c .before .before .before .before .before .before .before .before .before .load-out-of-range .ensures)
+    (link notAtThisTime _ _ _ (c .before .before .refuse2 .ensures) (late-test _ _ _ _ _ _ (c .before .before .before .before .before .before .before-term .ensures) (c .before .before .before .before .before .before .before .before .last-closed .ensures) (c .before .before .before .before .before .before .before .current-tier .ensures))
+    (link postedBefore _ _ _ (c .before .before .before .refuse .ensures) (c .before .before .before .before .is-posted .ensures ∙ posted-there loadPostedSlot terms 0 _ _ _ _ _ (omega arith) (c .before .before .before .before .before .posted-slot .ensures)) no-more)))
 
 pub load-refusal-early-spec : {M : Type 1} → statement M
 load-refusal-early-spec =

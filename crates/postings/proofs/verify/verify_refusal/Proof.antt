@@ -2,11 +2,13 @@
 use mathlib.Core.Bool.{not, _||_}
 use mathlib.Core.Path.{ap, ap₂, _∙_}
 use native.Mathlib.Omega.{arith}
+use Rattle.tariff.specs.Sizes.{evidenceKinds}
 use Rattle.tariff.proofs.Tests.{not-not}
 use Rattle.ledger.specs.Causes.{verifyCauses, callCauses, refusal}
 use Rattle.ledger.specs.Calendar.{tierIsOpen}
+use Rattle.ledger.specs.Numbers.{notInBook, outOfRange, notAtThisTime, postedBefore}
 use Rattle.records.proofs.CauseLaws.{link, no-more}
-use Rattle.slots.specs.Layout.{ledgerIn}
+use Rattle.slots.specs.Layout.{ledgerIn, evidencePostedSlot}
 use Rattle.slots.proofs.Reachable.{posted-long}
 use Rattle.slots.proofs.CalendarLaws.{open-test}
 use Rattle.postings.proofs.PostedSlotLaws.{posted-there}
@@ -50,10 +52,10 @@ refuse-requires-4 c κs = search needs
 returns : tie.Need-returns
 unfolding refusal callCauses verifyCauses tierIsOpen ledgerIn
 returns c x r =
-    link 2 _ _ _ (c .refuse4 .ensures) (ap₂ (λ a b. a || b) (c .before .before .before .before .before .before .before .before .before .before .no-holder .ensures) (c .before .before .before .before .before .before .before .before .before .no-source .ensures))
-    (link 3 _ _ _ (c .before .refuse3 .ensures) (ap not (c .before .before .before .before .before .before .before .before .evidence-in-range .ensures) ∙ not-not _)
-    (link 4 _ _ _ (c .before .before .refuse2 .ensures) (open-test _ _ _ (c .before .before .before .before .before .before .is-open .ensures) (c .before .before .before .before .before .before .before .current-tier .ensures))
-    (link 5 _ _ _ (c .before .before .before .refuse .ensures) (c .before .before .before .before .is-posted .ensures ∙ posted-there 6 2 1 _ _ _ _ _ (omega arith) (c .before .before .before .before .before .posted-slot .ensures)) no-more)))
+    link notInBook _ _ _ (c .refuse4 .ensures) (ap₂ (λ a b. a || b) (c .before .before .before .before .before .before .before .before .before .before .no-holder .ensures) (c .before .before .before .before .before .before .before .before .before .no-source .ensures))
+    (link outOfRange _ _ _ (c .before .refuse3 .ensures) (ap not (c .before .before .before .before .before .before .before .before .evidence-in-range .ensures) ∙ not-not _)
+    (link notAtThisTime _ _ _ (c .before .before .refuse2 .ensures) (open-test _ _ _ (c .before .before .before .before .before .before .is-open .ensures) (c .before .before .before .before .before .before .before .current-tier .ensures))
+    (link postedBefore _ _ _ (c .before .before .before .refuse .ensures) (c .before .before .before .before .is-posted .ensures ∙ posted-there evidencePostedSlot evidenceKinds 1 _ _ _ _ _ (omega arith) (c .before .before .before .before .before .posted-slot .ensures)) no-more)))
 
 pub verify-refusal-spec : {M : Type 1} → statement M
 verify-refusal-spec =
