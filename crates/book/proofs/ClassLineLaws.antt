@@ -9,6 +9,7 @@ use lib.ListN.{length, getD, set, take, replicate, length-set, length-replicate}
 use lib.Seq.{ext-getD, getD-take, length-take-le}
 use lib.Dec.{leb, ltb}
 use borrow.Author.Tests.{leb-true, leb-false, le-leb, lt-leb, ltb-true, ltb-false, lt-ltb, le-ltb}
+use Rattle.tariff.specs.Sizes.{maxClassLines}
 use Rattle.migration.specs.declared.netting.ClassLine.{ClassLine}
 use Rattle.tariff.specs.Sum.{anyOf, anyBelow, listTo}
 use Rattle.tariff.specs.Ranges.{wrongTerm}
@@ -17,6 +18,7 @@ use Rattle.migration.specs.Netting.{classLineAt, classLinesOf, sameCounts, Same
 use Rattle.tariff.proofs.Tests.{decided, or-left-true, any-at}
 use Rattle.tariff.proofs.Lists.{length-list-to, at-list-to, any-list-to, Filled, filled-none, filled-more}
 use Rattle.migration.proofs.FitLines.{counted}
+use Rattle.ledger.specs.Numbers.{unreadable, notInBook, outOfRange}
 use Rattle.ledger.specs.Opening.{Opening}
 use Rattle.ledger.specs.Ranges.{noHolder, noSink, strangerIn, wrongMigration}
 use Rattle.ledger.specs.Call.{migrate}
@@ -42,37 +44,37 @@ unfolding columnsTo
 columns-more lines k = ap (columnsTo lines) (let e : suc k ≡ k + 1 = omega arith in e)
 
 -- a number put into a column
-pub placed-in : (xs : List ℕ) (k v : ℕ) → k < 64 → set xs k v ≡ placed xs k v
+pub placed-in : (xs : List ℕ) (k v : ℕ) → k < maxClassLines → set xs k v ≡ placed xs k v
 unfolding placed
-placed-in xs k v l = sym (ap (λ t. cond t (set xs k v) xs) (lt-ltb k 64 l))
+placed-in xs k v l = sym (ap (λ t. cond t (set xs k v) xs) (lt-ltb k maxClassLines l))
 
-pub placed-out : (xs : List ℕ) (k v : ℕ) → 64 ≤ k → xs ≡ placed xs k v
+pub placed-out : (xs : List ℕ) (k v : ℕ) → maxClassLines ≤ k → xs ≡ placed xs k v
 unfolding placed
-placed-out xs k v l = sym (ap (λ t. cond t (set xs k v) xs) (le-ltb k 64 l))
+placed-out xs k v l = sym (ap (λ t. cond t (set xs k v) xs) (le-ltb k maxClassLines l))
 
 placed-long : (xs : List ℕ) (k v : ℕ) → length (placed xs k v) ≡ length xs
 unfolding placed
-placed-long xs k v = go (ltb k 64)
+placed-long xs k v = go (ltb k maxClassLines)
   where
     go : (t : Bool) → length (cond t (set xs k v) xs) ≡ length xs
     go true = length-set xs k v
     go false = refl
 
 -- the first n of a full column
-pub first-long : (n : ℕ) (xs : List ℕ) → n ≤ 64 → length xs ≡ 64 → n ≡ length (take n xs)
+pub first-long : (n : ℕ) (xs : List ℕ) → n ≤ maxClassLines → length xs ≡ maxClassLines → n ≡ length (take n xs)
 first-long n xs few full = sym (length-take-le n xs (omega arith))
 
 -- one column: the field f of each line
-module _ (lines : List ClassLine) (f : ClassLine → ℕ) (column : Columns → List ℕ) (starts : column noColumns ≡ replicate 64 0) (puts : (c : Columns) (k : ℕ) (l : ClassLine) → column (withLine c k l) ≡ placed (column c) k (f l)) where
+module _ (lines : List ClassLine) (f : ClassLine → ℕ) (column : Columns → List ℕ) (starts : column noColumns ≡ replicate maxClassLines 0) (puts : (c : Columns) (k : ℕ) (l : ClassLine) → column (withLine c k l) ≡ placed (column c) k (f l)) where
   abbrev fieldAt : ℕ → ℕ
   fieldAt j = f (getD lines j noLine)
 
-  column-long : (k : ℕ) → length (column (columnsTo lines k)) ≡ 64
+  column-long : (k : ℕ) → length (column (columnsTo lines k)) ≡ maxClassLines
   unfolding columnsTo
-  column-long zero = ap length starts ∙ length-replicate {A = ℕ} 64 0
+  column-long zero = ap length starts ∙ length-replicate {A = ℕ} maxClassLines 0
   column-long (suc k) = ap length (puts (columnsTo lines k) k (getD lines k noLine)) ∙ placed-long (column (columnsTo lines k)) k (fieldAt k) ∙ column-long k
 
-  column-filled : (k : ℕ) → k ≤ 64 → Filled fieldAt k (column (columnsTo lines k))
+  column-filled : (k : ℕ) → k ≤ maxClassLines → Filled fieldAt k (column (columnsTo lines k))
   unfolding columnsTo
   column-filled zero l = filled-none fieldAt (column noColumns)
   column-filled (suc k) l =
@@ -81,7 +83,7 @@ module _ (lines : List ClassLine) (f : ClassLine → ℕ) (column : Columns → 
       subst (Filled fieldAt (suc k)) (placed-in old k (fieldAt k) l ∙ sym (puts (columnsTo lines k) k (getD lines k noLine)))
       (λ q b. filled-more fieldAt k old (fieldAt k) (omega arith) refl (column-filled k (omega arith)) q (omega arith))
 
-  module _ (n : ℕ) (few : n ≤ 64) where
+  module _ (n : ℕ) (few : n ≤ maxClassLines) where
     column-at : (j : ℕ) → j < n → getD (take n (column (columnsTo lines n))) j 0 ≡ fieldAt j
     column-at j l = getD-take n (column (columnsTo lines n)) j 0 l ∙ column-filled n few j l
 
@@ -145,16 +147,16 @@ strangers o lines pos =
 module _ (b : Book) (term sink n : ℕ) (c : Columns) where
   abbrev answered : Bool → Answered
   answered t =
-      cond t (refusedWith b (cond (noSink (openedWith b) sink || noHolder (openedWith b) (c .top)) 2 3))
+      cond t (refusedWith b (cond (noSink (openedWith b) sink || noHolder (openedWith b) (c .top)) notInBook outOfRange))
       (handedLines b term sink (take n (c .froms)) (take n (c .tos)) (take n (c .classes)) (take n (c .customers)) (take n (c .watts)))
 
-  pub many-handed : 64 < n → answered true ≡ handedColumns b term sink n c
+  pub many-handed : maxClassLines < n → answered true ≡ handedColumns b term sink n c
   unfolding handedColumns
-  many-handed l = sym (ap answered (lt-ltb 64 n l))
+  many-handed l = sym (ap answered (lt-ltb maxClassLines n l))
 
-  pub few-handed : n ≤ 64 → answered false ≡ handedColumns b term sink n c
+  pub few-handed : n ≤ maxClassLines → answered false ≡ handedColumns b term sink n c
   unfolding handedColumns
-  few-handed l = sym (ap answered (le-ltb 64 n l))
+  few-handed l = sym (ap answered (le-ltb maxClassLines n l))
 
 module _ (b : Book) (r : Reachable b) (term sink : ℕ) (lines : List ClassLine) where
   abbrev n : ℕ
@@ -167,28 +169,28 @@ module _ (b : Book) (r : Reachable b) (term sink : ℕ) (lines : List ClassLine)
   firsts xs = take n xs
 
   abbrev number : ℕ
-  number = cond (noSink (openedWith b) sink || noHolder (openedWith b) (c .top)) 2 3
+  number = cond (noSink (openedWith b) sink || noHolder (openedWith b) (c .top)) notInBook outOfRange
 
   -- more than 64 lines: 2 for a stranger among all of them, else 3
-  module _ (many : 64 < n) where
+  module _ (many : maxClassLines < n) where
     wrong-count : true ≡ wrongMigration term lines
     unfolding wrongMigration
-    wrong-count = sym (or-left-true (anyOf lines wrongClassLine) (ap (λ t. wrongTerm term || t) (lt-ltb 64 n many) ∙ or-true (wrongTerm term)))
+    wrong-count = sym (or-left-true (anyOf lines wrongClassLine) (ap (λ t. wrongTerm term || t) (lt-ltb maxClassLines n many) ∙ or-true (wrongTerm term)))
 
     number-found : number ≡ refusal (openedWith b) (ledgerOf b) (migrate term sink lines)
     unfolding refusal callCauses migrateCauses
-    number-found = link 2 _ _ _ refl (ap (λ t. noSink (openedWith b) sink || t) (strangers (openedWith b) lines (omega arith))) (link 3 true _ _ refl wrong-count refl)
+    number-found = link notInBook _ _ _ refl (ap (λ t. noSink (openedWith b) sink || t) (strangers (openedWith b) lines (omega arith))) (link outOfRange true _ _ refl wrong-count refl)
 
     too-many : refusedWith b number ≡ handed b (migrate term sink lines)
     unfolding refusedWith bookIn openedWith ledgerOf
     too-many = handed-book _ _ _ _ _ _ _ _ _ (steps-refused (b .opening) (b .figures) (b .posted) (b .evidence) (migrate term sink lines) number number-found r (some-number (noSink (openedWith b) sink || noHolder (openedWith b) (c .top))))
       where
-        some-number : (t : Bool) → _≡_ {A = ℕ} (cond t 2 3) 0 → ⊥
+        some-number : (t : Bool) → _≡_ {A = ℕ} (cond t notInBook outOfRange) 0 → ⊥
         some-number true e = omega (arith, e)
         some-number false e = omega (arith, e)
 
-  module _ (few : n ≤ 64) where
-    as-many : (xs : List ℕ) → length xs ≡ 64 → length (firsts xs) ≡ length (firsts (c .froms))
+  module _ (few : n ≤ maxClassLines) where
+    as-many : (xs : List ℕ) → length xs ≡ maxClassLines → length (firsts xs) ≡ length (firsts (c .froms))
     as-many xs e = sym (first-long n xs few e) ∙ first-long n (c .froms) few (columns-full lines n .ofFroms)
 
     same : SameLengths (firsts (c .froms)) (firsts (c .tos)) (firsts (c .classes)) (firsts (c .customers)) (firsts (c .watts))
@@ -223,16 +225,16 @@ module _ (b : Book) (r : Reachable b) (term sink : ℕ) (lines : List ClassLine)
   -- slices of one length are lines
   handed-even : (froms tos classes customers watts : List ℕ) → sameCounts froms tos classes customers watts ≡ true → handed b (migrate term sink (classLinesOf froms tos classes customers watts)) ≡ handedLines b term sink froms tos classes customers watts
   unfolding handedLines
-  handed-even froms tos classes customers watts e = sym (ap (λ t. cond t (handed b (migrate term sink (classLinesOf froms tos classes customers watts))) (refusedWith b 1)) e)
+  handed-even froms tos classes customers watts e = sym (ap (λ t. cond t (handed b (migrate term sink (classLinesOf froms tos classes customers watts))) (refusedWith b unreadable)) e)
 
   -- so a migration of the columns is one of the lines
   pub columns-handed : handedColumns b term sink n c ≡ handed b (migrate term sink lines)
-  columns-handed = go (decided (ltb 64 n))
+  columns-handed = go (decided (ltb maxClassLines n))
     where
-      go : (ltb 64 n ≡ true) ⊎ (ltb 64 n ≡ false) → handedColumns b term sink n c ≡ handed b (migrate term sink lines)
-      go (inl e) = let many = ltb-true 64 n e in sym (many-handed b term sink n c many) ∙ too-many many
+      go : (ltb maxClassLines n ≡ true) ⊎ (ltb maxClassLines n ≡ false) → handedColumns b term sink n c ≡ handed b (migrate term sink lines)
+      go (inl e) = let many = ltb-true maxClassLines n e in sym (many-handed b term sink n c many) ∙ too-many many
       go (inr e) =
-          let few = ltb-false 64 n e in
+          let few = ltb-false maxClassLines n e in
           sym (few-handed b term sink n c few)
           ∙ sym (handed-even (firsts (c .froms)) (firsts (c .tos)) (firsts (c .classes)) (firsts (c .customers)) (firsts (c .watts)) (counted (firsts (c .froms)) (firsts (c .tos)) (firsts (c .classes)) (firsts (c .customers)) (firsts (c .watts)) (same few)))
           ∙ ap (λ ls. handed b (migrate term sink ls)) (lines-back few)

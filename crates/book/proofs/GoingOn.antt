@@ -5,6 +5,7 @@ use mathlib.Core.Bool.{Bool, true, false, cond}
 use mathlib.Core.List.{List}
 use Rattle.tariff.specs.Metered.{blocksOf, sameLengths}
 use Rattle.migration.specs.Netting.{classLinesOf, sameCounts}
+use Rattle.ledger.specs.Numbers.{unreadable}
 use Rattle.ledger.specs.Opening.{Opening}
 use Rattle.ledger.specs.Call.{Call, load, migrate}
 use Rattle.book.specs.declared.book.Book.{Book}
@@ -27,7 +28,7 @@ module _ (b : Book) (r : Reachable b) where
   after-call c a e = beside a (handed b c) e (handed-reached b r c)
 
   -- a call whose lines stand in slices, or slices that do not fit each other
-  either : (even : Bool) (c : Call) → Reachable (cond even (handed b c) (refusedWith b 1) .book)
+  either : (even : Bool) (c : Call) → Reachable (cond even (handed b c) (refusedWith b unreadable) .book)
   unfolding refusedWith
   either true c = handed-reached b r c
   either false c = r

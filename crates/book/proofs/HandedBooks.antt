@@ -4,6 +4,7 @@ use mathlib.Core.Path.{_≡_, refl, sym, _∙_}
 use mathlib.Core.Bool.{Bool, true, false, cond}
 use mathlib.Core.List.{List}
 use Rattle.tariff.specs.declared.evidence.Entry.{Entry}
+use Rattle.ledger.specs.Numbers.{unreadable}
 use Rattle.ledger.specs.Call.{Call}
 use Rattle.records.specs.declared.answers.Answer.{Answer}
 use Rattle.records.specs.Opening.{openingIn}
@@ -24,10 +25,10 @@ module _ (o f : List ℕ) (m : List Bool) (x : List Entry) (c : Call) (a : Answe
   handed-book h = λ i. record { answer = h .answered i; book = record { opening = o; figures = h .figures i; posted = h .posted i; evidence = h .evidence i } }
 
   -- a call whose lines stand in slices
-  pub handed-if : (even : Bool) → Reachable o f m x → StepsIf even (openingIn o) (ledgerIn f m x) c a f′ m′ x′ → beside ≡ cond even (handed (bookIn o f m x) c) (refusedWith (bookIn o f m x) 1)
+  pub handed-if : (even : Bool) → Reachable o f m x → StepsIf even (openingIn o) (ledgerIn f m x) c a f′ m′ x′ → beside ≡ cond even (handed (bookIn o f m x) c) (refusedWith (bookIn o f m x) unreadable)
   unfolding refusedWith bookIn
   handed-if even r h = go even refl
     where
-      go : (t : Bool) → even ≡ t → beside ≡ cond t (handed (bookIn o f m x) c) (refusedWith (bookIn o f m x) 1)
+      go : (t : Bool) → even ≡ t → beside ≡ cond t (handed (bookIn o f m x) c) (refusedWith (bookIn o f m x) unreadable)
       go true e = handed-book (h .equal e)
       go false e = let u = h .unequal e in λ i. record { answer = u .answered i; book = record { opening = o; figures = (u .figures ∙ sym (figures-known o f m x r)) i; posted = (u .posted ∙ sym (posted-known o f m x r)) i; evidence = (u .evidence ∙ sym (evidence-known o f m x r)) i } }

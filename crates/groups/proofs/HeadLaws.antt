@@ -2,6 +2,7 @@
 use mathlib.Core.Path.{_≡_, sym, ap, _∙_}
 use mathlib.Core.List.{List}
 use borrow.Author.Tests.{ne-eqb}
+use Rattle.ledger.specs.Numbers.{unreadable}
 use Rattle.ledger.specs.Call.{Call, load, carry, prior, verify, migrate, openTier, nominate, award, closeTier, Query, limitOf, heldOn, netOn}
 use Rattle.ledger.specs.Season.{call, query}
 use Rattle.book.specs.declared.book.Book.{Book}
@@ -93,6 +94,6 @@ module _ (b : Book) (g : Asked) where
   unfolding answeredTo
   by-query q a e p = (λ i. record { answer = e i; book = b }) ∙ sym (ap (answeredTo b) p)
 
-  pub by-nothing : g ≡ nothing → Answers b g (Refused 1) b
+  pub by-nothing : g ≡ nothing → Answers b g (Refused unreadable) b
   unfolding answeredTo refusedWith
   by-nothing p = sym (ap (answeredTo b) p)

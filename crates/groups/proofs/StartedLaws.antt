@@ -10,6 +10,7 @@ use lib.Seq.{drop-drop}
 use lib.Dec.{eqb}
 use borrow.Author.Tests.{eqb-true}
 use Rattle.tariff.proofs.Tests.{and-both}
+use Rattle.ledger.specs.Numbers.{unreadable}
 use Rattle.ledger.specs.Opening.{Opening, legal, openingRefusal}
 use Rattle.ledger.specs.Ledger.{emptyLedger}
 use Rattle.records.specs.Opening.{openingArray, openingFrom}
@@ -142,7 +143,7 @@ module _ (head : Row) (rest : List ℕ) (lines : Counted) (e : lines ≡ bookLin
           let so = sym (sym is-readable ∙ readable) in
           let done = ed ∙ ap isDone ea' ∙ done-legal o in
           (λ i. record { answer = ea' i; used = used + lines-used i; «goes_on» = done i })
-          ∙ (λ i. record { answer = cond (so i) (openedAnswer o) (Refused 1); used = used + bytesOfLines (field 0 head + field 2 head + field 3 head) rest; «goes_on» = so i && legal o })
+          ∙ (λ i. record { answer = cond (so i) (openedAnswer o) (Refused unreadable); used = used + bytesOfLines (field 0 head + field 2 head + field 3 head) rest; «goes_on» = so i && legal o })
 
       pub opening-put : (o₀ o₁ : List ℕ) → o₁ ≡ openingArray (openedOpening read) → o₁ ≡ openingLeft head rows o₀
       unfolding openingLeft
@@ -150,13 +151,13 @@ module _ (head : Row) (rest : List ℕ) (lines : Counted) (e : lines ≡ bookLin
 
   -- and what is answered where they are not
   module _ (unread : (lines .whole && eqb (head .kind) bookLine) ≡ false) where
-    pub started-refused : (used : ℕ) → _≡_ {A = Started} (record { answer = Refused 1; used = used + lines .used; «goes_on» = false }) (startedWith head rows (used + bytesOfLines (field 0 head + field 2 head + field 3 head) rest))
+    pub started-refused : (used : ℕ) → _≡_ {A = Started} (record { answer = Refused unreadable; used = used + lines .used; «goes_on» = false }) (startedWith head rows (used + bytesOfLines (field 0 head + field 2 head + field 3 head) rest))
     unfolding startedWith
     started-refused used =
         let o = openingOfRows head rows in
         let so = sym (sym is-readable ∙ unread) in
-        (λ i. record { answer = Refused 1; used = used + lines-used i; «goes_on» = false })
-        ∙ (λ i. record { answer = cond (so i) (openedAnswer o) (Refused 1); used = used + bytesOfLines (field 0 head + field 2 head + field 3 head) rest; «goes_on» = so i && legal o })
+        (λ i. record { answer = Refused unreadable; used = used + lines-used i; «goes_on» = false })
+        ∙ (λ i. record { answer = cond (so i) (openedAnswer o) (Refused unreadable); used = used + bytesOfLines (field 0 head + field 2 head + field 3 head) rest; «goes_on» = so i && legal o })
 
     pub opening-stays : (o : List ℕ) → o ≡ openingLeft head rows o
     unfolding openingLeft

@@ -10,6 +10,7 @@ use borrow.Author.Tests.{eqb-true, ne-eqb}
 use Rattle.tariff.proofs.Tests.{and-both}
 use Rattle.tariff.specs.Metered.{blocksOf}
 use Rattle.migration.specs.Netting.{classLinesOf}
+use Rattle.ledger.specs.Numbers.{unreadable}
 use Rattle.ledger.specs.Call.{load, migrate}
 use Rattle.ledger.specs.Season.{Ask, call}
 use Rattle.book.specs.declared.book.Book.{Book}
@@ -84,7 +85,7 @@ module _ (b : Book) (head : Row) (s : List ℕ) (kind n : ℕ) (ask : Ask) (x : 
   what t e = ap (λ k. asksOf head (rowsCounted k s)) counts ∙ asks ∙ ap (λ u. whole u ask) (sym (whole-is kind n s x read) ∙ e)
 
   -- lines that are not whole are unreadable, and the group is passed over
-  pub broken-told : x .whole ≡ false → Answers b (headAsks head s) (Refused 1) b
+  pub broken-told : x .whole ≡ false → Answers b (headAsks head s) (Refused unreadable) b
   unfolding whole
   broken-told e = by-nothing b (headAsks head s) (what false e)
 
@@ -99,7 +100,7 @@ module _ (b : Book) (head : Row) (rows : List Row) where
   load-is fs hs ks a given f h k =
       given
       ∙ (λ i. handedBlocks b (field 0 head) (field 1 head) (field 2 head) (field 3 head) (field 4 head) (f i) (h i) (k i))
-      ∙ ap (λ t. cond t (handed b (load (field 0 head) (field 1 head) (field 2 head) (field 3 head) (field 4 head) (blocksOf (map (field 0) rows) (map (field 1) rows) (map (field 2) rows)))) (refusedWith b 1)) (blocks-even rows)
+      ∙ ap (λ t. cond t (handed b (load (field 0 head) (field 1 head) (field 2 head) (field 3 head) (field 4 head) (blocksOf (map (field 0) rows) (map (field 1) rows) (map (field 2) rows)))) (refusedWith b unreadable)) (blocks-even rows)
       ∙ ap (λ bs. handed b (load (field 0 head) (field 1 head) (field 2 head) (field 3 head) (field 4 head) bs)) (blocks-of-rows rows)
 
   -- class lines likewise
@@ -108,7 +109,7 @@ module _ (b : Book) (head : Row) (rows : List Row) where
   migrate-is fs ts cs us ws a given f t c u w =
       given
       ∙ (λ i. handedLines b (field 0 head) (field 1 head) (f i) (t i) (c i) (u i) (w i))
-      ∙ ap (λ v. cond v (handed b (migrate (field 0 head) (field 1 head) (classLinesOf (map (field 0) rows) (map (field 1) rows) (map (field 2) rows) (map (field 3) rows) (map (field 4) rows)))) (refusedWith b 1)) (class-lines-even rows)
+      ∙ ap (λ v. cond v (handed b (migrate (field 0 head) (field 1 head) (classLinesOf (map (field 0) rows) (map (field 1) rows) (map (field 2) rows) (map (field 3) rows) (map (field 4) rows)))) (refusedWith b unreadable)) (class-lines-even rows)
       ∙ ap (λ ls. handed b (migrate (field 0 head) (field 1 head) ls)) (class-lines-of-rows rows)
 
 module _ (head : Row) where

@@ -3,6 +3,7 @@ use Prim.Native.Nat.{ℕ, _+_}
 use mathlib.Core.Bool.{Bool, true, false, cond, _&&_}
 use mathlib.Core.List.{List}
 use lib.ListN.{drop}
+use Rattle.ledger.specs.Numbers.{unreadable}
 use Rattle.ledger.specs.Opening.{legal}
 use Rattle.records.specs.Opening.{openingArray}
 use Rattle.records.specs.declared.answers.Answer.{Answer}
@@ -26,7 +27,7 @@ module _ (head : Row) (rows : List Row) where
   unfoldable pub startedWith : ℕ → Started
   startedWith used =
       record {
-        answer = cond (bookReadable head rows) (openedAnswer (openingOfRows head rows)) (Refused 1);
+        answer = cond (bookReadable head rows) (openedAnswer (openingOfRows head rows)) (Refused unreadable);
         used = used;
         «goes_on» = bookReadable head rows && legal (openingOfRows head rows);
       }

@@ -5,6 +5,7 @@ use mathlib.Core.Bool.{Bool}
 use mathlib.Core.List.{List}
 use lib.ListN.{drop}
 use Rattle.tariff.specs.declared.evidence.Entry.{Entry}
+use Rattle.ledger.specs.Numbers.{unreadable}
 use Rattle.ledger.specs.Season.{call, query}
 use Rattle.records.specs.declared.answers.Answer.{Answer}
 use Rattle.slots.specs.Steps.{Reachable}
@@ -33,7 +34,7 @@ groupBytes rest = nextRow rest .used + headBytes (nextRow rest .row) (drop (next
 
 -- what a group is answered by a book: one that asks nothing is answered 1 and passed over; a query hands on the book that it is put to
 unfoldable pub answeredTo : Book → Asked → Answered
-answeredTo b nothing = refusedWith b 1
+answeredTo b nothing = refusedWith b unreadable
 answeredTo b (asked (call c)) = handed b c
 answeredTo b (asked (query q)) = record { answer = told b q; book = b }
 

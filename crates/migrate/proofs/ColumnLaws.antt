@@ -15,7 +15,7 @@ use Rattle.tariff.proofs.Lists.{at-list-to}
 use Rattle.migration.specs.Netting.{holderAt, columnCells}
 use Rattle.ledger.specs.Effects.{same3}
 use Rattle.slots.specs.Cells.{HasCell, readAt, storedAt, Shows}
-use Rattle.slots.specs.Layout.{figureSlots, figureCount}
+use Rattle.slots.specs.Layout.{figureSlots, lastClosedAt, figureCount}
 use Rattle.slots.proofs.CellLaws.{shows-stored, shows-agree}
 use Rattle.migrate.specs.Columns.{HasColumn, inColumn, columnAt, columnStored, Transferred}
 
@@ -75,21 +75,21 @@ module _ (f : List ℕ) (p slot : ℕ) (column : List ℕ) where
       (λ h q z c. ap (λ t. cond (t && (eqb q p && eqb z slot)) (holderAt column h) (g h q z)) (lt-ltb h 8 (c .holder)))
 
 -- figures show what stands in them
-pub self-shown : (f : List ℕ) → length f ≡ figureCount → Shows figureSlots 0 f (readAt figureSlots 0 f) (drop 3968 f)
+pub self-shown : (f : List ℕ) → length f ≡ figureCount → Shows figureSlots 0 f (readAt figureSlots 0 f) (drop lastClosedAt f)
 self-shown f long =
     record {
-      sized = long ∙ sym (ap (λ n. 3968 + n) (length-drop 3968 f ∙ ap (λ n. n - 3968) long));
+      sized = long ∙ sym (ap (λ n. lastClosedAt + n) (length-drop lastClosedAt f ∙ ap (λ n. n - lastClosedAt) long));
       each = λ h p slot c. refl;
-      behind = λ k. sym (getD-drop 3968 f k 0);
+      behind = λ k. sym (getD-drop lastClosedAt f k 0);
     }
 
 -- a transferred array is as long as it was
 pub transferred-long : (column : ℕ → ℕ → (ℕ → ℕ) → ℕ → ℕ) (f f′ : List ℕ) → length f ≡ figureCount → Transferred column f f′ → length f′ ≡ figureCount
-transferred-long column f f′ long t = let s = t (readAt figureSlots 0 f) (drop 3968 f) (self-shown f long) in let a = s .sized in let b = self-shown f long .sized in omega arith
+transferred-long column f f′ long t = let s = t (readAt figureSlots 0 f) (drop lastClosedAt f) (self-shown f long) in let a = s .sized in let b = self-shown f long .sized in omega arith
 
 -- and what stands in its columns is known
 pub transferred-read : (column : ℕ → ℕ → (ℕ → ℕ) → ℕ → ℕ) (f f′ : List ℕ) → length f ≡ figureCount → Transferred column f f′ → (h p slot : ℕ) → HasCell figureSlots h p slot → readAt figureSlots 0 f′ h p slot ≡ column p slot (inColumn f p slot) h
-transferred-read column f f′ long t h p slot c = t (readAt figureSlots 0 f) (drop 3968 f) (self-shown f long) .each h p slot c
+transferred-read column f f′ long t h p slot c = t (readAt figureSlots 0 f) (drop lastClosedAt f) (self-shown f long) .each h p slot c
 
 -- one transfer after another
 pub transferred-then : (first second both : ℕ → ℕ → (ℕ → ℕ) → ℕ → ℕ) (f one two : List ℕ) → ((p slot h : ℕ) (v : ℕ → ℕ) → HasCell figureSlots h p slot → second p slot (first p slot v) h ≡ both p slot v h) → Transferred first f one → Transferred second one two → Transferred both f two

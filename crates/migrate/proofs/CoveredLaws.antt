@@ -8,6 +8,7 @@ use native.Mathlib.Nat.{le-trans, le-of-eq}
 use native.Mathlib.Omega.{arith}
 use lib.Dec.{ltb, eqb}
 use borrow.Author.Tests.{ltb-true, ltb-false, ne-eqb}
+use Rattle.tariff.specs.Sizes.{lastMonth, lastTerm}
 use Rattle.tariff.specs.declared.evidence.Entry.{Entry}
 use Rattle.tariff.specs.Sum.{sumTo}
 use Rattle.tariff.specs.Ranges.{mostKw}
@@ -27,7 +28,7 @@ use Rattle.ledger.proofs.TierFacts.{MigrateFacts}
 use Rattle.ledger.proofs.Outside.{awarded-outside, netted-outside}
 use Rattle.records.specs.Opening.{openingIn}
 use Rattle.slots.specs.Cells.{readAt}
-use Rattle.slots.specs.Layout.{figureSlots, ledgerIn}
+use Rattle.slots.specs.Layout.{loadSlot, priorSlot, priorRemainingSlot, carriedSlot, awardedSlot, nominatedSlot, figureSlots, ledgerIn}
 use Rattle.slots.specs.Steps.{Reachable}
 use Rattle.slots.proofs.Reachable.{bases-known, known, counts, fits, figures-long}
 use Rattle.slots.proofs.Figures.{by-number, from-zero}
@@ -41,9 +42,9 @@ use Rattle.migrate.proofs.MovingLaws.{moving-slot}
 use Rattle.migrate.proofs.LineCauses.{line-count, lines-fit, m-of-lines, load-before}
 
 -- a load stands in a lower slot than any right
-pub no-load : (term sink p slot : ℕ) → term ≤ 3 → 4 ≤ slot → loadAt term sink p slot ≡ false
+pub no-load : (term sink p slot : ℕ) → term ≤ lastTerm → priorSlot ≤ slot → loadAt term sink p slot ≡ false
 unfolding loadAt
-no-load term sink p slot few low = and-right-false (eqb p sink) (ne-eqb slot (0 + term) (λ q. omega (arith, q)))
+no-load term sink p slot few low = and-right-false (eqb p sink) (ne-eqb slot (loadSlot + term) (λ q. omega (arith, q)))
 
 module _ (o f : List ℕ) (m : List Bool) (e : List Entry) (r : Reachable o f m e) (term sink : ℕ) (froms tos classes customers watts : List ℕ) (same : SameLengths froms tos classes customers watts) (facts : MigrateFacts (openingIn o) (ledgerIn f m e) term sink (classLinesOf froms tos classes customers watts)) where
   abbrev O : Opening
@@ -107,25 +108,25 @@ module _ (o f : List ℕ) (m : List Bool) (e : List Entry) (r : Reachable o f m 
       go O cs (inl t) inside = inside (ltb-true p (O .paths) t)
       go O cs (inr t) inside = le-trans (le-of-eq (awarded-outside O p k (ltb-false p (O .paths) t) cs)) zero-le
 
-  columns-fit : (p slot : ℕ) → p < 16 → 4 ≤ slot → slot < 12 → ColumnFits x (inColumn f p slot)
+  columns-fit : (p slot : ℕ) → p < 16 → priorSlot ≤ slot → slot < nominatedSlot → ColumnFits x (inColumn f p slot)
   unfolding ledgerIn carriedSum awardedSum
-  columns-fit p slot place low high = go (decided (ltb slot 5)) (decided (ltb slot 6)) (decided (ltb slot 9))
+  columns-fit p slot place low high = go (decided (ltb slot priorRemainingSlot)) (decided (ltb slot carriedSlot)) (decided (ltb slot awardedSlot))
     where
-      go : (ltb slot 5 ≡ true) ⊎ (ltb slot 5 ≡ false) → (ltb slot 6 ≡ true) ⊎ (ltb slot 6 ≡ false) → (ltb slot 9 ≡ true) ⊎ (ltb slot 9 ≡ false) → ColumnFits x (inColumn f p slot)
+      go : (ltb slot priorRemainingSlot ≡ true) ⊎ (ltb slot priorRemainingSlot ≡ false) → (ltb slot carriedSlot ≡ true) ⊎ (ltb slot carriedSlot ≡ false) → (ltb slot awardedSlot ≡ true) ⊎ (ltb slot awardedSlot ≡ false) → ColumnFits x (inColumn f p slot)
       go (inl a) b c =
-          let l = ltb-true slot 5 a in
-          together p slot (λ i. L .priors .allocated i p) mostTogether (λ i k. ap (readAt figureSlots 0 f i p) (let s : slot ≡ 4 + 0 = omega arith in s) ∙ from-zero f 4 1 i p 0 k place (omega arith)) (fits o f m e r .allocatedFit p) (omega arith)
+          let l = ltb-true slot priorRemainingSlot a in
+          together p slot (λ i. L .priors .allocated i p) mostTogether (λ i k. ap (readAt figureSlots 0 f i p) (let s : slot ≡ priorSlot + 0 = omega arith in s) ∙ from-zero f priorSlot 1 i p 0 k place (omega arith)) (fits o f m e r .allocatedFit p) (omega arith)
       go (inr a) (inl b) c =
-          let l = ltb-true slot 6 b in
-          let g = ltb-false slot 5 a in
-          together p slot (λ i. L .priors .renewable i p) mostTogether (λ i k. ap (readAt figureSlots 0 f i p) (let s : slot ≡ 5 + 0 = omega arith in s) ∙ from-zero f 5 1 i p 0 k place (omega arith)) (fits o f m e r .renewableFit p) (omega arith)
+          let l = ltb-true slot carriedSlot b in
+          let g = ltb-false slot priorRemainingSlot a in
+          together p slot (λ i. L .priors .renewable i p) mostTogether (λ i k. ap (readAt figureSlots 0 f i p) (let s : slot ≡ priorRemainingSlot + 0 = omega arith in s) ∙ from-zero f priorRemainingSlot 1 i p 0 k place (omega arith)) (fits o f m e r .renewableFit p) (omega arith)
       go (inr a) (inr b) (inl c) =
-          let l = ltb-true slot 9 c in
-          let g = ltb-false slot 6 b in
-          together p slot (λ i. L .rights .carried i p (slot - 5)) mostTogether (λ i k. ap (readAt figureSlots 0 f i p) (let s : slot ≡ 6 + (slot - 5 - 1) = omega arith in s) ∙ by-number f 6 3 i p (slot - 5) k place 1 (omega arith) (omega arith)) (fits o f m e r .carriedFit p (slot - 5)) (omega arith)
+          let l = ltb-true slot awardedSlot c in
+          let g = ltb-false slot carriedSlot b in
+          together p slot (λ i. L .rights .carried i p (slot + 1 - carriedSlot)) mostTogether (λ i k. ap (readAt figureSlots 0 f i p) (let s : slot ≡ carriedSlot + (slot + 1 - carriedSlot - 1) = omega arith in s) ∙ by-number f carriedSlot lastMonth i p (slot + 1 - carriedSlot) k place 1 (omega arith) (omega arith)) (fits o f m e r .carriedFit p (slot + 1 - carriedSlot)) (omega arith)
       go (inr a) (inr b) (inr c) =
-          let g = ltb-false slot 9 c in
-          together p slot (λ i. L .rights .awarded i p (slot - 8)) (10 * mostTogether) (λ i k. ap (readAt figureSlots 0 f i p) (let s : slot ≡ 9 + (slot - 8 - 1) = omega arith in s) ∙ by-number f 9 3 i p (slot - 8) k place 1 (omega arith) (omega arith)) (awarded-sum p (slot - 8)) (omega arith)
+          let g = ltb-false slot awardedSlot c in
+          together p slot (λ i. L .rights .awarded i p (slot + 1 - awardedSlot)) (10 * mostTogether) (λ i k. ap (readAt figureSlots 0 f i p) (let s : slot ≡ awardedSlot + (slot + 1 - awardedSlot - 1) = omega arith in s) ∙ by-number f awardedSlot lastMonth i p (slot + 1 - awardedSlot) k place 1 (omega arith) (omega arith)) (awarded-sum p (slot + 1 - awardedSlot)) (omega arith)
 
   -- the loads have gone over, and the rights are as they were
   pub rights-fit : (next : List ℕ) → Transferred (columnWhere (loadAt term sink) (loadColumn x)) f next → RightsFit o next term sink x
@@ -139,7 +140,7 @@ module _ (o f : List ℕ) (m : List Bool) (e : List Entry) (r : Reachable o f m 
         fits = λ slot high on. let low = moving-slot O term sink p slot (facts .termInRange) on in le-trans (le-of-eq (sum-ext {f = inColumn next p slot} {g = inColumn f p slot} (x .holders) (λ i l. as-it-was slot (low .0) (low .1) i (let n = covered .few in omega arith)))) (columns-fit p slot place (low .0) (low .1));
       }
     where
-      as-it-was : (slot : ℕ) → 4 ≤ slot → slot < 12 → (i : ℕ) → i < 8 → inColumn next p slot i ≡ inColumn f p slot i
+      as-it-was : (slot : ℕ) → priorSlot ≤ slot → slot < nominatedSlot → (i : ℕ) → i < 8 → inColumn next p slot i ≡ inColumn f p slot i
       as-it-was slot low high i l =
           transferred-read (columnWhere (loadAt term sink) (loadColumn x)) f next (figures-long o f m e r) a i p slot (record { holder = l; place = place; inRow = omega arith })
           ∙ where-off (loadColumn x) (loadAt term sink) p slot (inColumn f p slot) i (no-load term sink p slot (facts .termInRange) low)

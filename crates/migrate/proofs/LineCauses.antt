@@ -9,6 +9,7 @@ use native.Mathlib.Omega.{arith}
 use lib.ListN.{length}
 use lib.Dec.{leb, ltb}
 use borrow.Author.Tests.{leb-true, leb-false, le-leb, lt-leb, ltb-false, not-true}
+use Rattle.tariff.specs.Sizes.{lastTerm, terms, maxClassLines}
 use Rattle.migration.specs.declared.netting.ClassLine.{ClassLine}
 use Rattle.tariff.specs.declared.evidence.Entry.{Entry}
 use Rattle.tariff.specs.Sum.{sumTo, anyBelow, anyOf}
@@ -28,7 +29,7 @@ use Rattle.ledger.specs.Causes.{notBetweenSuppliers, losesTooMuch}
 use Rattle.ledger.proofs.SumBounds.{watts-fit}
 use Rattle.migrate.specs.declared.transfers.Transfer.{Transfer}
 use Rattle.records.specs.Opening.{openingIn}
-use Rattle.slots.specs.Layout.{ledgerIn}
+use Rattle.slots.specs.Layout.{loadSlot, ledgerIn}
 use Rattle.slots.proofs.Figures.{from-zero}
 use Rattle.migrate.specs.Lines.{unknownAt, outOfRangeAt, notBetweenAt, transferOf}
 use Rattle.migrate.proofs.ColumnLaws.{column-holder}
@@ -69,23 +70,23 @@ module _ (froms tos classes customers watts : List ℕ) where
   unfolding wrongClassLine classLinesOf outOfRangeAt
   wrong-lines e = ap (λ n. anyBelow n (outOfRangeAt classes customers watts)) e ∙ sym (any-list-to (length froms) (classLineAt froms tos classes customers watts) wrongClassLine)
 
-  pub range-cause : (term : ℕ) (inTerm lines-wrong : Bool) → length classes ≡ length froms → inTerm ≡ wrongTerm term → lines-wrong ≡ anyBelow (length classes) (outOfRangeAt classes customers watts) → ((inTerm || ltb 64 (length froms)) || lines-wrong) ≡ wrongMigration term lines
+  pub range-cause : (term : ℕ) (inTerm lines-wrong : Bool) → length classes ≡ length froms → inTerm ≡ wrongTerm term → lines-wrong ≡ anyBelow (length classes) (outOfRangeAt classes customers watts) → ((inTerm || ltb maxClassLines (length froms)) || lines-wrong) ≡ wrongMigration term lines
   unfolding wrongMigration
-  range-cause term inTerm lines-wrong e a b = λ i. (a i || ltb 64 (sym line-count i)) || (b ∙ wrong-lines e) i
+  range-cause term inTerm lines-wrong e a b = λ i. (a i || ltb maxClassLines (sym line-count i)) || (b ∙ wrong-lines e) i
 
   -- a migration in range has at most 64 lines, none wrong, and a term that there is
-  pub in-range : (term : ℕ) → wrongMigration term lines ≡ false → (length froms ≤ 64) × (anyOf lines wrongClassLine ≡ false)
+  pub in-range : (term : ℕ) → wrongMigration term lines ≡ false → (length froms ≤ maxClassLines) × (anyOf lines wrongClassLine ≡ false)
   unfolding wrongMigration
   in-range term e =
-      let both = or-unmet (wrongTerm term || ltb 64 (length lines)) (anyOf lines wrongClassLine) e in
-      let first = or-unmet (wrongTerm term) (ltb 64 (length lines)) (both .0) in
-      (le-trans (le-of-eq (sym line-count)) (ltb-false 64 (length lines) (first .1)), both .1)
+      let both = or-unmet (wrongTerm term || ltb maxClassLines (length lines)) (anyOf lines wrongClassLine) e in
+      let first = or-unmet (wrongTerm term) (ltb maxClassLines (length lines)) (both .0) in
+      (le-trans (le-of-eq (sym line-count)) (ltb-false maxClassLines (length lines) (first .1)), both .1)
 
   -- lines with holders in the book and fields in range are fit to be netted
-  pub lines-fit : (o : Opening) → o .holders ≤ 8 → SameLengths froms tos classes customers watts → strangerIn o lines ≡ false → length froms ≤ 64 → anyOf lines wrongClassLine ≡ false → linesFit froms tos classes customers watts ≡ true
+  pub lines-fit : (o : Opening) → o .holders ≤ 8 → SameLengths froms tos classes customers watts → strangerIn o lines ≡ false → length froms ≤ maxClassLines → anyOf lines wrongClassLine ≡ false → linesFit froms tos classes customers watts ≡ true
   unfolding linesFit strangerIn noHolder unfitLine
   lines-fit o few same known short right =
-      and-join (and-join (le-leb (length froms) 64 short) (counted froms tos classes customers watts same))
+      and-join (and-join (le-leb (length froms) maxClassLines short) (counted froms tos classes customers watts same))
       (ap not (any-none lines (λ l. noHolder o (l .from) || noHolder o (l .to)) wrongClassLine unfitLine fit known right))
     where
       fit : (l : ClassLine) → (leb (o .holders) (l .from) || leb (o .holders) (l .to)) ≡ false → wrongClassLine l ≡ false → (leb 8 (l .from) || leb 8 (l .to) || wrongClassLine l) ≡ false
@@ -110,8 +111,8 @@ module _ (froms tos classes customers watts : List ℕ) where
     where
       go : (linesFit froms tos classes customers watts ≡ true) ⊎ (linesFit froms tos classes customers watts ≡ false) → cond (linesFit froms tos classes customers watts) (netted lines i j) 0 ≤ 64 * (9999999 * 9999999)
       go (inl e) =
-          let both = and-both (leb (length froms) 64 && sameCounts froms tos classes customers watts) (not (anyOf lines unfitLine)) e in
-          let short = leb-true (length froms) 64 (and-both (leb (length froms) 64) (sameCounts froms tos classes customers watts) (both .0) .0) in
+          let both = and-both (leb (length froms) maxClassLines && sameCounts froms tos classes customers watts) (not (anyOf lines unfitLine)) e in
+          let short = leb-true (length froms) maxClassLines (and-both (leb (length froms) maxClassLines) (sameCounts froms tos classes customers watts) (both .0) .0) in
           let none = not-true (anyOf lines unfitLine) (both .1) in
           let right = any-none lines unfitLine unfitLine wrongClassLine (λ l a b. or-unmet (leb 8 (l .from) || leb 8 (l .to)) (wrongClassLine l) a .1) none none in
           let all = watts-fit lines i j (le-trans (le-of-eq line-count) short) right in
@@ -128,11 +129,11 @@ module _ (froms tos classes customers watts : List ℕ) where
         count : x .holders ≤ 8
         count = le-trans (le-of-eq (ap (λ y. y .holders) is)) few
 
-    module _ (m : List Bool) (e : List Entry) (inSinks : sink < 16) (inTerm : term ≤ 3) where
+    module _ (m : List Bool) (e : List Entry) (inSinks : sink < 16) (inTerm : term ≤ lastTerm) where
       -- the loads before
       pub load-before : (i : ℕ) → i < 8 → holderAt (x .load) i ≡ loadBefore (ledgerIn f m e) term sink i
       unfolding transferOf loadBefore ledgerIn
-      load-before i l = ap (λ y. holderAt (y .load) i) is ∙ column-holder f sink (0 + term) i l ∙ from-zero f 0 4 i sink term l inSinks (omega arith)
+      load-before i l = ap (λ y. holderAt (y .load) i) is ∙ column-holder f sink (loadSlot + term) i l ∙ from-zero f loadSlot terms i sink term l inSinks (omega arith)
 
       pub loss-cause : linesFit froms tos classes customers watts ≡ true → anyBelow (x .holders) (λ i. ltb (holderAt (x .load) i) (sumTo (x .holders) (λ j. pairAt (x .m) i j))) ≡ losesTooMuch (openingIn o) (ledgerIn f m e) term sink lines
       unfolding transferOf losesTooMuch lostBy

@@ -8,6 +8,7 @@ use native.Mathlib.Omega.{arith}
 use lib.ListN.{length, take}
 use lib.Dec.{leb, ltb, eqb}
 use borrow.Author.Tests.{not-true, not-false, ltb-false, leb-false}
+use Rattle.tariff.specs.Sizes.{lastTerm, lastSeasonTier, maxClassLines}
 use Rattle.tariff.specs.declared.evidence.Entry.{Entry}
 use Rattle.tariff.specs.Sum.{sumTo, anyBelow, anyOf}
 use Rattle.tariff.specs.Terms.{firstTierOf}
@@ -21,7 +22,7 @@ use Rattle.ledger.specs.Opening.{Opening}
 use Rattle.ledger.specs.Ledger.{Ledger}
 use Rattle.ledger.specs.Ranges.{noSink, strangerIn, wrongMigration}
 use Rattle.ledger.specs.Calendar.{tierIsOpen, beforeTier, migrationInTime}
-use Rattle.ledger.specs.Numbers.{cause, firstMet}
+use Rattle.ledger.specs.Numbers.{unreadable, notInBook, outOfRange, notAtThisTime, notSuppliers, lossAboveLoad, cause, firstMet}
 use Rattle.ledger.specs.Call.{migrate}
 use Rattle.ledger.specs.Causes.{migrateCauses, callCauses, refusal, losesTooMuch}
 use Rattle.ledger.specs.Effects.{effect}
@@ -33,14 +34,14 @@ use Rattle.records.specs.declared.answers.Answer.the-variants.{Done, Refused}
 use Rattle.records.specs.Opening.{openingIn}
 use Rattle.records.proofs.CauseLaws.{link, no-more, first-part}
 use Rattle.records.proofs.MetCauses.{met-first, unmet-first}
-use Rattle.slots.specs.Layout.{postedOf, evidenceOf, postedGroups, evidenceGroups, lastClosedIn, currentTierIn, ledgerIn}
+use Rattle.slots.specs.Layout.{loadSlot, postedGroups, evidenceGroups, postedOf, evidenceOf, lastClosedIn, currentTierIn, ledgerIn}
 use Rattle.slots.specs.Steps.{Reachable, Steps, StepsIf}
 use Rattle.slots.proofs.Reachable.{counts, figures-long, figures-known, posted-known, evidence-known}
 use Rattle.slots.proofs.StepLaws.{accepted-test, steps-accepted, steps-refused}
 use Rattle.migrate.specs.declared.transfers.Transfer.{Transfer}
 use Rattle.migrate.specs.Columns.{HasColumn, columnAt, Transferred}
 use Rattle.migrate.specs.Transfers.{loadColumn, shareColumn, movesAt, columnWhere, loadAt, Covered, RightsFit}
-use Rattle.migrate.specs.Lines.{unknownAt, outOfRangeAt, notBetweenAt, transferOf}
+use Rattle.migrate.specs.Lines.{earlyCauses, unknownAt, outOfRangeAt, notBetweenAt, transferOf}
 use Rattle.migrate.proofs.LineCauses.{unknown-cause, between-cause, range-cause, in-range, lines-fit, losses-fit, loss-cause}
 use Rattle.migrate.proofs.CoveredLaws.{covered, rights-fit}
 use Rattle.migrate.proofs.MigratedFigures.{figures-migrated}
@@ -59,29 +60,29 @@ module _ (o f : List ℕ) (term sink : ℕ) (froms tos classes customers watts :
   x = transferOf o f term sink froms tos classes customers watts
 
   -- the tests that come before netting
-  pub early-cause : (noSuchSink unknown wrongOfTerm outOfRange inTime apart : Bool) (last current r2 r3 r4 r8 : ℕ) → length classes ≡ length froms → noSuchSink ≡ noSink O sink → unknown ≡ anyBelow (length froms) (unknownAt O froms tos) → wrongOfTerm ≡ wrongTerm term → outOfRange ≡ anyBelow (length classes) (outOfRangeAt classes customers watts) → last ≡ lastClosedIn f → current ≡ currentTierIn f → inTime ≡ ((not (not (eqb current 0)) && ltb last (firstTierOf term)) && (eqb term 0 || leb 3 last)) → apart ≡ anyBelow (length froms) (notBetweenAt O froms tos) → r2 ≡ cond (noSuchSink || unknown) 2 r3 → r3 ≡ cond ((wrongOfTerm || ltb 64 (length froms)) || outOfRange) 3 r4 → r4 ≡ cond (not inTime) 4 r8 → r8 ≡ cond apart 8 0 → r2 ≡ firstMet (take 4 (migrateCauses O L term sink lines))
+  pub early-cause : (noSuchSink unknown wrongOfTerm wrongLine inTime apart : Bool) (last current r2 r3 r4 r8 : ℕ) → length classes ≡ length froms → noSuchSink ≡ noSink O sink → unknown ≡ anyBelow (length froms) (unknownAt O froms tos) → wrongOfTerm ≡ wrongTerm term → wrongLine ≡ anyBelow (length classes) (outOfRangeAt classes customers watts) → last ≡ lastClosedIn f → current ≡ currentTierIn f → inTime ≡ ((not (not (eqb current 0)) && ltb last (firstTierOf term)) && (eqb term 0 || leb lastSeasonTier last)) → apart ≡ anyBelow (length froms) (notBetweenAt O froms tos) → r2 ≡ cond (noSuchSink || unknown) notInBook r3 → r3 ≡ cond ((wrongOfTerm || ltb maxClassLines (length froms)) || wrongLine) outOfRange r4 → r4 ≡ cond (not inTime) notAtThisTime r8 → r8 ≡ cond apart notSuppliers 0 → r2 ≡ firstMet (take earlyCauses (migrateCauses O L term sink lines))
   unfolding migrateCauses migrationInTime beforeTier tierIsOpen ledgerIn
-  early-cause noSuchSink unknown wrongOfTerm outOfRange inTime apart last current r2 r3 r4 r8 counted ofSink ofUnknown ofTerm ofRange ofLast ofCurrent ofTime ofApart e2 e3 e4 e8 =
-      link 2 _ _ _ e2 (ap₂ (λ a b. a || b) ofSink (ofUnknown ∙ unknown-cause froms tos classes customers watts O))
-      (link 3 _ _ _ e3 (range-cause froms tos classes customers watts term wrongOfTerm outOfRange counted ofTerm ofRange)
-      (link 4 _ _ _ e4 (ap not (ofTime ∙ (λ i. (not (not (eqb (ofCurrent i) 0)) && ltb (ofLast i) (firstTierOf term)) && (eqb term 0 || leb 3 (ofLast i)))))
-      (link 8 _ _ _ e8 (ofApart ∙ between-cause froms tos classes customers watts O) no-more)))
+  early-cause noSuchSink unknown wrongOfTerm wrongLine inTime apart last current r2 r3 r4 r8 counted ofSink ofUnknown ofTerm ofRange ofLast ofCurrent ofTime ofApart e2 e3 e4 e8 =
+      link notInBook _ _ _ e2 (ap₂ (λ a b. a || b) ofSink (ofUnknown ∙ unknown-cause froms tos classes customers watts O))
+      (link outOfRange _ _ _ e3 (range-cause froms tos classes customers watts term wrongOfTerm wrongLine counted ofTerm ofRange)
+      (link notAtThisTime _ _ _ e4 (ap not (ofTime ∙ (λ i. (not (not (eqb (ofCurrent i) 0)) && ltb (ofLast i) (firstTierOf term)) && (eqb term 0 || leb lastSeasonTier (ofLast i)))))
+      (link notSuppliers _ _ _ e8 (ofApart ∙ between-cause froms tos classes customers watts O) no-more)))
 
   -- an early cause that is met is the first of all
-  early-found : (number : ℕ) → number ≡ firstMet (take 4 (migrateCauses O L term sink lines)) → (number ≡ 0 → ⊥) → number ≡ refusal O L (migrate term sink lines)
+  early-found : (number : ℕ) → number ≡ firstMet (take earlyCauses (migrateCauses O L term sink lines)) → (number ≡ 0 → ⊥) → number ≡ refusal O L (migrate term sink lines)
   unfolding refusal callCauses
-  early-found number found ne = found ∙ first-part 4 (migrateCauses O L term sink lines) (λ z. ne (found ∙ z))
+  early-found number found ne = found ∙ first-part earlyCauses (migrateCauses O L term sink lines) (λ z. ne (found ∙ z))
 
   -- what is known where none is met
   record Early : Type 0 where
     sinkInBook : sink < O .sinks
     known : strangerIn O lines ≡ false
-    inTerm : term ≤ 3
-    short : length froms ≤ 64
+    inTerm : term ≤ lastTerm
+    short : length froms ≤ maxClassLines
     right : anyOf lines wrongClassLine ≡ false
-    later : (r : ℕ) → r ≡ firstMet (cause 9 (losesTooMuch O L term sink lines) ∷ []) → r ≡ refusal O L (migrate term sink lines)
+    later : (r : ℕ) → r ≡ firstMet (cause lossAboveLoad (losesTooMuch O L term sink lines) ∷ []) → r ≡ refusal O L (migrate term sink lines)
 
-  early : firstMet (take 4 (migrateCauses O L term sink lines)) ≡ 0 → Early
+  early : firstMet (take earlyCauses (migrateCauses O L term sink lines)) ≡ 0 → Early
   unfolding migrateCauses refusal callCauses noSink wrongMigration wrongTerm
   early none =
       let r2 = unmet 1 _ _ none in
@@ -97,7 +98,7 @@ module _ (o f : List ℕ) (term sink : ℕ) (froms tos classes customers watts :
         inTerm = ltb-false _ _ (fields .0);
         short = range .0;
         right = range .1;
-        later = λ r e. unmet-first 2 _ _ (r2 .0) (unmet-first 3 _ _ (r3 .0) (unmet-first 4 _ _ (r4 .0) (unmet-first 8 _ _ (r8 .0) e)));
+        later = λ r e. unmet-first notInBook _ _ (r2 .0) (unmet-first outOfRange _ _ (r3 .0) (unmet-first notAtThisTime _ _ (r4 .0) (unmet-first notSuppliers _ _ (r8 .0) e)));
       }
 
   module _ (reach : Reachable o f m e) (even : Bool) (counted : even ≡ sameCounts froms tos classes customers watts) where
@@ -105,7 +106,7 @@ module _ (o f : List ℕ) (term sink : ℕ) (froms tos classes customers watts :
     Outcome answer f′ = StepsIf (sameCounts froms tos classes customers watts) O L (migrate term sink lines) answer f′ m e
 
     -- slices of unequal length
-    pub uneven : not even ≡ true → Outcome (Refused 1) f
+    pub uneven : not even ≡ true → Outcome (Refused unreadable) f
     uneven odd =
         record {
           equal = λ t. absurd (both-ways (counted ∙ t) (not-true even odd));
@@ -125,7 +126,7 @@ module _ (o f : List ℕ) (term sink : ℕ) (froms tos classes customers watts :
       few : O .holders ≤ 8
       few = counts o f m e reach .0
 
-      module _ (number : ℕ) (found : number ≡ firstMet (take 4 (migrateCauses O L term sink lines))) where
+      module _ (number : ℕ) (found : number ≡ firstMet (take earlyCauses (migrateCauses O L term sink lines))) where
         pub early-refused : (number ≡ 0 → ⊥) → Outcome (Refused number) f
         early-refused ne = outcome (Refused number) f (steps-refused o f m e (migrate term sink lines) number (early-found number found ne) reach ne)
 
@@ -136,7 +137,7 @@ module _ (o f : List ℕ) (term sink : ℕ) (froms tos classes customers watts :
           inSinks : sink < 16
           inSinks = le-trans (past .sinkInBook) (counts o f m e reach .2)
 
-          pub load-there : HasColumn f sink (0 + term)
+          pub load-there : HasColumn f sink (loadSlot + term)
           load-there = let t = past .inTerm in record { long = figures-long o f m e reach; place = inSinks; inRow = omega arith }
 
           fit : linesFit froms tos classes customers watts ≡ true
@@ -150,17 +151,17 @@ module _ (o f : List ℕ) (term sink : ℕ) (froms tos classes customers watts :
               loses : loss ≡ losesTooMuch O L term sink lines
               loses = lost ∙ loss-cause froms tos classes customers watts o f term sink y is few m e inSinks (past .inTerm) fit
 
-              pub too-much : loss ≡ true → Outcome (Refused 9) f
-              too-much t = outcome (Refused 9) f (steps-refused o f m e (migrate term sink lines) 9 (past .later 9 (met-first 9 _ _ (sym loses ∙ t))) reach (λ z. omega (arith, z)))
+              pub too-much : loss ≡ true → Outcome (Refused lossAboveLoad) f
+              too-much t = outcome (Refused lossAboveLoad) f (steps-refused o f m e (migrate term sink lines) lossAboveLoad (past .later lossAboveLoad (met-first lossAboveLoad _ _ (sym loses ∙ t))) reach (λ z. omega (arith, z)))
 
               module _ (covers : loss ≡ false) where
                 unrefused : 0 ≡ refusal O L (migrate term sink lines)
-                unrefused = past .later 0 (unmet-first 9 _ _ (sym loses ∙ covers) no-more)
+                unrefused = past .later 0 (unmet-first lossAboveLoad _ _ (sym loses ∙ covers) no-more)
 
                 facts : MigrateFacts O L term sink lines
                 facts = migrate-facts O L term sink lines (accepted-test O L (migrate term sink lines) 0 unrefused refl)
 
-                pub load-needs : HasColumn f sink (0 + term) × Covered y × (y .load ≡ columnAt f sink (0 + term))
+                pub load-needs : HasColumn f sink (loadSlot + term) × Covered y × (y .load ≡ columnAt f sink (loadSlot + term))
                 unfolding transferOf
                 load-needs = (load-there, subst Covered (sym is) (covered o f m e reach term sink froms tos classes customers watts lengths facts), ap (λ z. z .load) is)
 

@@ -7,6 +7,7 @@ use mathlib.Core.Logic.{inl, inr}
 use native.Mathlib.Nat.{zero-add}
 use native.Mathlib.Omega.{arith}
 use lib.Dec.{eqb}
+use Rattle.tariff.specs.Sizes.{lastMonth, lastTerm, terms, ownership, contract}
 use Rattle.tariff.specs.declared.evidence.Entry.{Entry}
 use Rattle.tariff.specs.Terms.{hasMonth}
 use Rattle.tariff.specs.Evidence.{entryKw}
@@ -20,7 +21,7 @@ use Rattle.ledger.specs.Moves.{movedWhere, loadsAfter, rightsAfter, priorsAfter
 use Rattle.ledger.proofs.TierFacts.{MigrateFacts}
 use Rattle.records.specs.Opening.{openingIn}
 use Rattle.slots.specs.Groups.{slotsOf, inSlot}
-use Rattle.slots.specs.Layout.{figureSlots, figureGroups, calendarOf, figuresOf, ledgerIn}
+use Rattle.slots.specs.Layout.{loadSlot, priorSlot, priorRemainingSlot, carriedSlot, awardedSlot, nominatedSlot, awardsSlot, tierSlots, ownershipSlot, contractSlot, figureSlots, figureGroups, calendarOf, figuresOf, ledgerIn}
 use Rattle.slots.specs.Steps.{Reachable}
 use Rattle.slots.proofs.CellLaws.{shown-is, shows-agree}
 use Rattle.slots.proofs.Reachable.{figures-shown}
@@ -53,43 +54,43 @@ module _ (o f : List ℕ) (m : List Bool) (e : List Entry) (r : Reachable o f m 
   abbrev column : ℕ → ℕ → (ℕ → ℕ) → ℕ → ℕ
   column p slot v h = columnWhere (movesAt O term sink) (shareColumn x) p slot (columnWhere (loadAt term sink) (loadColumn x) p slot v) h
 
-  few : term ≤ 3
+  few : term ≤ lastTerm
   few = facts .termInRange
 
   -- a load, whose slot no right has
-  load-moves : (p j h : ℕ) (v : ℕ → ℕ) → h < 8 → j < 4 → column p (0 + j) v h ≡ cond (eqb p sink && eqb (j + 0) term) (loadAfter O lines v h) (v h)
+  load-moves : (p j h : ℕ) (v : ℕ → ℕ) → h < 8 → j < terms → column p (loadSlot + j) v h ≡ cond (eqb p sink && eqb (j + 0) term) (loadAfter O lines v h) (v h)
   unfolding columnWhere loadAt
   load-moves p j h v l k =
-      where-off (shareColumn x) (movesAt O term sink) p (0 + j) (columnWhere (loadAt term sink) (loadColumn x) p (0 + j) v) h (still O term sink p (0 + j) few (inl (omega arith)))
+      where-off (shareColumn x) (movesAt O term sink) p (loadSlot + j) (columnWhere (loadAt term sink) (loadColumn x) p (loadSlot + j) v) h (still O term sink p (loadSlot + j) few (inl (omega arith)))
       ∙ (λ i. cond (eqb p sink && eqb (number i) (zero-add term i)) (load-after o f m e r term sink froms tos classes customers watts same facts v h l i) (v h))
     where
-      number : 0 + j ≡ j + 0
+      number : loadSlot + j ≡ j + 0
       number = omega arith
 
   -- a record of a path, which no load shares its slot with
-  right-moves : (p slot h : ℕ) (v : ℕ → ℕ) (t : Bool) → h < 8 → 4 ≤ slot → slotMoves term slot ≡ t → column p slot v h ≡ cond (endsAt O sink p && t) (columnAfter O L term sink lines v h) (v h)
+  right-moves : (p slot h : ℕ) (v : ℕ → ℕ) (t : Bool) → h < 8 → priorSlot ≤ slot → slotMoves term slot ≡ t → column p slot v h ≡ cond (endsAt O sink p && t) (columnAfter O L term sink lines v h) (v h)
   unfolding columnWhere movesAt
   right-moves p slot h v t l low is =
       (λ i. columnWhere (movesAt O term sink) (shareColumn x) p slot (λ n. where-off (loadColumn x) (loadAt term sink) p slot v n (no-load term sink p slot few low) i) h)
       ∙ (λ i. cond (endsAt O sink p && is i) (column-after o f m e r term sink froms tos classes customers watts same facts v h l i) (v h))
 
   -- any other
-  stays : (p slot h : ℕ) (v : ℕ → ℕ) → 12 ≤ slot → column p slot v h ≡ v h
+  stays : (p slot h : ℕ) (v : ℕ → ℕ) → nominatedSlot ≤ slot → column p slot v h ≡ v h
   stays p slot h v past =
       where-off (shareColumn x) (movesAt O term sink) p slot (columnWhere (loadAt term sink) (loadColumn x) p slot v) h (still O term sink p slot few (inr past))
       ∙ where-off (loadColumn x) (loadAt term sink) p slot v h (no-load term sink p slot few (omega arith))
 
   abbrev changes : List Change
   changes =
-      change 4 0 (L .loads .kw) (next .loads .kw)
+      change terms 0 (L .loads .kw) (next .loads .kw)
       ∷ change 1 0 (λ h p k. L .priors .allocated h p) (λ h p k. next .priors .allocated h p)
       ∷ change 1 0 (λ h p k. L .priors .renewable h p) (λ h p k. next .priors .renewable h p)
-      ∷ change 3 1 (L .rights .carried) (next .rights .carried)
-      ∷ change 3 1 (L .rights .awarded) (next .rights .awarded)
+      ∷ change lastMonth 1 (L .rights .carried) (next .rights .carried)
+      ∷ change lastMonth 1 (L .rights .awarded) (next .rights .awarded)
       ∷ change 1 0 (λ h p k. L .tiers .nominated h p (L .tiers .openNow)) (λ h p k. next .tiers .nominated h p (next .tiers .openNow))
-      ∷ change 10 0 (L .tiers .awards) (next .tiers .awards)
-      ∷ change 4 0 (λ h s n. entryKw n (L .papers .entry h s 1)) (λ h s n. entryKw n (next .papers .entry h s 1))
-      ∷ change 4 0 (λ h s n. entryKw n (L .papers .entry h s 2)) (λ h s n. entryKw n (next .papers .entry h s 2))
+      ∷ change tierSlots 0 (L .tiers .awards) (next .tiers .awards)
+      ∷ change terms 0 (λ h s n. entryKw n (L .papers .entry h s ownership)) (λ h s n. entryKw n (next .papers .entry h s ownership))
+      ∷ change terms 0 (λ h s n. entryKw n (L .papers .entry h s contract)) (λ h s n. entryKw n (next .papers .entry h s contract))
       ∷ []
 
   each-moves : (h p : ℕ) → h < 8 → EachMoves column h p 0 changes
@@ -97,21 +98,21 @@ module _ (o f : List ℕ) (m : List Bool) (e : List Entry) (r : Reachable o f m 
   each-moves h p l = (
     λ j k. load-moves p j h (λ i. L .loads .kw i p (j + 0)) l k,
     (
-      λ j k. right-moves p (4 + j) h (λ i. L .priors .allocated i p) (eqb term 0) l (omega arith) (prior-moves term j few k),
+      λ j k. right-moves p (priorSlot + j) h (λ i. L .priors .allocated i p) (eqb term 0) l (omega arith) (prior-moves term j few k),
       (
-        λ j k. right-moves p (5 + j) h (λ i. L .priors .renewable i p) (eqb term 0) l (omega arith) (remaining-moves term j few k),
+        λ j k. right-moves p (priorRemainingSlot + j) h (λ i. L .priors .renewable i p) (eqb term 0) l (omega arith) (remaining-moves term j few k),
         (
-          λ j k. right-moves p (6 + j) h (λ i. L .rights .carried i p (j + 1)) (hasMonth term (j + 1)) l (omega arith) (carried-moves term j few k),
+          λ j k. right-moves p (carriedSlot + j) h (λ i. L .rights .carried i p (j + 1)) (hasMonth term (j + 1)) l (omega arith) (carried-moves term j few k),
           (
-            λ j k. right-moves p (9 + j) h (λ i. L .rights .awarded i p (j + 1)) (hasMonth term (j + 1) && not (eqb term 0)) l (omega arith) (awarded-moves term j few k) ∙ ap (λ t. cond t (columnAfter O L term sink lines (λ i. L .rights .awarded i p (j + 1)) h) (L .rights .awarded h p (j + 1))) (sym (and-assoc (endsAt O sink p) (hasMonth term (j + 1)) (not (eqb term 0)))),
+            λ j k. right-moves p (awardedSlot + j) h (λ i. L .rights .awarded i p (j + 1)) (hasMonth term (j + 1) && not (eqb term 0)) l (omega arith) (awarded-moves term j few k) ∙ ap (λ t. cond t (columnAfter O L term sink lines (λ i. L .rights .awarded i p (j + 1)) h) (L .rights .awarded h p (j + 1))) (sym (and-assoc (endsAt O sink p) (hasMonth term (j + 1)) (not (eqb term 0)))),
             (
-              λ j k. stays p (12 + j) h (λ i. L .tiers .nominated i p (L .tiers .openNow)) (omega arith),
+              λ j k. stays p (nominatedSlot + j) h (λ i. L .tiers .nominated i p (L .tiers .openNow)) (omega arith),
               (
-                λ j k. stays p (13 + j) h (λ i. L .tiers .awards i p (j + 0)) (omega arith),
+                λ j k. stays p (awardsSlot + j) h (λ i. L .tiers .awards i p (j + 0)) (omega arith),
                 (
-                  λ j k. stays p (23 + j) h (λ i. entryKw (j + 0) (L .papers .entry i p 1)) (omega arith),
+                  λ j k. stays p (ownershipSlot + j) h (λ i. entryKw (j + 0) (L .papers .entry i p ownership)) (omega arith),
                   (
-                    λ j k. stays p (27 + j) h (λ i. entryKw (j + 0) (L .papers .entry i p 2)) (omega arith),
+                    λ j k. stays p (contractSlot + j) h (λ i. entryKw (j + 0) (L .papers .entry i p contract)) (omega arith),
                     tt,
                   ),
                 ),

@@ -9,10 +9,11 @@ use native.Mathlib.Omega.{arith}
 use lib.ListN.{length}
 use lib.Dec.{leb, ltb, eqb}
 use borrow.Author.Tests.{ltb-true, ltb-false, lt-ltb, le-ltb, leb-true, eqb-true, eqb-false}
+use Rattle.tariff.specs.Sizes.{lastTerm}
 use Rattle.tariff.proofs.Tests.{and-both, and-join, and-left-false, and-right-false, decided}
 use Rattle.tariff.proofs.Sums.{sum-ext}
 use Rattle.ledger.specs.Opening.{Opening, endsAt}
-use Rattle.slots.specs.Layout.{figureSlots, figureCount}
+use Rattle.slots.specs.Layout.{priorSlot, carriedSlot, awardedSlot, nominatedSlot, figureSlots, figureCount}
 use Rattle.migrate.specs.declared.transfers.Transfer.{Transfer}
 use Rattle.migrate.specs.Columns.{inColumn, Transferred}
 use Rattle.migrate.specs.Transfers.{shareColumn, slotMoves, movesAt, columnWhere, ColumnFits}
@@ -20,23 +21,23 @@ use Rattle.migrate.proofs.ColumnLaws.{transferred-read}
 use Rattle.migrate.proofs.WhereLaws.{where-off, where-none, where-same, where-then}
 
 -- only the slots from prior's up to before the nominations' can move
-pub slot-between : (term slot : ℕ) → term ≤ 3 → slotMoves term slot ≡ true → (4 ≤ slot) × (slot < 12)
+pub slot-between : (term slot : ℕ) → term ≤ lastTerm → slotMoves term slot ≡ true → (priorSlot ≤ slot) × (slot < nominatedSlot)
 unfolding slotMoves
 slot-between term slot few m = go (decided (eqb term 0))
   where
-    either : (decided-first : (eqb slot (6 + term - 1) ≡ true) ⊎ (eqb slot (6 + term - 1) ≡ false)) → (eqb slot (6 + term - 1) || eqb slot (9 + term - 1)) ≡ true → (4 ≤ slot) × (slot < 12)
-    either (inl a) e = let q = eqb-true slot (6 + term - 1) a in (omega arith, omega arith)
-    either (inr a) e = let q = eqb-true slot (9 + term - 1) (sym (ap (λ t. t || eqb slot (9 + term - 1)) a) ∙ e) in (omega arith, omega arith)
+    either : (decided-first : (eqb slot (carriedSlot + term - 1) ≡ true) ⊎ (eqb slot (carriedSlot + term - 1) ≡ false)) → (eqb slot (carriedSlot + term - 1) || eqb slot (awardedSlot + term - 1)) ≡ true → (priorSlot ≤ slot) × (slot < nominatedSlot)
+    either (inl a) e = let q = eqb-true slot (carriedSlot + term - 1) a in (omega arith, omega arith)
+    either (inr a) e = let q = eqb-true slot (awardedSlot + term - 1) (sym (ap (λ t. t || eqb slot (awardedSlot + term - 1)) a) ∙ e) in (omega arith, omega arith)
 
-    go : (eqb term 0 ≡ true) ⊎ (eqb term 0 ≡ false) → (4 ≤ slot) × (slot < 12)
+    go : (eqb term 0 ≡ true) ⊎ (eqb term 0 ≡ false) → (priorSlot ≤ slot) × (slot < nominatedSlot)
     go (inl z) =
-        let both = and-both (leb 4 slot) (ltb slot 9) (sym (ap (λ t. cond t (leb 4 slot && ltb slot 9) (eqb slot (6 + term - 1) || eqb slot (9 + term - 1))) z) ∙ m) in
-        let a = leb-true 4 slot (both .0) in
-        let b = ltb-true slot 9 (both .1) in
+        let both = and-both (leb priorSlot slot) (ltb slot awardedSlot) (sym (ap (λ t. cond t (leb priorSlot slot && ltb slot awardedSlot) (eqb slot (carriedSlot + term - 1) || eqb slot (awardedSlot + term - 1))) z) ∙ m) in
+        let a = leb-true priorSlot slot (both .0) in
+        let b = ltb-true slot awardedSlot (both .1) in
         (a, omega arith)
-    go (inr z) = either (decided (eqb slot (6 + term - 1))) (sym (ap (λ t. cond t (leb 4 slot && ltb slot 9) (eqb slot (6 + term - 1) || eqb slot (9 + term - 1))) z) ∙ m)
+    go (inr z) = either (decided (eqb slot (carriedSlot + term - 1))) (sym (ap (λ t. cond t (leb priorSlot slot && ltb slot awardedSlot) (eqb slot (carriedSlot + term - 1) || eqb slot (awardedSlot + term - 1))) z) ∙ m)
 
-pub moving-slot : (o : Opening) (term sink p slot : ℕ) → term ≤ 3 → movesAt o term sink p slot ≡ true → (4 ≤ slot) × (slot < 12)
+pub moving-slot : (o : Opening) (term sink p slot : ℕ) → term ≤ lastTerm → movesAt o term sink p slot ≡ true → (priorSlot ≤ slot) × (slot < nominatedSlot)
 unfolding movesAt
 moving-slot o term sink p slot few e = slot-between term slot few (and-both (endsAt o sink p) (slotMoves term slot) e .1)
 

@@ -9,10 +9,11 @@ use native.Mathlib.Omega.{arith}
 use lib.ListN.{length}
 use lib.Dec.{eqb}
 use borrow.Author.Tests.{eqb-true, eq-eqb, ne-eqb}
+use Rattle.tariff.specs.Sizes.{lastTerm}
 use Rattle.tariff.proofs.Tests.{and-both, and-join, and-left-false, and-right-false, decided}
 use Rattle.ledger.specs.Opening.{Opening, pathBase, endsAt}
 use Rattle.records.specs.Opening.{openingIn}
-use Rattle.slots.specs.Layout.{figureSlots, figureCount}
+use Rattle.slots.specs.Layout.{priorSlot, nominatedSlot, figureSlots, figureCount}
 use Rattle.migrate.specs.declared.transfers.Transfer.{Transfer}
 use Rattle.migrate.specs.Columns.{Transferred}
 use Rattle.migrate.specs.Transfers.{shareColumn, slotMoves, movesAt, columnWhere, SlotFits, PathFits}
@@ -50,24 +51,24 @@ module _ (term p : ℕ) where
         go q j (inl e) = and-left-false (eqb j slot) (and-right-false (eqb q p) (ap (slotMoves term) (eqb-true j slot e) ∙ off))
         go q j (inr e) = and-right-false (eqb q p && slotMoves term j) e
 
-  module _ (column : (ℕ → ℕ) → ℕ → ℕ) (f : List ℕ) (few : term ≤ 3) where
-    moving : (q j : ℕ) → onPath q j ≡ true → (4 ≤ j) × (j < 12)
+  module _ (column : (ℕ → ℕ) → ℕ → ℕ) (f : List ℕ) (few : term ≤ lastTerm) where
+    moving : (q j : ℕ) → onPath q j ≡ true → (priorSlot ≤ j) × (j < nominatedSlot)
     moving q j on = slot-between term j few (and-both (eqb q p) (slotMoves term j) on .1)
 
     -- the loop over the slots begins at prior's and ends before the nominations'
-    pub first-slot : Transferred (columnWhere (below column onPath slotNumber 4) column) f f
-    first-slot = none-yet column onPath slotNumber 4 f (λ q j on. moving q j on .0)
+    pub first-slot : Transferred (columnWhere (below column onPath slotNumber priorSlot) column) f f
+    first-slot = none-yet column onPath slotNumber priorSlot f (λ q j on. moving q j on .0)
 
-    last-slot : (f′ : List ℕ) → Transferred (columnWhere (below column onPath slotNumber 12) column) f f′ → Transferred (columnWhere onPath column) f f′
-    last-slot f′ a = all-moved column onPath slotNumber 12 f f′ (λ q j l on. moving q j on .1) a
+    last-slot : (f′ : List ℕ) → Transferred (columnWhere (below column onPath slotNumber nominatedSlot) column) f f′ → Transferred (columnWhere onPath column) f f′
+    last-slot f′ a = all-moved column onPath slotNumber nominatedSlot f f′ (λ q j l on. moving q j on .1) a
 
     module _ (o : Opening) (sink base : ℕ) (is : base ≡ pathBase o p) where
       abbrev moves : ℕ → ℕ → Bool
       moves = movesAt o term sink
 
-      pub path-moved : (slot : ℕ) (f′ : List ℕ) → base ≡ sink → slot ≤ 12 → 12 ≤ slot → Transferred (columnWhere (below column onPath slotNumber slot) column) f f′ → Transferred (columnWhere (λ q j. moves q j && eqb q p) column) f f′
+      pub path-moved : (slot : ℕ) (f′ : List ℕ) → base ≡ sink → slot ≤ nominatedSlot → nominatedSlot ≤ slot → Transferred (columnWhere (below column onPath slotNumber slot) column) f f′ → Transferred (columnWhere (λ q j. moves q j && eqb q p) column) f f′
       unfolding movesAt endsAt
-      path-moved slot f′ at low high a = where-same column onPath (λ q j. moves q j && eqb q p) f f′ (λ q j k l. go q j (decided (eqb q p))) (last-slot f′ (let twelve : slot ≡ 12 = omega arith in subst (λ n. Transferred (columnWhere (below column onPath slotNumber n) column) f f′) twelve a))
+      path-moved slot f′ at low high a = where-same column onPath (λ q j. moves q j && eqb q p) f f′ (λ q j k l. go q j (decided (eqb q p))) (last-slot f′ (let ended : slot ≡ nominatedSlot = omega arith in subst (λ n. Transferred (columnWhere (below column onPath slotNumber n) column) f f′) ended a))
         where
           here : eqb (pathBase o p) sink ≡ true
           here = eq-eqb (pathBase o p) sink (sym is ∙ at)
@@ -89,7 +90,7 @@ module _ (term p : ℕ) where
           go q j (inr e) = and-right-false (eqb (pathBase o q) sink && slotMoves term j) e
 
 -- what the loops ask of the next slot, and of the next path
-pub next-slot-fits : (o f f′ : List ℕ) (term sink p slot base : ℕ) (x : Transfer) → PathFits o f term sink x p → base ≡ pathBase (openingIn o) p → base ≡ sink → slot < 12 → length f′ ≡ figureCount → Transferred (columnWhere (below (shareColumn x) (onPath term p) (slotNumber term p) slot) (shareColumn x)) f f′ → SlotFits f′ term p slot x
+pub next-slot-fits : (o f f′ : List ℕ) (term sink p slot base : ℕ) (x : Transfer) → PathFits o f term sink x p → base ≡ pathBase (openingIn o) p → base ≡ sink → slot < nominatedSlot → length f′ ≡ figureCount → Transferred (columnWhere (below (shareColumn x) (onPath term p) (slotNumber term p) slot) (shareColumn x)) f f′ → SlotFits f′ term p slot x
 unfolding movesAt endsAt
 next-slot-fits o f f′ term sink p slot base x k is at l long a =
     record {

@@ -8,6 +8,7 @@ use native.Mathlib.Omega.{arith}
 use lib.ListN.{length}
 use lib.Dec.{leb, eqb}
 use borrow.Author.Tests.{leb-true, leb-false, eqb-false}
+use Rattle.tariff.specs.Sizes.{lastMonth, lastTerm, terms, lastTier}
 use Rattle.tariff.specs.declared.evidence.Entry.{Entry}
 use Rattle.tariff.specs.declared.limit.Sums.{Sums}
 use Rattle.tariff.specs.declared.limit.TierRule.{TierRule}
@@ -27,7 +28,7 @@ use Rattle.ledger.proofs.Unmet.{unmet}
 use Rattle.records.specs.declared.answers.Answer.the-variants.{Value}
 use Rattle.records.specs.Opening.{openingIn}
 use Rattle.slots.specs.Cells.{HasCell, readAt}
-use Rattle.slots.specs.Layout.{figureSlots, figureCount, currentTierIn, ledgerIn}
+use Rattle.slots.specs.Layout.{loadSlot, priorSlot, carriedSlot, awardsSlot, tierSlots, figureSlots, figureCount, currentTierIn, ledgerIn}
 use Rattle.slots.specs.Sums.{onPath}
 use Rattle.slots.specs.Steps.{Reachable, ReachableFigures, InFigures, queryAnswer}
 use Rattle.slots.proofs.Reachable.{counts, sound, figures-long}
@@ -37,22 +38,22 @@ use Rattle.slots.proofs.StepLaws.{query-answered}
 use Rattle.nominations.specs.Asked.{LimitAsked}
 use Rattle.nominations.specs.PathSums.{slotTo, sumsTo, PathsSummable}
 
--- the open tier is none past 9
-pub open-last : (o f : List ℕ) (m : List Bool) (x : List Entry) → Reachable o f m x → (tier : ℕ) → tier ≡ currentTierIn f → tier ≤ 9
+-- the open tier is none past the last
+pub open-last : (o f : List ℕ) (m : List Bool) (x : List Entry) → Reachable o f m x → (tier : ℕ) → tier ≡ currentTierIn f → tier ≤ lastTier
 unfolding ledgerIn
 open-last o f m x r tier e = le-trans (le-of-eq e) (sound o f m x r .openLast)
 
 -- a tier's term is a term
-pub term-below : (tier : ℕ) → tier ≤ 9 → termOf tier < 4
+pub term-below : (tier : ℕ) → tier ≤ lastTier → termOf tier < terms
 unfolding termOf termTable allBelow
-term-below tier l = let fits = leb-true (termOf tier) 3 (all-below 10 (λ t. leb (termOf t) 3) refl tier (omega arith)) in omega arith
+term-below tier l = let fits = leb-true (termOf tier) lastTerm (all-below (1 + lastTier) (λ t. leb (termOf t) lastTerm) refl tier (omega arith)) in omega arith
 
 -- and the month whose carried rights count in it a month
-carried-range : (term : ℕ) → term < 4 → (1 ≤ carriedMonth term) × (carriedMonth term ≤ 3)
+carried-range : (term : ℕ) → term < terms → (1 ≤ carriedMonth term) × (carriedMonth term ≤ lastMonth)
 unfolding carriedMonth
 carried-range term l = go (eqb term 0) refl
   where
-    go : (t : Bool) → eqb term 0 ≡ t → (1 ≤ cond t 1 term) × (cond t 1 term ≤ 3)
+    go : (t : Bool) → eqb term 0 ≡ t → (1 ≤ cond t 1 term) × (cond t 1 term ≤ lastMonth)
     go true e = (omega arith, omega arith)
     go false e = let some = eqb-false term 0 e in (omega (arith, some), omega arith)
 
@@ -64,22 +65,22 @@ module _ (o f : List ℕ) (tier h base month last : ℕ) (rule : TierRule) (aske
   unfolding ruleOf
   term-is = ap (λ (r : TierRule). r .term) ofTier
 
-  term-fits : rule .term < 4
+  term-fits : rule .term < terms
   term-fits = let t = term-is in let fits = term-below tier (asked .last) in omega arith
 
   few : O .holders ≤ 8
   few = counts o f _ _ (asked .figures .reachable) .0
 
   -- the cell of the load
-  pub load-cell : HasCell figureSlots h base (0 + rule .term) × (length f ≡ figureCount)
+  pub load-cell : HasCell figureSlots h base (loadSlot + rule .term) × (length f ≡ figureCount)
   load-cell = (record { holder = le-trans (asked .holder) few; place = asked .place; inRow = let t = term-fits in omega arith }, figures-long o f _ _ (asked .figures .reachable))
 
   -- the month of the carried rights
-  pub month-range : month ≡ carriedMonth (rule .term) → (1 ≤ month) × (month ≤ 3)
-  month-range e = subst (λ n. (1 ≤ n) × (n ≤ 3)) (sym e) (carried-range (rule .term) term-fits)
+  pub month-range : month ≡ carriedMonth (rule .term) → (1 ≤ month) × (month ≤ lastMonth)
+  month-range e = subst (λ n. (1 ≤ n) × (n ≤ lastMonth)) (sym e) (carried-range (rule .term) term-fits)
 
   -- the figures of all paths can be summed
-  pub all-summable : month ≡ carriedMonth (rule .term) → last ≡ tier - 1 → PathsSummable o f h (6 + (month - 1)) (13 + last)
+  pub all-summable : month ≡ carriedMonth (rule .term) → last ≡ tier - 1 → PathsSummable o f h (carriedSlot + (month - 1)) (awardsSlot + last)
   all-summable e l =
       let months = month-range e in
       let few = asked .last in
@@ -101,21 +102,21 @@ module _ (o f : List ℕ) (tier h base month last : ℕ) (rule : TierRule) (aske
     holder : h < 8
     holder = le-trans (asked .holder) few
 
-    awards-at : (t : ℕ) → t < 10 → slotTo O f h base (13 + t) (O .paths) ≡ awardsAt O L h base t
+    awards-at : (t : ℕ) → t < tierSlots → slotTo O f h base (awardsSlot + t) (O .paths) ≡ awardsAt O L h base t
     unfolding awardsAt ledgerIn
-    awards-at t l = at-base (13 + t) _ (λ p k. from-zero f 13 10 h p t holder k l)
+    awards-at t l = at-base (awardsSlot + t) _ (λ p k. from-zero f awardsSlot tierSlots h p t holder k l)
 
     -- the sums over all paths are those of the limit
-    pub limit-sums-are : (load : ℕ) (sums : Sums) → month ≡ carriedMonth (rule .term) → last ≡ tier - 1 → load ≡ readAt figureSlots 0 f h base (0 + rule .term) → sums ≡ sumsTo O f h base load (6 + (month - 1)) (13 + last) (O .paths) → sums ≡ limitSums O L tier h base
+    pub limit-sums-are : (load : ℕ) (sums : Sums) → month ≡ carriedMonth (rule .term) → last ≡ tier - 1 → load ≡ readAt figureSlots 0 f h base (loadSlot + rule .term) → sums ≡ sumsTo O f h base load (carriedSlot + (month - 1)) (awardsSlot + last) (O .paths) → sums ≡ limitSums O L tier h base
     unfolding sumsTo limitSums longTermAt priorYearAt ledgerIn
     limit-sums-are load sums ofTerm before ofLoad is =
         let months = month-range ofTerm in
         let final = asked .last in
         is ∙ (λ i.
         record {
-          load = (ofLoad ∙ from-zero f 0 4 h base (rule .term) holder (asked .place) term-fits ∙ ap (L .loads .kw h base) term-is) i;
-          carried = (at-base (6 + (month - 1)) _ (λ p k. by-number f 6 3 h p month holder k 1 (months .0) (omega arith)) ∙ ap (longTermAt O L h base) (ofTerm ∙ ap carriedMonth term-is)) i;
-          prior = at-base 4 _ (λ p k. from-zero f 4 1 h p 0 holder k (omega arith)) i;
+          load = (ofLoad ∙ from-zero f loadSlot terms h base (rule .term) holder (asked .place) term-fits ∙ ap (L .loads .kw h base) term-is) i;
+          carried = (at-base (carriedSlot + (month - 1)) _ (λ p k. by-number f carriedSlot lastMonth h p month holder k 1 (months .0) (omega arith)) ∙ ap (longTermAt O L h base) (ofTerm ∙ ap carriedMonth term-is)) i;
+          prior = at-base priorSlot _ (λ p k. from-zero f priorSlot 1 h p 0 holder k (omega arith)) i;
           tier1 = awards-at 1 (omega arith) i;
           tier2 = awards-at 2 (omega arith) i;
           tier3 = awards-at 3 (omega arith) i;

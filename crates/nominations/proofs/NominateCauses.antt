@@ -21,7 +21,7 @@ use Rattle.ledger.specs.Causes.{sinkNotFor, isSubLap, beyondRenewable, beyondLi
 use Rattle.ledger.proofs.Unmet.{kw-in-range}
 use Rattle.records.specs.Opening.{openingIn}
 use Rattle.slots.specs.Cells.{HasCell, readAt}
-use Rattle.slots.specs.Layout.{figureSlots, figureCount, currentTierIn, ledgerIn}
+use Rattle.slots.specs.Layout.{priorRemainingSlot, nominatedSlot, figureSlots, figureCount, currentTierIn, ledgerIn}
 use Rattle.slots.specs.Sums.{onPath}
 use Rattle.slots.specs.Steps.{Reachable, ReachableFigures}
 use Rattle.slots.proofs.Reachable.{counts, figures-long}
@@ -69,23 +69,23 @@ module _ (o f : List ℕ) (m : List Bool) (x : List Entry) (h p : ℕ) where
     path-room slot v l e = room-for-more v kw (le-trans (le-of-eq e) (figure-fits o f m x r h p slot (asked .holder) (asked .path) l)) (asked .high)
 
     -- cause 12
-    pub prior-test : (tier remaining nominated : ℕ) → tier ≡ currentTierIn f → remaining ≡ readAt figureSlots 0 f h p 5 → nominated ≡ readAt figureSlots 0 f h p 12 → (eqb tier 1 && ltb remaining (nominated + kw)) ≡ beyondRenewable L (L .tiers .openNow) h p kw
+    pub prior-test : (tier remaining nominated : ℕ) → tier ≡ currentTierIn f → remaining ≡ readAt figureSlots 0 f h p priorRemainingSlot → nominated ≡ readAt figureSlots 0 f h p nominatedSlot → (eqb tier 1 && ltb remaining (nominated + kw)) ≡ beyondRenewable L (L .tiers .openNow) h p kw
     unfolding beyondRenewable ledgerIn
-    prior-test tier remaining nominated t e n = λ i. eqb (t i) 1 && ltb ((e ∙ from-zero f 5 1 h p 0 holder path (omega arith)) i) ((n ∙ nominated-now f m x h p holder path) i + kw)
+    prior-test tier remaining nominated t e n = λ i. eqb (t i) 1 && ltb ((e ∙ from-zero f priorRemainingSlot 1 h p 0 holder path (omega arith)) i) ((n ∙ nominated-now f m x h p holder path) i + kw)
 
     -- what the holder nominates at a base
-    nominated-at : (base : ℕ) → sumAtBase O base (onPath f h 12) ≡ nominatedAt O L h base (L .tiers .openNow)
+    nominated-at : (base : ℕ) → sumAtBase O base (onPath f h nominatedSlot) ≡ nominatedAt O L h base (L .tiers .openNow)
     unfolding sumAtBase nominatedAt
     nominated-at base = sum-ext (O .paths) (λ q l. ap (countIf (endsAt O base q)) (nominated-now f m x h q holder (le-trans l (counts o f m x r .3))))
 
-    pub base-room : (base v : ℕ) → v ≡ sumAtBase O base (onPath f h 12) → v + kw < 2 ^ 64
+    pub base-room : (base v : ℕ) → v ≡ sumAtBase O base (onPath f h nominatedSlot) → v + kw < 2 ^ 64
     base-room base v e =
-        let fits = base-sum-fits o f h 12 base (summable o f m x r h 12 (asked .holder) (omega arith)) in
+        let fits = base-sum-fits o f h nominatedSlot base (summable o f m x r h nominatedSlot (asked .holder) (omega arith)) in
         let high = asked .high in
         omega arith
 
     -- cause 13
-    pub limit-test : (tier base limit nominated : ℕ) → tier ≡ currentTierIn f → base ≡ pathBase O p → limit ≡ tierLimit O L tier h base → nominated ≡ sumAtBase O base (onPath f h 12) → ltb limit (nominated + kw) ≡ beyondLimit O L (L .tiers .openNow) h p kw
+    pub limit-test : (tier base limit nominated : ℕ) → tier ≡ currentTierIn f → base ≡ pathBase O p → limit ≡ tierLimit O L tier h base → nominated ≡ sumAtBase O base (onPath f h nominatedSlot) → ltb limit (nominated + kw) ≡ beyondLimit O L (L .tiers .openNow) h p kw
     unfolding beyondLimit ledgerIn
     limit-test tier base limit nominated t e l n =
         λ i. ltb ((l ∙ (λ j. tierLimit O L (t j) h (e j))) i) ((n ∙ nominated-at base ∙ ap (λ b. nominatedAt O L h b (L .tiers .openNow)) e) i + kw)

@@ -20,7 +20,7 @@ use Rattle.records.specs.declared.answers.Answer.the-variants.{Done}
 use Rattle.records.specs.Opening.{openingIn}
 use Rattle.slots.specs.Cells.{HasCell, readAt, addedAt}
 use Rattle.slots.specs.Groups.{slotsOf}
-use Rattle.slots.specs.Layout.{figureSlots, figureCount, figureGroups, postedGroups, evidenceGroups, calendarOf, figuresOf, postedOf, evidenceOf, ledgerIn}
+use Rattle.slots.specs.Layout.{nominatedSlot, figureSlots, figureCount, figureGroups, postedGroups, evidenceGroups, calendarOf, figuresOf, postedOf, evidenceOf, ledgerIn}
 use Rattle.slots.specs.Steps.{Reachable, Steps}
 use Rattle.slots.proofs.CellLaws.{shown-is}
 use Rattle.slots.proofs.StoreLaws.{slot-added, single-added}
@@ -39,11 +39,11 @@ module _ (o f : List ℕ) (m : List Bool) (x : List Entry) (h p kw number : ℕ)
   facts = nominate-facts O L h p kw (accepted-test O L (nominate h p kw) number found zero)
 
   -- the slot is there, and has room for the kW
-  pub nominate-room : HasCell figureSlots h p 12 × (length f ≡ figureCount) × (readAt figureSlots 0 f h p 12 + kw < 2 ^ 64)
+  pub nominate-room : HasCell figureSlots h p nominatedSlot × (length f ≡ figureCount) × (readAt figureSlots 0 f h p nominatedSlot + kw < 2 ^ 64)
   nominate-room = (
     record { holder = le-trans (facts .holder) (counts o f m x r .0); place = le-trans (facts .path) (counts o f m x r .3); inRow = omega arith },
     figures-long o f m x r,
-    room-for-more _ kw (figure-fits o f m x r h p 12 (facts .holder) (facts .path) (omega arith)) (facts .high),
+    room-for-more _ kw (figure-fits o f m x r h p nominatedSlot (facts .holder) (facts .path) (omega arith)) (facts .high),
   )
 
   -- kW more in one tier, as its slot has it
@@ -54,11 +54,11 @@ module _ (o f : List ℕ) (m : List Bool) (x : List Entry) (h p kw number : ℕ)
       ∙ single-added h p kw (λ i j. v i j t) y z n above below
 
   -- the open tier's nominations are new, and nothing else
-  nominated : (f′ : List ℕ) → f′ ≡ addedAt figureSlots f h p 12 kw → f′ ≡ figuresOf (effect O L (nominate h p kw))
+  nominated : (f′ : List ℕ) → f′ ≡ addedAt figureSlots f h p nominatedSlot kw → f′ ≡ figuresOf (effect O L (nominate h p kw))
   unfolding figuresOf figureGroups calendarOf slotsOf effect withTiers afterNominate
   nominated f′ e =
-      e ∙ shown-is figureSlots 0 _ (addedAt figureSlots f h p 12 kw) (calendarOf L) (omega arith)
-      (slot-added figureSlots 12 1 0 (take 5 (figureGroups L)) (drop 6 (figureGroups L)) refl (omega arith) (λ y z n. L .tiers .nominated y z (L .tiers .openNow)) _ f (calendarOf L) h p 0 kw (nominate-room .0 .holder) (nominate-room .0 .place) (omega arith) (λ y z n above below. more-nominated (L .tiers .openNow) y z n (L .tiers .nominated) above below) (figures-shown o f m x r))
+      e ∙ shown-is figureSlots 0 _ (addedAt figureSlots f h p nominatedSlot kw) (calendarOf L) (omega arith)
+      (slot-added figureSlots nominatedSlot 1 0 (take 5 (figureGroups L)) (drop 6 (figureGroups L)) refl (omega arith) (λ y z n. L .tiers .nominated y z (L .tiers .openNow)) _ f (calendarOf L) h p 0 kw (nominate-room .0 .holder) (nominate-room .0 .place) (omega arith) (λ y z n above below. more-nominated (L .tiers .openNow) y z n (L .tiers .nominated) above below) (figures-shown o f m x r))
 
   posted : m ≡ postedOf (effect O L (nominate h p kw))
   unfolding postedOf postedGroups effect withTiers
@@ -68,5 +68,5 @@ module _ (o f : List ℕ) (m : List Bool) (x : List Entry) (h p kw number : ℕ)
   unfolding evidenceOf evidenceGroups effect withTiers
   filed = evidence-known o f m x r
 
-  pub nominate-steps : (f′ : List ℕ) → f′ ≡ addedAt figureSlots f h p 12 kw → Steps O L (nominate h p kw) Done f′ m x
+  pub nominate-steps : (f′ : List ℕ) → f′ ≡ addedAt figureSlots f h p nominatedSlot kw → Steps O L (nominate h p kw) Done f′ m x
   nominate-steps f′ ofFigures = steps-accepted O L (nominate h p kw) number found f′ m x zero (nominated f′ ofFigures) posted filed

@@ -13,7 +13,7 @@ use Rattle.tariff.proofs.Sums.{count-true, count-false, count-le, sum-more}
 use Rattle.ledger.specs.Opening.{Opening, pathBase, endsAt}
 use Rattle.ledger.proofs.Bounds.{paths-fit}
 use Rattle.records.specs.Opening.{openingIn}
-use Rattle.slots.specs.Layout.{figureSlots}
+use Rattle.slots.specs.Layout.{priorSlot, awardsSlot, figureSlots}
 use Rattle.slots.specs.Sums.{onPath, maxFigure}
 use Rattle.nominations.specs.PathSums.{withPath, slotTo, sumsTo, PathsSummable, SumsFit, PathFits}
 
@@ -27,10 +27,10 @@ module _ (f : List ℕ) (h p carried before : ℕ) (s : Sums) where
       record {
         load = s .load;
         carried = same (s .carried) (onPath f h carried p) none i;
-        prior = same (s .prior) (onPath f h 4 p) none i;
-        tier1 = same (s .tier1) (onPath f h 14 p) none i;
-        tier2 = same (s .tier2) (onPath f h 15 p) none i;
-        tier3 = same (s .tier3) (onPath f h 16 p) none i;
+        prior = same (s .prior) (onPath f h priorSlot p) none i;
+        tier1 = same (s .tier1) (onPath f h (awardsSlot + 1) p) none i;
+        tier2 = same (s .tier2) (onPath f h (awardsSlot + 2) p) none i;
+        tier3 = same (s .tier3) (onPath f h (awardsSlot + 3) p) none i;
         before = same (s .before) (onPath f h before p) none i;
       }
     where
@@ -38,17 +38,17 @@ module _ (f : List ℕ) (h p carried before : ℕ) (s : Sums) where
       same sum v none = let zero = count-false v none in omega arith
 
   -- one that counts adds its figures
-  pub added : (counts : Bool) (a b c d e g : ℕ) → not counts ≡ false → a ≡ onPath f h carried p → b ≡ onPath f h 4 p → c ≡ onPath f h 14 p → d ≡ onPath f h 15 p → e ≡ onPath f h 16 p → g ≡ onPath f h before p → _≡_ {A = Sums} (record { load = s .load; carried = s .carried + a; prior = s .prior + b; tier1 = s .tier1 + c; tier2 = s .tier2 + d; tier3 = s .tier3 + e; before = s .before + g }) (withPath f h p carried before counts s)
+  pub added : (counts : Bool) (a b c d e g : ℕ) → not counts ≡ false → a ≡ onPath f h carried p → b ≡ onPath f h priorSlot p → c ≡ onPath f h (awardsSlot + 1) p → d ≡ onPath f h (awardsSlot + 2) p → e ≡ onPath f h (awardsSlot + 3) p → g ≡ onPath f h before p → _≡_ {A = Sums} (record { load = s .load; carried = s .carried + a; prior = s .prior + b; tier1 = s .tier1 + c; tier2 = s .tier2 + d; tier3 = s .tier3 + e; before = s .before + g }) (withPath f h p carried before counts s)
   unfolding withPath
   added counts a b c d e g some ea eb ec ed ee eg =
       λ i.
       record {
         load = s .load;
         carried = more (s .carried) a (onPath f h carried p) ea i;
-        prior = more (s .prior) b (onPath f h 4 p) eb i;
-        tier1 = more (s .tier1) c (onPath f h 14 p) ec i;
-        tier2 = more (s .tier2) d (onPath f h 15 p) ed i;
-        tier3 = more (s .tier3) e (onPath f h 16 p) ee i;
+        prior = more (s .prior) b (onPath f h priorSlot p) eb i;
+        tier1 = more (s .tier1) c (onPath f h (awardsSlot + 1) p) ec i;
+        tier2 = more (s .tier2) d (onPath f h (awardsSlot + 2) p) ed i;
+        tier3 = more (s .tier3) e (onPath f h (awardsSlot + 3) p) ee i;
         before = more (s .before) g (onPath f h before p) eg i;
       }
     where
@@ -76,10 +76,10 @@ module _ (O : Opening) (f : List ℕ) (h base load carried before : ℕ) where
       record {
         load = load;
         carried = slot-more carried p i;
-        prior = slot-more 4 p i;
-        tier1 = slot-more 14 p i;
-        tier2 = slot-more 15 p i;
-        tier3 = slot-more 16 p i;
+        prior = slot-more priorSlot p i;
+        tier1 = slot-more (awardsSlot + 1) p i;
+        tier2 = slot-more (awardsSlot + 2) p i;
+        tier3 = slot-more (awardsSlot + 3) p i;
         before = slot-more before p i;
       }
 
@@ -105,10 +105,10 @@ module _ (o f : List ℕ) (h base load carried before : ℕ) (all : PathsSummabl
   sums-fit n k =
       record {
         carried = slot-fits carried n (all .carriedInRow) k;
-        prior = slot-fits 4 n (omega arith) k;
-        tier1 = slot-fits 14 n (omega arith) k;
-        tier2 = slot-fits 15 n (omega arith) k;
-        tier3 = slot-fits 16 n (omega arith) k;
+        prior = slot-fits priorSlot n (omega arith) k;
+        tier1 = slot-fits (awardsSlot + 1) n (omega arith) k;
+        tier2 = slot-fits (awardsSlot + 2) n (omega arith) k;
+        tier3 = slot-fits (awardsSlot + 3) n (omega arith) k;
         before = slot-fits before n (all .beforeInRow) k;
       }
 

@@ -7,6 +7,7 @@ use native.Mathlib.Nat.{le-trans, le-of-eq, mul-le-mul-right}
 use native.Mathlib.Omega.{arith}
 use lib.Dec.{leb, eqb}
 use borrow.Author.Tests.{eq-eqb, not-true, not-false}
+use Rattle.tariff.specs.Sizes.{lastTier, lastSeasonTier}
 use Rattle.tariff.specs.declared.evidence.Entry.{Entry}
 use Rattle.tariff.specs.Sum.{countIf, sumTo}
 use Rattle.tariff.specs.Terms.{termOf}
@@ -16,7 +17,7 @@ use Rattle.ledger.specs.Ledger.{Ledger}
 use Rattle.ledger.specs.Verification.{sumFromSource, drawsOnSame, drawnBefore, drawn}
 use Rattle.records.specs.Opening.{openingIn}
 use Rattle.slots.specs.Cells.{readAt}
-use Rattle.slots.specs.Layout.{figureSlots, figureIn, currentTierIn, ledgerIn}
+use Rattle.slots.specs.Layout.{nominatedSlot, awardsSlot, tierSlots, figureSlots, currentTierIn, figureIn, ledgerIn}
 use Rattle.slots.specs.Sums.{onPath, maxFigure}
 use Rattle.slots.specs.Steps.{Reachable}
 use Rattle.slots.proofs.Reachable.{counts, sound}
@@ -25,16 +26,16 @@ use Rattle.slots.proofs.PathSums.{source-sum-fits}
 use Rattle.nominations.specs.Usage.{awardsUsed}
 
 -- the test, as code makes it
-pub same-evidence : (tier n one two : ℕ) → one ≡ termOf n → two ≡ termOf tier → (leb 1 n && (eqb one two || leb n 3)) ≡ drawsOnSame tier n
+pub same-evidence : (tier n one two : ℕ) → one ≡ termOf n → two ≡ termOf tier → (leb 1 n && (eqb one two || leb n lastSeasonTier)) ≡ drawsOnSame tier n
 unfolding drawsOnSame
-same-evidence tier n one two e f = λ i. leb 1 n && (eqb (e i) (f i) || leb n 3)
+same-evidence tier n one two e f = λ i. leb 1 n && (eqb (e i) (f i) || leb n lastSeasonTier)
 
 -- the open tier's nominations stand by themselves
-pub nominated-now : (f : List ℕ) (m : List Bool) (x : List Entry) (h p : ℕ) → h < 8 → p < 16 → readAt figureSlots 0 f h p 12 ≡ ledgerIn f m x .tiers .nominated h p (ledgerIn f m x .tiers .openNow)
+pub nominated-now : (f : List ℕ) (m : List Bool) (x : List Entry) (h p : ℕ) → h < 8 → p < 16 → readAt figureSlots 0 f h p nominatedSlot ≡ ledgerIn f m x .tiers .nominated h p (ledgerIn f m x .tiers .openNow)
 unfolding ledgerIn
 nominated-now f m x h p a b =
-    from-zero f 12 1 h p 0 a b (omega arith)
-    ∙ sym (ap (λ t. cond t (figureIn f 12 1 0 h p 0) (figureIn f 13 10 0 h p (currentTierIn f))) (eq-eqb (currentTierIn f) (currentTierIn f) refl))
+    from-zero f nominatedSlot 1 h p 0 a b (omega arith)
+    ∙ sym (ap (λ t. cond t (figureIn f nominatedSlot 1 0 h p 0) (figureIn f awardsSlot tierSlots 0 h p (currentTierIn f))) (eq-eqb (currentTierIn f) (currentTierIn f) refl))
 
 module _ (o f : List ℕ) (m : List Bool) (x : List Entry) (r : Reachable o f m x) (h s : ℕ) (l : h < openingIn o .holders) where
   abbrev O : Opening
@@ -51,18 +52,18 @@ module _ (o f : List ℕ) (m : List Bool) (x : List Entry) (r : Reachable o f m 
   unfolding sumFromSource
   from-source slot v e = sum-ext (O .paths) (λ p k. ap (countIf (comesFrom O s p)) (e p (le-trans k (counts o f m x r .3))))
 
-  awards-from : (n : ℕ) → n ≤ 9 → sumFromSource O s (onPath f h (13 + n)) ≡ sumFromSource O s (λ p. L .tiers .awards h p n)
+  awards-from : (n : ℕ) → n ≤ lastTier → sumFromSource O s (onPath f h (awardsSlot + n)) ≡ sumFromSource O s (λ p. L .tiers .awards h p n)
   unfolding ledgerIn
-  awards-from n k = from-source (13 + n) _ (λ p i. from-zero f 13 10 h p n holder i (omega arith))
+  awards-from n k = from-source (awardsSlot + n) _ (λ p i. from-zero f awardsSlot tierSlots h p n holder i (omega arith))
 
-  pub nominated-from : sumFromSource O s (onPath f h 12) ≡ sumFromSource O s (λ p. L .tiers .nominated h p (L .tiers .openNow))
-  nominated-from = from-source 12 _ (λ p i. nominated-now f m x h p holder i)
+  pub nominated-from : sumFromSource O s (onPath f h nominatedSlot) ≡ sumFromSource O s (λ p. L .tiers .nominated h p (L .tiers .openNow))
+  nominated-from = from-source nominatedSlot _ (λ p i. nominated-now f m x h p holder i)
 
   source-fits : (slot : ℕ) → slot < figureSlots → sumFromSource O s (onPath f h slot) ≤ 16 * maxFigure
   source-fits slot k = source-sum-fits o f h slot s (summable o f m x r h slot l k)
 
-  pub nominated-fits : sumFromSource O s (onPath f h 12) ≤ 16 * maxFigure
-  nominated-fits = source-fits 12 (omega arith)
+  pub nominated-fits : sumFromSource O s (onPath f h nominatedSlot) ≤ 16 * maxFigure
+  nominated-fits = source-fits nominatedSlot (omega arith)
 
   module _ (tier : ℕ) where
     -- the awards of an earlier tier: left out, or summed
@@ -70,20 +71,20 @@ module _ (o f : List ℕ) (m : List Bool) (x : List Entry) (r : Reachable o f m 
     unfolding awardsUsed
     awards-left-out n same e none = sym (count-false _ (sym e ∙ not-true same none))
 
-    pub awards-summed : (n sum : ℕ) (same : Bool) → n ≤ 9 → same ≡ drawsOnSame tier n → not same ≡ false → sum ≡ sumFromSource O s (onPath f h (13 + n)) → sum ≡ awardsUsed O L tier h s n
+    pub awards-summed : (n sum : ℕ) (same : Bool) → n ≤ lastTier → same ≡ drawsOnSame tier n → not same ≡ false → sum ≡ sumFromSource O s (onPath f h (awardsSlot + n)) → sum ≡ awardsUsed O L tier h s n
     unfolding awardsUsed
     awards-summed n sum same k e some is = is ∙ awards-from n k ∙ sym (count-true _ (sym e ∙ not-false same some))
 
-    awards-fit : (n : ℕ) → n ≤ 9 → awardsUsed O L tier h s n ≤ 16 * maxFigure
+    awards-fit : (n : ℕ) → n ≤ lastTier → awardsUsed O L tier h s n ≤ 16 * maxFigure
     unfolding awardsUsed
-    awards-fit n k = le-trans (count-le (drawsOnSame tier n) _) (le-trans (le-of-eq (sym (awards-from n k))) (source-fits (13 + n) (omega arith)))
+    awards-fit n k = le-trans (count-le (drawsOnSame tier n) _) (le-trans (le-of-eq (sym (awards-from n k))) (source-fits (awardsSlot + n) (omega arith)))
 
     -- those of all earlier tiers
-    pub before-fits : tier ≤ 9 → drawnBefore O L tier h s ≤ 9 * (16 * maxFigure)
+    pub before-fits : tier ≤ lastTier → drawnBefore O L tier h s ≤ lastTier * (16 * maxFigure)
     unfolding drawnBefore awardsUsed
     before-fits k = le-trans (sum-bound {f = awardsUsed O L tier h s} (16 * maxFigure) tier (λ n i. awards-fit n (omega arith))) (mul-le-mul-right (16 * maxFigure) k)
 
-    pub before-room : tier ≤ 9 → (n sum v : ℕ) → n < tier → sum ≡ sumTo n (awardsUsed O L tier h s) → v ≡ awardsUsed O L tier h s n → sum + v ≤ 9 * (16 * maxFigure)
+    pub before-room : tier ≤ lastTier → (n sum v : ℕ) → n < tier → sum ≡ sumTo n (awardsUsed O L tier h s) → v ≡ awardsUsed O L tier h s n → sum + v ≤ lastTier * (16 * maxFigure)
     unfolding drawnBefore awardsUsed
     before-room k n sum v i e g =
         let part = sum-part-le (awardsUsed O L tier h s) tier n i in
@@ -91,7 +92,7 @@ module _ (o f : List ℕ) (m : List Bool) (x : List Entry) (r : Reachable o f m 
         omega arith
 
   -- all that the holder uses in the open tier
-  pub usage-fits : drawn O L (L .tiers .openNow) h s ≤ 10 * (16 * maxFigure)
+  pub usage-fits : drawn O L (L .tiers .openNow) h s ≤ (1 + lastTier) * (16 * maxFigure)
   unfolding drawn
   usage-fits =
       let one = nominated-fits in
@@ -100,6 +101,6 @@ module _ (o f : List ℕ) (m : List Bool) (x : List Entry) (r : Reachable o f m 
       omega arith
 
   -- as code adds it up
-  pub usage-is : (tier sum before : ℕ) → tier ≡ currentTierIn f → sum ≡ sumFromSource O s (onPath f h 12) → before ≡ drawnBefore O L tier h s → sum + before ≡ drawn O L (L .tiers .openNow) h s
+  pub usage-is : (tier sum before : ℕ) → tier ≡ currentTierIn f → sum ≡ sumFromSource O s (onPath f h nominatedSlot) → before ≡ drawnBefore O L tier h s → sum + before ≡ drawn O L (L .tiers .openNow) h s
   unfolding drawn ledgerIn
   usage-is tier sum before now e g = λ i. (e ∙ nominated-from) i + (g ∙ ap (λ t. drawnBefore O L t h s) now) i

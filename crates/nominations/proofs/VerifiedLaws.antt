@@ -9,6 +9,7 @@ use native.Mathlib.Omega.{arith}
 use lib.ListN.{length}
 use lib.Dec.{ltb}
 use borrow.Author.Tests.{eq-eqb, ne-eqb, ltb-true, ltb-false}
+use Rattle.tariff.specs.Sizes.{terms, ownership, contract}
 use Rattle.tariff.specs.declared.evidence.Entry.{Entry}
 use Rattle.tariff.specs.Evidence.{entryKw}
 use Rattle.tariff.specs.Ranges.{mostKw}
@@ -20,7 +21,7 @@ use Rattle.ledger.specs.Causes.{beyondVerified}
 use Rattle.ledger.specs.Verification.{verifiedKw, drawn}
 use Rattle.records.specs.Opening.{openingIn}
 use Rattle.slots.specs.Cells.{HasCell, readAt}
-use Rattle.slots.specs.Layout.{figureSlots, figureCount, currentTierIn, ledgerIn}
+use Rattle.slots.specs.Layout.{ownershipSlot, contractSlot, figureSlots, figureCount, currentTierIn, ledgerIn}
 use Rattle.slots.specs.Steps.{Reachable}
 use Rattle.slots.proofs.Reachable.{counts, figures-long}
 use Rattle.slots.proofs.Figures.{ownership-read, contract-read, evidence-fits}
@@ -31,7 +32,7 @@ module _ (o f : List ℕ) (m : List Bool) (x : List Entry) (r : Reachable o f m 
   L = ledgerIn f m x
 
   -- the open tier's term
-  pub term-fits : (tier term : ℕ) → tier ≡ currentTierIn f → term ≡ termOf tier → term < 4
+  pub term-fits : (tier term : ℕ) → tier ≡ currentTierIn f → term ≡ termOf tier → term < terms
   term-fits tier term now ofTier = let fits = term-below tier (open-last o f m x r tier now) in omega arith
 
   module _ (h s : ℕ) (l : h < openingIn o .holders) (place : s < 16) where
@@ -42,27 +43,27 @@ module _ (o f : List ℕ) (m : List Bool) (x : List Entry) (r : Reachable o f m 
     source-cell slot k = (record { holder = holder; place = place; inRow = k }, figures-long o f m x r)
 
     -- the four slots of ownership and behind them those of the contract, by term
-    owned-is : (term : ℕ) → term < 4 → readAt figureSlots 0 f h s (23 + term) ≡ entryKw term (L .papers .entry h s 1)
+    owned-is : (term : ℕ) → term < terms → readAt figureSlots 0 f h s (ownershipSlot + term) ≡ entryKw term (L .papers .entry h s ownership)
     owned-is term k = ownership-read o f m x r h s term holder place k
 
-    contracted-is : (term : ℕ) → term < 4 → readAt figureSlots 0 f h s (23 + term + 4) ≡ entryKw term (L .papers .entry h s 2)
-    contracted-is term k = ap (readAt figureSlots 0 f h s) (let e : 23 + term + 4 ≡ 27 + term = omega arith in e) ∙ contract-read o f m x r h s term holder place k
+    contracted-is : (term : ℕ) → term < terms → readAt figureSlots 0 f h s (ownershipSlot + term + terms) ≡ entryKw term (L .papers .entry h s contract)
+    contracted-is term k = ap (readAt figureSlots 0 f h s) (let e : ownershipSlot + term + terms ≡ contractSlot + term = omega arith in e) ∙ contract-read o f m x r h s term holder place k
 
-    pub verified-fits : (slot v : ℕ) → 23 ≤ slot → slot < 31 → v ≡ readAt figureSlots 0 f h s slot → v ≤ mostKw
-    verified-fits slot v above below e = le-trans (le-of-eq e) (go (decided (ltb slot 27)))
+    pub verified-fits : (slot v : ℕ) → ownershipSlot ≤ slot → slot < contractSlot + terms → v ≡ readAt figureSlots 0 f h s slot → v ≤ mostKw
+    verified-fits slot v above below e = le-trans (le-of-eq e) (go (decided (ltb slot contractSlot)))
       where
-        go : (ltb slot 27 ≡ true) ⊎ (ltb slot 27 ≡ false) → readAt figureSlots 0 f h s slot ≤ mostKw
+        go : (ltb slot contractSlot ≡ true) ⊎ (ltb slot contractSlot ≡ false) → readAt figureSlots 0 f h s slot ≤ mostKw
         go (inl t) =
-            let k = ltb-true slot 27 t in
-            let at : slot ≡ 23 + (slot - 23) = omega arith in
-            le-trans (le-of-eq (ap (readAt figureSlots 0 f h s) at ∙ owned-is (slot - 23) (omega arith))) (evidence-fits o f m x r h s 1 (slot - 23))
+            let k = ltb-true slot contractSlot t in
+            let at : slot ≡ ownershipSlot + (slot - ownershipSlot) = omega arith in
+            le-trans (le-of-eq (ap (readAt figureSlots 0 f h s) at ∙ owned-is (slot - ownershipSlot) (omega arith))) (evidence-fits o f m x r h s ownership (slot - ownershipSlot))
         go (inr t) =
-            let k = ltb-false slot 27 t in
-            let at : slot ≡ 23 + (slot - 27) + 4 = omega arith in
-            le-trans (le-of-eq (ap (readAt figureSlots 0 f h s) at ∙ contracted-is (slot - 27) (omega arith))) (evidence-fits o f m x r h s 2 (slot - 27))
+            let k = ltb-false slot contractSlot t in
+            let at : slot ≡ ownershipSlot + (slot - contractSlot) + terms = omega arith in
+            le-trans (le-of-eq (ap (readAt figureSlots 0 f h s) at ∙ contracted-is (slot - contractSlot) (omega arith))) (evidence-fits o f m x r h s contract (slot - contractSlot))
 
     -- what stands in the two slots of the open tier's term is the verified kW
-    pub verified-is : (tier term a b : ℕ) → tier ≡ currentTierIn f → term ≡ termOf tier → a ≡ readAt figureSlots 0 f h s (23 + term) → b ≡ readAt figureSlots 0 f h s (23 + term + 4) → a + b ≡ verifiedKw L h s (termOf (L .tiers .openNow))
+    pub verified-is : (tier term a b : ℕ) → tier ≡ currentTierIn f → term ≡ termOf tier → a ≡ readAt figureSlots 0 f h s (ownershipSlot + term) → b ≡ readAt figureSlots 0 f h s (ownershipSlot + term + terms) → a + b ≡ verifiedKw L h s (termOf (L .tiers .openNow))
     unfolding verifiedKw ledgerIn
     verified-is tier term a b now ofTier owned contracted =
         let k = term-fits tier term now ofTier in

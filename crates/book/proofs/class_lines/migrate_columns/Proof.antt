@@ -2,6 +2,7 @@
 use mathlib.Core.Path.{ap, ap₂, _∙_}
 use mathlib.Core.Bool.{cond, _||_}
 use native.Mathlib.Omega.{arith}
+use Rattle.ledger.specs.Numbers.{notInBook, outOfRange}
 use Rattle.book.specs.Reading.{openedWith}
 use Rattle.book.specs.Handed.{refusedWith}
 use Rattle.book.proofs.ClassLineLaws.{first-long, many-handed, few-handed}
@@ -29,7 +30,7 @@ refused-requires c κs = search needs
 
 returns : tie.Need-returns
 unfolding openedWith
-returns c = let a = c .before .before .before .before .before .before .before .before .args in c .refused .ensures ∙ ap (refusedWith (a .b)) (c .before .refuse .ensures ∙ ap (λ t. cond t 2 3) (ap₂ (λ x y. x || y) (c .before .before .before .before .no-sink .ensures) (c .before .before .no-holder .ensures))) ∙ many-handed (a .b) (a .term) (a .sink) (a .n) (a .c) (c .before .before .before .before .before .before .before .if1 .taken)
+returns c = let a = c .before .before .before .before .before .before .before .before .args in c .refused .ensures ∙ ap (refusedWith (a .b)) (c .before .refuse .ensures ∙ ap (λ t. cond t notInBook outOfRange) (ap₂ (λ x y. x || y) (c .before .before .before .before .no-sink .ensures) (c .before .before .no-holder .ensures))) ∙ many-handed (a .b) (a .term) (a .sink) (a .n) (a .c) (c .before .before .before .before .before .before .before .if1 .taken)
 
 array-share-prefix-froms : tie.Need-array-share-prefix-froms
 array-share-prefix-froms c = let full = c .before .before .before .before .before .before .pre .1 .ofFroms in let few = c .before .before .before .before .before .if1 .left in omega arith

@@ -1,6 +1,7 @@
 -- `nominations::limits::limit_refusal` meets its contract: its tests are the causes, in their order. Assumes nothing.
 use mathlib.Core.Bool.{not, _||_}
 use mathlib.Core.Path.{ap, ap₂}
+use Rattle.ledger.specs.Numbers.{notInBook, notAtThisTime}
 use Rattle.ledger.specs.Calendar.{tierIsOpen}
 use Rattle.ledger.specs.Causes.{limitCauses, queryCauses, queryRefusal}
 use Rattle.records.proofs.CauseLaws.{link, no-more}
@@ -31,8 +32,8 @@ refuse-requires-2 c κs = search needs
 returns : tie.Need-returns
 unfolding queryRefusal queryCauses limitCauses tierIsOpen ledgerIn
 returns c m x r =
-    link 2 _ _ _ (c .refuse2 .ensures) (ap₂ (λ a b. a || b) (c .before .before .before .before .before .no-holder .ensures) (c .before .before .before .before .no-sink .ensures))
-    (link 4 _ _ _ (c .before .refuse .ensures) (ap not (open-test _ _ _ (c .before .before .is-open .ensures) (c .before .before .before .current-tier .ensures))) no-more)
+    link notInBook _ _ _ (c .refuse2 .ensures) (ap₂ (λ a b. a || b) (c .before .before .before .before .before .no-holder .ensures) (c .before .before .before .before .no-sink .ensures))
+    (link notAtThisTime _ _ _ (c .before .refuse .ensures) (ap not (open-test _ _ _ (c .before .before .is-open .ensures) (c .before .before .before .current-tier .ensures))) no-more)
 
 pub limit-refusal-spec : {M : Type 1} → statement M
 limit-refusal-spec =

@@ -1,5 +1,6 @@
 -- `nominations::nominate::exceeds_prior` meets its contract. Assumes nothing.
 use native.Mathlib.Omega.{arith}
+use Rattle.slots.specs.Layout.{nominatedSlot}
 use Rattle.nominations.proofs.NominateCauses.{path-cell, path-room, prior-test}
 use borrow.Author.Needs.{needs}
 use Rattle.nominations.proofs.nominate.exceeds_prior.Statement.{statement}
@@ -12,7 +13,7 @@ read-requires-2 : tie.Need-read-requires-2
 read-requires-2 c κs = path-cell _ _ _ _ _ _ _ (c .before .before .before .pre) (c .before .before .before .pre .figures .reachable) _ (omega arith)
 
 add-wanted : tie.Need-add-wanted
-add-wanted c = record { fits = path-room _ _ _ _ _ _ _ (c .before .before .before .before .pre) (c .before .before .before .before .pre .figures .reachable) 12 _ (omega arith) (c .read2 .ensures) }
+add-wanted c = record { fits = path-room _ _ _ _ _ _ _ (c .before .before .before .before .pre) (c .before .before .before .before .pre .figures .reachable) nominatedSlot _ (omega arith) (c .read2 .ensures) }
 
 current-tier-requires : tie.Need-current-tier-requires
 current-tier-requires c κs = search needs

@@ -1,6 +1,7 @@
 -- `nominations::nominate::nominate_refusal` meets its contract: its tests are the causes, in their order. Assumes nothing.
 use mathlib.Core.Bool.{not, _||_}
 use mathlib.Core.Path.{sym, ap, ap₂, _∙_}
+use Rattle.ledger.specs.Numbers.{notInBook, outOfRange, notAtThisTime}
 use Rattle.ledger.specs.Calendar.{tierIsOpen}
 use Rattle.ledger.specs.Causes.{nominateCauses, callCauses, refusal}
 use Rattle.records.proofs.MetCauses.{met-first, unmet-first}
@@ -19,7 +20,7 @@ no-path-requires c κs = search needs
 
 returns : tie.Need-returns
 unfolding refusal callCauses nominateCauses
-returns c m x r = met-first 2 _ _ (sym (ap₂ (λ a b. a || b) (c .before .before .no-holder .ensures) (c .before .no-path .ensures)) ∙ c .if1 .taken)
+returns c m x r = met-first notInBook _ _ (sym (ap₂ (λ a b. a || b) (c .before .before .no-holder .ensures) (c .before .no-path .ensures)) ∙ c .if1 .taken)
 
 wrong-kw-requires : tie.Need-wrong-kw-requires
 wrong-kw-requires c κs = search needs
@@ -27,8 +28,8 @@ wrong-kw-requires c κs = search needs
 returns-2 : tie.Need-returns-2
 unfolding refusal callCauses nominateCauses
 returns-2 c m x r =
-    unmet-first 2 _ _ (sym (ap₂ (λ a b. a || b) (c .before .before .before .before .no-holder .ensures) (c .before .before .before .no-path .ensures)) ∙ c .before .before .if1 .left)
-    (met-first 3 _ _ (sym (c .before .wrong-kw .ensures) ∙ c .if2 .taken))
+    unmet-first notInBook _ _ (sym (ap₂ (λ a b. a || b) (c .before .before .before .before .no-holder .ensures) (c .before .before .before .no-path .ensures)) ∙ c .before .before .if1 .left)
+    (met-first outOfRange _ _ (sym (c .before .wrong-kw .ensures) ∙ c .if2 .taken))
 
 current-tier-requires : tie.Need-current-tier-requires
 current-tier-requires c κs = search needs
@@ -39,9 +40,9 @@ is-open-requires c κs = search needs
 returns-3 : tie.Need-returns-3
 unfolding refusal callCauses nominateCauses tierIsOpen ledgerIn
 returns-3 c m x r =
-    unmet-first 2 _ _ (sym (ap₂ (λ a b. a || b) (c .before .before .before .before .before .before .before .no-holder .ensures) (c .before .before .before .before .before .before .no-path .ensures)) ∙ c .before .before .before .before .before .if1 .left)
-    (unmet-first 3 _ _ (sym (c .before .before .before .before .wrong-kw .ensures) ∙ c .before .before .before .if2 .left)
-    (met-first 4 _ _ (sym (ap not (open-test _ _ _ (c .before .is-open .ensures) (c .before .before .current-tier .ensures))) ∙ c .if3 .taken)))
+    unmet-first notInBook _ _ (sym (ap₂ (λ a b. a || b) (c .before .before .before .before .before .before .before .no-holder .ensures) (c .before .before .before .before .before .before .no-path .ensures)) ∙ c .before .before .before .before .before .if1 .left)
+    (unmet-first outOfRange _ _ (sym (c .before .before .before .before .wrong-kw .ensures) ∙ c .before .before .before .if2 .left)
+    (met-first notAtThisTime _ _ (sym (ap not (open-test _ _ _ (c .before .is-open .ensures) (c .before .before .current-tier .ensures))) ∙ c .if3 .taken)))
 
 refusal-in-tier-requires : tie.Need-refusal-in-tier-requires
 refusal-in-tier-requires c κs = in-book _ _ _ _ _ _ _ _ (c .before .before .before .before .before .before .before .before .before .before .pre) (c .before .before .before .before .before .before .before .no-holder .ensures) (c .before .before .before .before .before .before .no-path .ensures) (c .before .before .before .before .before .if1 .left) (c .before .before .before .before .wrong-kw .ensures) (c .before .before .before .if2 .left)
@@ -49,9 +50,9 @@ refusal-in-tier-requires c κs = in-book _ _ _ _ _ _ _ _ (c .before .before .bef
 returns-4 : tie.Need-returns-4
 unfolding refusal callCauses nominateCauses tierIsOpen ledgerIn
 returns-4 c m x r =
-    unmet-first 2 _ _ (sym (ap₂ (λ a b. a || b) (c .before .before .before .before .before .before .before .before .no-holder .ensures) (c .before .before .before .before .before .before .before .no-path .ensures)) ∙ c .before .before .before .before .before .before .if1 .left)
-    (unmet-first 3 _ _ (sym (c .before .before .before .before .before .wrong-kw .ensures) ∙ c .before .before .before .before .if2 .left)
-    (unmet-first 4 _ _ (sym (ap not (open-test _ _ _ (c .before .before .is-open .ensures) (c .before .before .before .current-tier .ensures))) ∙ c .before .if3 .left)
+    unmet-first notInBook _ _ (sym (ap₂ (λ a b. a || b) (c .before .before .before .before .before .before .before .before .no-holder .ensures) (c .before .before .before .before .before .before .before .no-path .ensures)) ∙ c .before .before .before .before .before .before .if1 .left)
+    (unmet-first outOfRange _ _ (sym (c .before .before .before .before .before .wrong-kw .ensures) ∙ c .before .before .before .before .if2 .left)
+    (unmet-first notAtThisTime _ _ (sym (ap not (open-test _ _ _ (c .before .before .is-open .ensures) (c .before .before .before .current-tier .ensures))) ∙ c .before .if3 .left)
     (c .refusal-in-tier .ensures m x r)))
 
 pub nominate-refusal-spec : {M : Type 1} → statement M
