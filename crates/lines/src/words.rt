@@ -79,10 +79,13 @@ fn word_key(word: &[u8]) -> u64
 pub fn kind_of(word: &[u8], count: u64) -> u64
     ensures { λ r. ⌜ r ≡ kindOf (now (word .entry)) count ⌝ }
 {
+    // A table that a loop reads by its name is made anew at each turn.
+    let words = WORDS;
+    let counts = FIELD_COUNTS;
     let key = word_key(word);
     let mut k: usize = 0;
     while k < KINDS {
-        if (WORDS[k] == key) & (FIELD_COUNTS[k] == count) {
+        if (words[k] == key) & (counts[k] == count) {
             return k as u64 + 1;
         }
         k += 1;

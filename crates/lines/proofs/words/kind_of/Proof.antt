@@ -10,10 +10,10 @@ use Rattle.lines.proofs.words.kind_of.Statement.{statement}
 use Rattle.lines.proofs.words.kind_of.Tie as tie
 
 abbrev Inv-loop : tie.InvT-loop
-Inv-loop word count key k₀ k = (k ≤ 18) × SoughtTo word count k
+Inv-loop word count words counts key k₀ k = (k ≤ 18) × SoughtTo word count k
 
 abbrev μ-loop : tie.MeasureT-loop
-μ-loop word count key k₀ k = 18 - k
+μ-loop word count words counts key k₀ k = 18 - k
 
 word-key-requires : tie.Need-word-key-requires Inv-loop μ-loop
 word-key-requires c κs = search needs
