@@ -16,7 +16,7 @@ use Rattle.tariff.specs.Sum.{allBelow}
 use Rattle.tariff.specs.Ranges.{within}
 use Rattle.tariff.proofs.Tests.{and-both, and-join, and-left-false, and-right-false, all-below, both-ways, decided}
 use Rattle.lines.specs.Text.{bytesOf}
-use Rattle.lines.specs.Rows.{maxFields, Form, form, forms, sameBytes, isForm, kindFrom, kindOf}
+use Rattle.lines.specs.Rows.{maxFields, Form, form, forms, sameBytes, kindAmong, kindOf}
 use Rattle.lines.specs.Words.{isLetter, allLetters, letterKey, isWord, wordKey, formKey, formFields}
 
 letter-range : (b : ℕ) → isLetter b ≡ true → (97 ≤ b) × (b ≤ 122)
@@ -121,27 +121,29 @@ key-test word known fit some = go (decided (sameBytes word known)) (decided (leb
         ne-eqb (letterKey known) (cond (leb (length word) 8 && allLetters word) (letterKey word) 0) (λ e. both-ways (same-key word known (and-both (leb (length word) 8) (allLetters word) w .1) (and-both (leb (length known) 8) (allLetters known) fit .1) (sym (e ∙ ap (λ t. cond t (letterKey word) 0) w))) other) ∙ sym other
     go (inr other) (inr w) = ne-eqb (letterKey known) (cond (leb (length word) 8 && allLetters word) (letterKey word) 0) (λ e. let none = e ∙ ap (λ t. cond t (letterKey word) 0) w in omega (arith, none)) ∙ sym other
 
--- every form has a word of letters
+-- every form has a word of letters, and its kind is its place in the table, counted from 1
 noForm : Form
-noForm = form "" 0
+noForm = form "" 0 0
 
-fits : Form → Bool
+fits : ℕ → Form → Bool
 unfolding noForm
-fits (form known fields) = isWord (bytesOf known) && leb 1 (letterKey (bytesOf known))
+fits k (form known fields kind) = (isWord (bytesOf known) && leb 1 (letterKey (bytesOf known))) && eqb kind (k + 1)
 
-form-test : (word : List ℕ) (count : ℕ) (f : Form) → fits f ≡ true → (eqb (formKey f) (wordKey word) && eqb (formFields f) count) ≡ isForm word count f
-unfolding formKey formFields isForm fits
-form-test word count (form known fields) e =
-    let both = and-both (isWord (bytesOf known)) (leb 1 (letterKey (bytesOf known))) e in
-    ap (λ t. t && eqb fields count) (key-test word (bytesOf known) (both .0) (leb-true 1 (letterKey (bytesOf known)) (both .1)))
-
-forms-fit : (k : ℕ) → k < 18 → fits (getD forms k noForm) ≡ true
+forms-fit : (k : ℕ) → k < 18 → fits k (getD forms k noForm) ≡ true
 unfolding fits forms noForm isWord allLetters isLetter letterKey bytesOf allBelow within
-forms-fit = all-below 18 (λ k. fits (getD forms k noForm)) refl
+forms-fit = all-below 18 (λ k. fits k (getD forms k noForm)) refl
+
+-- a line has a form where the numbers say so
+form-test : (word : List ℕ) (count k : ℕ) (f : Form) (later : List Form) → fits k f ≡ true → kindAmong word count (f ∷ later) ≡ cond (eqb (formKey f) (wordKey word) && eqb (formFields f) count) (k + 1) (kindAmong word count later)
+unfolding formKey formFields kindAmong fits
+form-test word count k (form known fields kind) later e =
+    let both = and-both (isWord (bytesOf known) && leb 1 (letterKey (bytesOf known))) (eqb kind (k + 1)) e in
+    let letters = and-both (isWord (bytesOf known)) (leb 1 (letterKey (bytesOf known))) (both .0) in
+    ap₂ (λ t n. cond (t && eqb fields count) n (kindAmong word count later)) (sym (key-test word (bytesOf known) (letters .0) (leb-true 1 (letterKey (bytesOf known)) (letters .1)))) (eqb-true kind (k + 1) (both .1))
 
 -- those before number k are passed
 abbrev pub SoughtTo : List ℕ → ℕ → ℕ → Type 0
-SoughtTo word count k = kindOf word count ≡ kindFrom (k + 1) word count (drop k forms)
+SoughtTo word count k = kindOf word count ≡ kindAmong word count (drop k forms)
 
 pub none-sought : (word : List ℕ) (count : ℕ) → SoughtTo word count 0
 unfolding kindOf
@@ -152,43 +154,41 @@ module _ (word : List ℕ) (count k key : ℕ) (l : k < 18) (is : key ≡ wordKe
   abbrev test : Bool
   test = eqb (getD (map formKey forms) k 0) key && eqb (getD (map formFields forms) k 0) count
 
-  at-form : test ≡ isForm word count (getD forms k noForm)
-  unfolding formKey formFields noForm bytesOf letterKey
-  at-form =
-      (λ i. eqb (List·getD-map formKey forms k noForm i) (is i) && eqb (List·getD-map formFields forms k noForm i) count)
-      ∙ form-test word count (getD forms k noForm) (forms-fit k l)
-
-  opened : kindOf word count ≡ cond test (k + 1) (kindFrom (suc (k + 1)) word count (drop (suc k) forms))
-  unfolding kindFrom forms
-  opened = so-far ∙ ap (kindFrom (k + 1) word count) (drop-cons forms k noForm l) ∙ ap (λ t. cond t (k + 1) (kindFrom (suc (k + 1)) word count (drop (suc k) forms))) (sym at-form)
+  opened : kindOf word count ≡ cond test (k + 1) (kindAmong word count (drop (suc k) forms))
+  unfolding kindAmong forms formKey formFields noForm bytesOf letterKey
+  opened =
+      so-far
+      ∙ ap (kindAmong word count) (drop-cons forms k noForm l)
+      ∙ form-test word count k (getD forms k noForm) (drop (suc k) forms) (forms-fit k l)
+      ∙ sym (λ i. cond (eqb (List·getD-map formKey forms k noForm i) (is i) && eqb (List·getD-map formFields forms k noForm i) count) (k + 1) (kindAmong word count (drop (suc k) forms)))
 
   pub form-found : test ≡ true → k + 1 ≡ kindOf word count
-  form-found e = sym (opened ∙ ap (λ t. cond t (k + 1) (kindFrom (suc (k + 1)) word count (drop (suc k) forms))) e)
+  form-found e = sym (opened ∙ ap (λ t. cond t (k + 1) (kindAmong word count (drop (suc k) forms))) e)
 
   pub form-passed : test ≡ false → SoughtTo word count (k + 1)
   form-passed e =
       opened
-      ∙ ap (λ t. cond t (k + 1) (kindFrom (suc (k + 1)) word count (drop (suc k) forms))) e
-      ∙ ap₂ (λ a b. kindFrom a word count (drop b forms)) (sym (add-one (k + 1))) (sym (add-one k))
+      ∙ ap (λ t. cond t (k + 1) (kindAmong word count (drop (suc k) forms))) e
+      ∙ ap (λ j. kindAmong word count (drop j forms)) (sym (add-one k))
 
 pub all-sought : (word : List ℕ) (count k : ℕ) → k ≤ 18 → 18 ≤ k → SoughtTo word count k → 0 ≡ kindOf word count
-unfolding kindFrom forms
-all-sought word count k l m so-far = sym (so-far ∙ ap (λ j. kindFrom (j + 1) word count (drop j forms)) (let last : k ≡ 18 = omega arith in last))
+unfolding kindAmong forms
+all-sought word count k l m so-far = sym (so-far ∙ ap (λ j. kindAmong word count (drop j forms)) (let last : k ≡ 18 = omega arith in last))
 
 -- no form has more fields than a row
 few : List Form → Bool
 few [] = true
-few (form known fields ∷ later) = leb fields maxFields && few later
+few (form known fields kind ∷ later) = leb fields maxFields && few later
 
-none-among : (k : ℕ) (word : List ℕ) (count : ℕ) (known : List Form) → few known ≡ true → maxFields < count → kindFrom k word count known ≡ 0
-unfolding few kindFrom isForm
-none-among k word count [] e l = refl
-none-among k word count (form name fields ∷ later) e l =
+none-among : (word : List ℕ) (count : ℕ) (known : List Form) → few known ≡ true → maxFields < count → kindAmong word count known ≡ 0
+unfolding few kindAmong
+none-among word count [] e l = refl
+none-among word count (form name fields kind ∷ later) e l =
     let both = and-both (leb fields maxFields) (few later) e in
     let small = leb-true fields maxFields (both .0) in
-    ap (λ t. cond t k (kindFrom (suc k) word count later)) (and-right-false (sameBytes word (bytesOf name)) (ne-eqb fields count (λ same. omega (arith, same))))
-    ∙ none-among (suc k) word count later (both .1) l
+    ap (λ t. cond t kind (kindAmong word count later)) (and-right-false (sameBytes word (bytesOf name)) (ne-eqb fields count (λ same. omega (arith, same))))
+    ∙ none-among word count later (both .1) l
 
 pub no-form : (word : List ℕ) (count : ℕ) → maxFields < count → 0 ≡ kindOf word count
 unfolding kindOf few forms
-no-form word count l = sym (none-among 1 word count forms refl l)
+no-form word count l = sym (none-among word count forms refl l)

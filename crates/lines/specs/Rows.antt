@@ -1,5 +1,5 @@
 -- What a line says: its kind, by its word and count of fields, and its numbers (01, Script and host).
-use Prim.Native.Nat.{ℕ, suc, _+_}
+use Prim.Native.Nat.{ℕ, _+_}
 use Prim.Native.String.{String}
 use mathlib.Core.Bool.{Bool, true, false, cond, _&&_}
 use mathlib.Core.List.{List, [], _∷_, map}
@@ -67,31 +67,31 @@ heldLine = 17
 abbrev pub netLine : ℕ
 netLine = 18
 
--- a word, and how many fields follow it
+-- a word, how many fields follow it, and the kind of such a line
 pub data Form : Type 0 where
-  form : String → ℕ → Form
+  form : String → (fields kind : ℕ) → Form
 
--- the forms of lines, in the order of their kinds from 1 on
+-- the forms of lines
 unfoldable pub forms : List Form
 forms =
-    form "book" 4
-    ∷ form "holder" 1
-    ∷ form "sink" 2
-    ∷ form "path" 2
-    ∷ form "load" 6
-    ∷ form "block" 3
-    ∷ form "carry" 3
-    ∷ form "prior" 4
-    ∷ form "verify" 7
-    ∷ form "migrate" 3
-    ∷ form "class" 5
-    ∷ form "open" 1
-    ∷ form "nominate" 3
-    ∷ form "award" 3
-    ∷ form "close" 0
-    ∷ form "limit" 2
-    ∷ form "held" 3
-    ∷ form "net" 2
+    form "book" 4 bookLine
+    ∷ form "holder" 1 holderLine
+    ∷ form "sink" 2 sinkLine
+    ∷ form "path" 2 pathLine
+    ∷ form "load" 6 loadLine
+    ∷ form "block" 3 blockLine
+    ∷ form "carry" 3 carryLine
+    ∷ form "prior" 4 priorLine
+    ∷ form "verify" 7 verifyLine
+    ∷ form "migrate" 3 migrateLine
+    ∷ form "class" 5 classLine
+    ∷ form "open" 1 openLine
+    ∷ form "nominate" 3 nominateLine
+    ∷ form "award" 3 awardLine
+    ∷ form "close" 0 closeLine
+    ∷ form "limit" 2 limitLine
+    ∷ form "held" 3 heldLine
+    ∷ form "net" 2 netLine
     ∷ []
 
 -- the same bytes
@@ -101,18 +101,14 @@ sameBytes [] (y ∷ ys) = false
 sameBytes (x ∷ xs) [] = false
 sameBytes (x ∷ xs) (y ∷ ys) = eqb x y && sameBytes xs ys
 
--- a line of this word, with so many fields, has this form
-unfoldable pub isForm : List ℕ → ℕ → Form → Bool
-isForm word count (form known fields) = sameBytes word (bytesOf known) && eqb fields count
-
--- the kind of a line among forms, of which the first has kind k
-unfoldable pub kindFrom : ℕ → List ℕ → ℕ → List Form → ℕ
-kindFrom k word count [] = unreadable
-kindFrom k word count (known ∷ later) = cond (isForm word count known) k (kindFrom (suc k) word count later)
+-- the kind of a line of this word, with so many fields, among some forms
+unfoldable pub kindAmong : List ℕ → ℕ → List Form → ℕ
+kindAmong word count [] = unreadable
+kindAmong word count (form known fields kind ∷ later) = cond (sameBytes word (bytesOf known) && eqb fields count) kind (kindAmong word count later)
 
 -- a line of another word or count of fields is unreadable
 unfoldable pub kindOf : List ℕ → ℕ → ℕ
-kindOf word count = kindFrom 1 word count forms
+kindOf word count = kindAmong word count forms
 
 unfoldable pub allNumbers : List (List ℕ) → Bool
 allNumbers [] = true

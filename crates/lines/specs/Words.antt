@@ -20,7 +20,7 @@ unfoldable pub allLetters : List ℕ → Bool
 allLetters [] = true
 allLetters (b ∷ bytes) = isLetter b && allLetters bytes
 
--- letters as a number, the first letter last: a is 1, z is 26
+-- letters as a number, five bits to a letter and the first letter lowest: a is 1, z is 26
 unfoldable pub letterKey : List ℕ → ℕ
 letterKey [] = 0
 letterKey (b ∷ bytes) = letterKey bytes * 32 + (b - 96)
@@ -33,9 +33,12 @@ isWord word = leb (length word) maxLetters && allLetters word
 unfoldable pub wordKey : List ℕ → ℕ
 wordKey word = cond (isWord word) (letterKey word) 0
 
--- the number and the count of fields of a form
+-- what the table has of a form: the number of its word, its count of fields, and its kind
 unfoldable pub formKey : Form → ℕ
-formKey (form known fields) = letterKey (bytesOf known)
+formKey (form known fields kind) = letterKey (bytesOf known)
 
 unfoldable pub formFields : Form → ℕ
-formFields (form known fields) = fields
+formFields (form known fields kind) = fields
+
+unfoldable pub formKind : Form → ℕ
+formKind (form known fields kind) = kind
