@@ -8,14 +8,23 @@ use std::os::fd::OwnedFd;
 use std::os::unix::net::UnixStream;
 use std::path::{Path, PathBuf};
 use std::process::{Command, Output, Stdio};
+use std::sync::Once;
 
 fn repository() -> PathBuf {
     Path::new(env!("CARGO_MANIFEST_DIR")).join("..")
 }
 
-/// The program itself, as it was built, and the script that calls it.
+/// The program itself, and the script that calls it. The script builds the
+/// program where its sources changed, and says so; that is done first.
 fn programs() -> [PathBuf; 2] {
-    [repository().join("target/bin/season"), repository().join("season")]
+    static BUILT: Once = Once::new();
+    let wrapper = repository().join("season");
+    BUILT.call_once(|| {
+        let script = File::open(repository().join("examples/case-1.txt")).expect("case 1");
+        let output = run(&wrapper, Stdio::from(script), Stdio::piped());
+        assert!(output.status.success(), "the program is not built");
+    });
+    [repository().join("target/bin/season"), wrapper]
 }
 
 fn run(program: &Path, input: Stdio, output: Stdio) -> Output {
