@@ -2,9 +2,11 @@
 use mathlib.Core.Path.{_≡_, refl, sym, ap, ap₂, _∙_}
 use mathlib.Core.Bool.{Bool, true, false, cond}
 use mathlib.Core.List.{List, [], _∷_, _++_, map, append-assoc, append-nil}
+use lib.Dec.{eqb}
 use Rattle.ledger.specs.Opening.{Opening, legal}
-use Rattle.ledger.specs.Ledger.{emptyLedger}
+use Rattle.ledger.specs.Ledger.{Ledger, emptyLedger}
 use Rattle.ledger.specs.Call.{Call, Query}
+use Rattle.ledger.specs.Causes.{refusal, queryRefusal}
 use Rattle.ledger.specs.Season as ledger
 use Rattle.ledger.specs.Season.{Ask, call, query, afterFrom, after, answers, stepAsk, season}
 use Rattle.ledger.proofs.Steps.{after-more}
@@ -17,20 +19,27 @@ use Rattle.book.specs.Opened.{openedAs}
 use Rattle.book.specs.SeasonTheorem.{callsOf, bookAfter, answersOf, seasonAnswers}
 use Rattle.book.proofs.ReachableSteps.{bookAt, at-answer, at-told, at-next}
 
--- an answer read back is the ledger's
-answer-back : (a : ledger.Answer) → answerIn (answerOf a) ≡ a
-unfolding answerIn answerOf
-answer-back ledger.done = refl
-answer-back (ledger.value v) = refl
-answer-back (ledger.refused number) = refl
+-- an answer of the ledger, written as code gives it and read back, is the same: it has at most one value
+answer-back : (o : Opening) (L : Ledger) (a : Ask) → answerIn (answerOf (ledger.answer o L a)) ≡ ledger.answer o L a
+unfolding ledger.answer answerIn answerOf
+answer-back o L (call c) = go (ledger.accepted o L c)
+  where
+    go : (t : Bool) → answerIn (answerOf (cond t ledger.done (ledger.refused (refusal o L c)))) ≡ cond t ledger.done (ledger.refused (refusal o L c))
+    go true = refl
+    go false = refl
+answer-back o L (query q) = go (eqb (queryRefusal o L q) 0)
+  where
+    go : (t : Bool) → answerIn (answerOf (cond t (ledger.value (ledger.figure o L q)) (ledger.refused (queryRefusal o L q)))) ≡ cond t (ledger.value (ledger.figure o L q)) (ledger.refused (queryRefusal o L q))
+    go true = refl
+    go false = refl
 
 module _ (o : Opening) (e : legal o ≡ true) where
   -- what one call, and one query, is answered
   pub call-answered : (cs : List Call) (c : Call) → answerIn (handed (bookAt o e cs) c .answer) ≡ ledger.answer o (after o cs) (call c)
-  call-answered cs c = ap answerIn (at-answer o e cs c) ∙ answer-back (ledger.answer o (after o cs) (call c))
+  call-answered cs c = ap answerIn (at-answer o e cs c) ∙ answer-back o (after o cs) (call c)
 
   pub query-answered : (cs : List Call) (q : Query) → answerIn (told (bookAt o e cs) q) ≡ ledger.answer o (after o cs) (query q)
-  query-answered cs q = ap answerIn (at-told o e cs q) ∙ answer-back (ledger.answer o (after o cs) (query q))
+  query-answered cs q = ap answerIn (at-told o e cs q) ∙ answer-back o (after o cs) (query q)
 
   pub answers-from : (cs : List Call) (asks : List Ask) → map answerIn (answersOf (bookAt o e cs) asks) ≡ answers o (after o cs) asks
   unfolding answersOf answers stepAsk

@@ -7,7 +7,7 @@ use migrate::migrate::migrate;
 use postings::carry::carry;
 use postings::load::load;
 use postings::prior::prior;
-use postings::verify::verify;
+use postings::verify::verify_and_file;
 ghost use mathlib.Core.Path.{_≡_};
 ghost use Rattle.ledger.specs.Call.{carry, prior, verify};
 ghost use Rattle.book.specs.Handed.{handed, handedBlocks, handedLines};
@@ -90,7 +90,7 @@ impl Book {
         let mut figures = self.figures;
         let mut posted = self.posted;
         let filed = self.evidence;
-        let outcome = verify(
+        let outcome = verify_and_file(
             &opening,
             &mut figures,
             &mut posted,

@@ -1,7 +1,10 @@
 -- What a head of each kind asks. Assumes nothing.
+use Prim.Native.Nat.{ℕ}
 use mathlib.Core.Path.{_≡_, sym, ap, _∙_}
-use mathlib.Core.List.{List}
+use mathlib.Core.Bool.{Bool}
+use mathlib.Core.List.{List, map}
 use borrow.Author.Tests.{ne-eqb}
+use Rattle.tariff.specs.declared.evidence.Entry.{Entry}
 use Rattle.ledger.specs.Numbers.{unreadable}
 use Rattle.ledger.specs.Call.{Call, load, carry, prior, verify, migrate, openTier, nominate, award, closeTier, Query, limitOf, heldOn, netOn}
 use Rattle.ledger.specs.Season.{call, query}
@@ -9,14 +12,12 @@ use Rattle.book.specs.declared.book.Book.{Book}
 use Rattle.records.specs.declared.answers.Answer.{Answer}
 use Rattle.records.specs.declared.answers.Answer.the-variants.{Refused}
 use Rattle.book.specs.declared.book.Answered.{Answered}
+use Rattle.book.specs.Reading.{bookIn}
 use Rattle.book.specs.Handed.{refusedWith, handed, told}
 use Rattle.lines.specs.declared.rows.Row.{Row}
 use Rattle.lines.specs.Rows.{loadLine, blockLine, carryLine, priorLine, verifyLine, migrateLine, classLine, openLine, nominateLine, awardLine, closeLine, limitLine, heldLine, netLine, field, counted}
 use Rattle.groups.specs.Groups.{blockOf, classLineOf, Asked, nothing, asked, lookUp, whole, asksOf}
-use Rattle.groups.specs.Heads.{NoCall}
-use Rattle.groups.specs.Told.{answeredTo}
-use Rattle.groups.specs.Told.{Answers}
-use mathlib.Core.List.{map}
+use Rattle.groups.specs.Outcome.{answeredTo, Answers}
 
 module _ (r : Row) (lines : List Row) where
   pub load-asks : r .kind ≡ loadLine → asksOf r lines ≡ whole (counted blockLine (field 5 r) lines) (call (load (field 0 r) (field 1 r) (field 2 r) (field 3 r) (field 4 r) (map blockOf lines)))
@@ -68,21 +69,21 @@ module _ (r : Row) (lines : List Row) where
   net-asks e = rw e
 
   -- any other line asks nothing
-  pub no-head : NoCall (r .kind) → (r .kind ≡ limitLine → ⊥) → (r .kind ≡ heldLine → ⊥) → (r .kind ≡ netLine → ⊥) → asksOf r lines ≡ nothing
+  pub no-head : (r .kind ≡ loadLine → ⊥) → (r .kind ≡ carryLine → ⊥) → (r .kind ≡ priorLine → ⊥) → (r .kind ≡ verifyLine → ⊥) → (r .kind ≡ migrateLine → ⊥) → (r .kind ≡ openLine → ⊥) → (r .kind ≡ nominateLine → ⊥) → (r .kind ≡ awardLine → ⊥) → (r .kind ≡ closeLine → ⊥) → (r .kind ≡ limitLine → ⊥) → (r .kind ≡ heldLine → ⊥) → (r .kind ≡ netLine → ⊥) → asksOf r lines ≡ nothing
   unfolding asksOf lookUp
-  no-head n l h t =
-      rw (ne-eqb (r .kind) loadLine (n .inOneRow .noLoad))
-      (rw (ne-eqb (r .kind) carryLine (n .noCarry))
-      (rw (ne-eqb (r .kind) priorLine (n .noPrior))
-      (rw (ne-eqb (r .kind) verifyLine (n .inOneRow .noVerify))
-      (rw (ne-eqb (r .kind) migrateLine (n .inOneRow .noMigrate))
-      (rw (ne-eqb (r .kind) openLine (n .noOpen))
-      (rw (ne-eqb (r .kind) nominateLine (n .noNominate))
-      (rw (ne-eqb (r .kind) awardLine (n .noAward))
-      (rw (ne-eqb (r .kind) closeLine (n .noClose))
-      (rw (ne-eqb (r .kind) limitLine l)
-      (rw (ne-eqb (r .kind) heldLine h)
-      (rw (ne-eqb (r .kind) netLine t))))))))))))
+  no-head l1 l2 l3 l4 l5 l6 l7 l8 l9 l10 l11 l12 =
+      rw (ne-eqb (r .kind) loadLine l1)
+      (rw (ne-eqb (r .kind) carryLine l2)
+      (rw (ne-eqb (r .kind) priorLine l3)
+      (rw (ne-eqb (r .kind) verifyLine l4)
+      (rw (ne-eqb (r .kind) migrateLine l5)
+      (rw (ne-eqb (r .kind) openLine l6)
+      (rw (ne-eqb (r .kind) nominateLine l7)
+      (rw (ne-eqb (r .kind) awardLine l8)
+      (rw (ne-eqb (r .kind) closeLine l9)
+      (rw (ne-eqb (r .kind) limitLine l10)
+      (rw (ne-eqb (r .kind) heldLine l11)
+      (rw (ne-eqb (r .kind) netLine l12))))))))))))
 
 module _ (b : Book) (g : Asked) where
   -- an asked call hands back what the book's contract says, an asked query answers and keeps the book
@@ -97,3 +98,8 @@ module _ (b : Book) (g : Asked) where
   pub by-nothing : g ≡ nothing → Answers b g (Refused unreadable) b
   unfolding answeredTo refusedWith
   by-nothing p = sym (ap (answeredTo b) p)
+
+-- the evidence, which is not lent, is that of the book that a group leads to
+pub beside-evidence : (b : Book) (g : Asked) (a : Answer) (o f : List ℕ) (m : List Bool) (x : List Entry) → Answers b g a (bookIn o f m x) → Answers b g a (bookIn o f m (answeredTo b g .book .evidence))
+unfolding bookIn
+beside-evidence b g a o f m x e = (λ i. record { answer = a; book = record { opening = o; figures = f; posted = m; evidence = sym e i .book .evidence } }) ∙ e

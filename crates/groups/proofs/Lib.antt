@@ -1,5 +1,6 @@
 pub mod RowLists
 pub mod GroupLaws
 pub mod HeadLaws
-pub mod ToldLaws
-pub mod StartedLaws
+pub mod OutcomeLaws
+pub mod CutLists
+pub mod BookGroupLaws

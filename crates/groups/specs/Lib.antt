@@ -1,6 +1,4 @@
 -- Groups of rows: what they ask of a book, and what it answers to one.
 pub mod Groups
-pub mod Heads
-pub mod Columns
-pub mod Told
-pub mod Started
+pub mod Outcome
+pub mod BookGroup

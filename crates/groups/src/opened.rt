@@ -1,4 +1,5 @@
 // The book group that a script begins with (01, Script and host).
+use lines::book_lines::BookLists;
 use lines::book_lines::read_book_lines;
 use lines::lines::next_row;
 use lines::rows::BOOK;
@@ -6,59 +7,63 @@ use lines::rows::Row;
 use opening::opening::open;
 use records::answers::Answer;
 use records::numbers::UNREADABLE;
-ghost use Prim.Native.Nat.{_≤_};
+use tariff::sizes::MAX_PLACES;
+ghost use Prim.Native.Nat.{min};
 ghost use mathlib.Core.Path.{_≡_};
-ghost use lib.ListN.{length, take};
-ghost use Rattle.records.specs.Opening.{openingArray, openingFrom, openingCount};
+ghost use lib.ListN.{length};
+ghost use Rattle.tariff.specs.Sizes.{maxPlaces};
+ghost use Rattle.records.specs.Opening.{openingArray, openingCount};
 ghost use Rattle.opening.specs.Opened.{openedAnswer, openedOpening};
-ghost use Rattle.lines.specs.Rows.{rowsOf, field};
-ghost use Rattle.groups.specs.Columns.{Columns};
-ghost use Rattle.groups.specs.Started.{isDone, startedOf, openingAfter};
-ghost use Rattle.lines.specs.Text.{maxLines};
+ghost use Rattle.groups.specs.BookGroup.{isDone, FullLists, openingKept, bookGroupOf, openingAfter};
 
-// What the book group comes to: its answer, how many bytes it takes, and whether the run goes on.
-pub struct Started {
+// What the book group comes to: its answer, how many bytes it takes, and whether a book is open.
+pub struct BookGroup {
     pub answer: Answer,
-    pub used: usize,
-    pub goes_on: bool,
+    pub consumed: usize,
+    pub is_open: bool,
 }
 
-// Opens the book of a head, in a lent array, from the arrays that keep its lines.
-fn open_read(
-    o: &mut [u64],
-    head: Row,
-    a: &[u64],
-    b: &[u64],
-    c: &[u64],
-    d: &[u64],
-    e: &[u64],
-) -> Answer
+// How much of a list is lent: as much as is counted, at most 16.
+fn lent_length(count: u64) -> usize
+    ensures { λ r. ⌜ r ≡ min count maxPlaces ⌝ }
+{
+    if count < MAX_PLACES as u64 {
+        return count as usize;
+    }
+    MAX_PLACES
+}
+
+// Opens the book of a head, in a lent array, from the lists of its lines. Where a count is above 16 a list is cut, and the count alone breaks the rules.
+fn open_read(o: &mut [u64], head: Row, lists: BookLists) -> Answer
     requires opening { ⌜ length (now o) ≡ openingCount ⌝ }
-    requires holders { ⌜ field 0 head ≤ length (now a) ⌝ }
-    requires sinks { ⌜ (field 2 head ≤ length (now b)) × (field 2 head ≤ length (now c)) ⌝ }
-    requires paths { ⌜ (field 3 head ≤ length (now d)) × (field 3 head ≤ length (now e)) ⌝ }
-    ensures answer { λ r. ⌜ r ≡ openedAnswer (openingFrom (field 0 head) (field 1 head) (field 2 head) (field 3 head) (take (field 0 head) (now (a .entry))) (take (field 2 head) (now (b .entry))) (take (field 2 head) (now (c .entry))) (take (field 3 head) (now (d .entry))) (take (field 3 head) (now (e .entry)))) ⌝ }
-    ensures opening { λ _. ⌜ now (o .exit) ≡ openingArray (openedOpening (openingFrom (field 0 head) (field 1 head) (field 2 head) (field 3 head) (take (field 0 head) (now (a .entry))) (take (field 2 head) (now (b .entry))) (take (field 2 head) (now (c .entry))) (take (field 3 head) (now (d .entry))) (take (field 3 head) (now (e .entry))))) ⌝ }
+    requires lists { ⌜ FullLists lists ⌝ }
+    ensures answer { λ r. ⌜ r ≡ openedAnswer (openingKept head lists) ⌝ }
+    ensures opening { λ _. ⌜ now (o .exit) ≡ openingArray (openedOpening (openingKept head lists)) ⌝ }
 {
     let fields = head.fields;
-    let holders = fields[0] as usize;
-    let sinks = fields[2] as usize;
-    let paths = fields[3] as usize;
+    let holders = lent_length(fields[0]);
+    let sinks = lent_length(fields[2]);
+    let paths = lent_length(fields[3]);
+    let holder_kinds = lists.holder_kinds;
+    let sink_kinds = lists.sink_kinds;
+    let sink_parents = lists.sink_parents;
+    let path_sources = lists.path_sources;
+    let path_sinks = lists.path_sinks;
     open(
         o,
         fields[0],
         fields[1],
         fields[2],
         fields[3],
-        &a[..holders],
-        &b[..sinks],
-        &c[..sinks],
-        &d[..paths],
-        &e[..paths],
+        &holder_kinds[..holders],
+        &sink_kinds[..sinks],
+        &sink_parents[..sinks],
+        &path_sources[..paths],
+        &path_sinks[..paths],
     )
 }
 
-// Only a group that is done is gone on from.
+// Only a group that is done leaves an open book.
 fn is_done(answer: Answer) -> bool
     ensures { λ r. ⌜ r ≡ isDone answer ⌝ }
 {
@@ -69,39 +74,28 @@ fn is_done(answer: Answer) -> bool
 }
 
 // Reads the book group at the start of a script and opens its book in a lent array.
-pub fn start(
-    script: &[u8],
-    o: &mut [u64],
-    a: &mut [u64],
-    b: &mut [u64],
-    c: &mut [u64],
-    d: &mut [u64],
-    e: &mut [u64],
-) -> Started
-    requires few { ⌜ length (rowsOf (now script)) ≤ maxLines ⌝ }
-    requires opening { ⌜ length (now o) ≡ openingCount ⌝ }
-    requires columns { ⌜ Columns (now a) (now b) (now c) (now d) (now e) ⌝ }
-    ensures started { λ r. ⌜ r ≡ startedOf (now (script .entry)) ⌝ }
+pub fn open_from_script(script: &[u8], o: &mut [u64]) -> BookGroup
+    requires { ⌜ length (now o) ≡ openingCount ⌝ }
+    ensures group { λ r. ⌜ r ≡ bookGroupOf (now (script .entry)) ⌝ }
     ensures opening { λ _. ⌜ now (o .exit) ≡ openingAfter (now (script .entry)) (now (o .entry)) ⌝ }
-    ensures columns { λ _. ⌜ Columns (now (a .exit)) (now (b .exit)) (now (c .exit)) (now (d .exit)) (now (e .exit)) ⌝ }
 {
     let first = next_row(script);
     let head = first.row;
     let at_lines = first.used;
-    let lines = read_book_lines(&script[at_lines..], head, a, b, c, d, e);
-    let used = at_lines + lines.used;
-    if lines.whole & (head.kind == BOOK) {
-        let answer = open_read(o, head, a, b, c, d, e);
-        let goes_on = is_done(answer);
-        return Started {
+    let lists = read_book_lines(&script[at_lines..], head);
+    let consumed = at_lines + lists.consumed;
+    if lists.complete & (head.kind == BOOK) {
+        let answer = open_read(o, head, lists);
+        let is_open = is_done(answer);
+        return BookGroup {
             answer,
-            used,
-            goes_on,
+            consumed,
+            is_open,
         };
     }
-    Started {
+    BookGroup {
         answer: Answer::Refused(UNREADABLE),
-        used,
-        goes_on: false,
+        consumed,
+        is_open: false,
     }
 }

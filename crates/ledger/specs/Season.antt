@@ -41,11 +41,17 @@ figure o L (limitOf h s) = tierLimit o L (L .tiers .openNow) h (base o s)
 figure o L (heldOn h p m) = held L h p m
 figure o L (netOn p m) = net o L p m
 
--- an answer: done, done with a figure, or refused with a number
+-- an answer: accepted, with a list of values, or refused with a number
 pub data Answer : Type 0 where
-  done : Answer
-  value : ℕ → Answer
+  values : List ℕ → Answer
   refused : ℕ → Answer
+
+-- an accepted call has no values, an accepted query one
+abbrev pub done : Answer
+done = values []
+
+abbrev pub value : ℕ → Answer
+value v = values (v ∷ [])
 
 -- whoever writes a script asks calls and queries in any order
 pub data Ask : Type 0 where

@@ -1,66 +1,40 @@
 -- The lines of the book group, read one kind after another. Assumes nothing.
 use Prim.Native.Nat.{ℕ, _+_, _-_, _≤_}
-use mathlib.Core.Path.{_≡_, sym, ap, _∙_, subst}
+use mathlib.Core.Path.{_≡_, refl, sym, ap, _∙_}
 use mathlib.Core.Bool.{_&&_}
-use mathlib.Core.List.{List, map}
+use mathlib.Core.List.{List}
 use native.Mathlib.Nat.{le-trans, le-of-eq}
-use native.Mathlib.Omega.{arith}
-use lib.ListN.{length, take, drop, getD, length-drop, length-map}
-use lib.Seq.{take-all}
+use lib.ListN.{length, take, drop, getD}
 use Rattle.lines.specs.declared.rows.Row.{Row}
-use Rattle.lines.specs.declared.counted.Counted.{Counted}
+use Rattle.lines.specs.declared.book_lines.Pairs.{Pairs}
+use Rattle.lines.specs.declared.book_lines.BookLists.{BookLists}
 use Rattle.lines.specs.Rows.{rowsOf, holderLine, sinkLine, pathLine, field, counted, holderRows, sinkRows, pathRows}
-use Rattle.lines.specs.Counted.{bytesOfLines, rowsCounted, countedOf, withField}
-use Rattle.lines.specs.BookLines.{keeps, bookLinesWhole, bookLinesOf}
-use Rattle.lines.proofs.KeptFields.{fields-kept}
-use Rattle.lines.proofs.LineBytes.{bytes-add, bytes-within, rows-after}
-use Rattle.lines.specs.Text.{maxLines}
+use Rattle.lines.specs.Counted.{bytesOfLines, rowsCounted}
+use Rattle.lines.specs.BookLines.{firstFields, pairsOf, bookLinesComplete, bookListsOf}
+use Rattle.lines.proofs.LineBytes.{bytes-add, bytes-within}
+use Rattle.lines.proofs.PairLaws.{rest-all, rest-rows}
 
--- an array that a field of each row was stored in has them in front
-in-front : (j : ℕ) (rows : List Row) (numbers old : List ℕ) → numbers ≡ withField j rows old → keeps (map (field j) rows) numbers
-unfolding keeps
-in-front j rows numbers old e = ap (take (length (map (field j) rows))) e ∙ fields-kept j (length (map (field j) rows)) rows old (sym (length-map rows (field j)))
+-- what pairs are, from the rows that they are read from
+module _ (kind n : ℕ) (s : List ℕ) (rows : List Row) (these : rowsOf s ≡ rows) where
+  pub complete-is : (x : Pairs) → x ≡ pairsOf kind n s → x .complete ≡ counted kind n (take n rows)
+  unfolding pairsOf rowsCounted
+  complete-is x e = ap (λ y. y .complete) e ∙ ap (λ r. counted kind n (take n r)) these
 
--- lines read from the first byte on
-module _ (s : List ℕ) (kind n : ℕ) where
-  pub first-used : (x : Counted) → x ≡ countedOf kind n s → x .used ≡ bytesOfLines n s
-  unfolding countedOf
-  first-used x e = ap (λ y. y .used) e
+  pub firsts-are : (x : Pairs) → x ≡ pairsOf kind n s → x .firsts ≡ firstFields 0 (take n rows)
+  unfolding pairsOf rowsCounted
+  firsts-are x e = ap (λ y. y .firsts) e ∙ ap (λ r. firstFields 0 (take n r)) these
 
-  pub first-whole : (x : Counted) → x ≡ countedOf kind n s → x .whole ≡ counted kind n (take n (rowsOf s))
-  unfolding countedOf rowsCounted
-  first-whole x e = ap (λ y. y .whole) e
+  pub seconds-are : (x : Pairs) → x ≡ pairsOf kind n s → x .seconds ≡ firstFields 1 (take n rows)
+  unfolding pairsOf rowsCounted
+  seconds-are x e = ap (λ y. y .seconds) e ∙ ap (λ r. firstFields 1 (take n r)) these
 
-  pub first-kept : (j : ℕ) (numbers old : List ℕ) → numbers ≡ withField j (rowsCounted n s) old → keeps (map (field j) (take n (rowsOf s))) numbers
-  unfolding rowsCounted
-  first-kept j numbers old e = in-front j (take n (rowsOf s)) numbers old e
+pub consumed-is : (kind n : ℕ) (s : List ℕ) (x : Pairs) → x ≡ pairsOf kind n s → x .consumed ≡ bytesOfLines n s
+unfolding pairsOf
+consumed-is kind n s x e = ap (λ y. y .consumed) e
 
--- lines read after the first n, from the part of the bytes that begins there
-module _ (s : List ℕ) (n u : ℕ) (here : u ≡ bytesOfLines n s) where
-  abbrev rest : List ℕ
-  rest = take (length s - u) (drop u s)
-
-  pub here-within : u ≤ length s
-  here-within = le-trans (le-of-eq here) (bytes-within n s)
-
-  pub rest-all : rest ≡ drop (bytesOfLines n s) s
-  rest-all = take-all (length s - u) (drop u s) (let len = length-drop u s in omega arith) ∙ ap (λ v. drop v s) here
-
-  pub rest-rows : rowsOf rest ≡ drop n (rowsOf s)
-  rest-rows = ap rowsOf rest-all ∙ rows-after n s
-
-  pub rest-few : length (rowsOf s) ≤ maxLines → length (rowsOf rest) ≤ maxLines
-  rest-few few = let same = ap length rest-rows in let len = length-drop n (rowsOf s) in omega arith
-
-  module _ (kind m : ℕ) where
-    pub next-used : (x : Counted) → x ≡ countedOf kind m rest → u + x .used ≡ bytesOfLines (n + m) s
-    next-used x e = (λ i. here i + (first-used rest kind m x e ∙ ap (bytesOfLines m) rest-all) i) ∙ sym (bytes-add n m s)
-
-    pub next-whole : (x : Counted) → x ≡ countedOf kind m rest → x .whole ≡ counted kind m (take m (drop n (rowsOf s)))
-    next-whole x e = first-whole rest kind m x e ∙ ap (λ rows. counted kind m (take m rows)) rest-rows
-
-    pub next-kept : (j : ℕ) (numbers old : List ℕ) → numbers ≡ withField j (rowsCounted m rest) old → keeps (map (field j) (take m (drop n (rowsOf s)))) numbers
-    next-kept j numbers old e = subst (λ rows. keeps (map (field j) (take m rows)) numbers) rest-rows (first-kept rest kind m j numbers old e)
+-- the bytes of lines that are read after the first n
+after : (s : List ℕ) (n u : ℕ) → u ≡ bytesOfLines n s → (kind m : ℕ) (x : Pairs) → x ≡ pairsOf kind m (take (length s - u) (drop u s)) → u + x .consumed ≡ bytesOfLines (n + m) s
+after s n u here kind m x e = (λ i. here i + (consumed-is kind m (take (length s - u) (drop u s)) x e ∙ ap (bytesOfLines m) (rest-all s n u here)) i) ∙ sym (bytes-add n m s)
 
 -- the three kinds together
 module _ (s : List ℕ) (head : Row) where
@@ -73,32 +47,36 @@ module _ (s : List ℕ) (head : Row) where
   abbrev n3 : ℕ
   n3 = getD (head .fields) 3 0
 
-  module _ (x y z : Counted) (readX : x ≡ countedOf holderLine n0 s) (readY : y ≡ countedOf sinkLine n2 (take (length s - x .used) (drop (x .used) s))) where
-    pub at-sinks : x .used ≡ bytesOfLines n0 s
-    at-sinks = first-used s holderLine n0 x readX
+  module _ (x y : Pairs) (readX : x ≡ pairsOf holderLine n0 s) (readY : y ≡ pairsOf sinkLine n2 (take (length s - x .consumed) (drop (x .consumed) s))) where
+    pub at-sinks : x .consumed ≡ bytesOfLines n0 s
+    at-sinks = consumed-is holderLine n0 s x readX
 
-    pub at-paths : x .used + y .used ≡ bytesOfLines (n0 + n2) s
-    at-paths = next-used s n0 (x .used) at-sinks sinkLine n2 y readY
+    pub at-paths : x .consumed + y .consumed ≡ bytesOfLines (n0 + n2) s
+    at-paths = after s n0 (x .consumed) at-sinks sinkLine n2 y readY
 
-    pub holders-kept : (numbers old : List ℕ) → numbers ≡ withField 0 (rowsCounted n0 s) old → keeps (map (field 0) (holderRows head (rowsOf s))) numbers
-    unfolding holderRows field
-    holders-kept numbers old e = first-kept s holderLine n0 0 numbers old e
+    module _ (z : Pairs) (readZ : z ≡ pairsOf pathLine n3 (take (length s - (x .consumed + y .consumed)) (drop (x .consumed + y .consumed) s))) where
+      at-end : x .consumed + y .consumed + z .consumed ≡ bytesOfLines (n0 + n2 + n3) s
+      at-end = after s (n0 + n2) (x .consumed + y .consumed) at-paths pathLine n3 z readZ
 
-    pub sinks-kept : (j : ℕ) (numbers old : List ℕ) → numbers ≡ withField j (rowsCounted n2 (take (length s - x .used) (drop (x .used) s))) old → keeps (map (field j) (sinkRows head (rowsOf s))) numbers
-    unfolding sinkRows field
-    sinks-kept j numbers old e = next-kept s n0 (x .used) at-sinks sinkLine n2 j numbers old e
-
-    module _ (readZ : z ≡ countedOf pathLine n3 (take (length s - (x .used + y .used)) (drop (x .used + y .used) s))) where
-      pub at-end : x .used + y .used + z .used ≡ bytesOfLines (n0 + n2 + n3) s
-      at-end = next-used s (n0 + n2) (x .used + y .used) at-paths pathLine n3 z readZ
-
-      pub end-within : x .used + y .used + z .used ≤ length s
+      pub end-within : x .consumed + y .consumed + z .consumed ≤ length s
       end-within = le-trans (le-of-eq at-end) (bytes-within (n0 + n2 + n3) s)
 
-      pub paths-kept : (j : ℕ) (numbers old : List ℕ) → numbers ≡ withField j (rowsCounted n3 (take (length s - (x .used + y .used)) (drop (x .used + y .used) s))) old → keeps (map (field j) (pathRows head (rowsOf s))) numbers
-      unfolding pathRows field
-      paths-kept j numbers old e = next-kept s (n0 + n2) (x .used + y .used) at-paths pathLine n3 j numbers old e
+      sinks-here : rowsOf (take (length s - x .consumed) (drop (x .consumed) s)) ≡ drop n0 (rowsOf s)
+      sinks-here = rest-rows s n0 (x .consumed) at-sinks
 
-      pub lines-read : _≡_ {A = Counted} (record { whole = x .whole && y .whole && z .whole; used = x .used + y .used + z .used }) (bookLinesOf head s)
-      unfolding bookLinesOf bookLinesWhole holderRows sinkRows pathRows field
-      lines-read = λ i. record { whole = first-whole s holderLine n0 x readX i && next-whole s n0 (x .used) at-sinks sinkLine n2 y readY i && next-whole s (n0 + n2) (x .used + y .used) at-paths pathLine n3 z readZ i; used = at-end i }
+      paths-here : rowsOf (take (length s - (x .consumed + y .consumed)) (drop (x .consumed + y .consumed) s)) ≡ drop (n0 + n2) (rowsOf s)
+      paths-here = rest-rows s (n0 + n2) (x .consumed + y .consumed) at-paths
+
+      pub lists-read : _≡_ {A = BookLists} (record { complete = x .complete && y .complete && z .complete; consumed = x .consumed + y .consumed + z .consumed; «holder_kinds» = x .firsts; «sink_kinds» = y .firsts; «sink_parents» = y .seconds; «path_sources» = z .firsts; «path_sinks» = z .seconds }) (bookListsOf head s)
+      unfolding bookListsOf bookLinesComplete holderRows sinkRows pathRows field
+      lists-read =
+          λ i.
+          record {
+            complete = complete-is holderLine n0 s (rowsOf s) refl x readX i && complete-is sinkLine n2 _ _ sinks-here y readY i && complete-is pathLine n3 _ _ paths-here z readZ i;
+            consumed = at-end i;
+            «holder_kinds» = firsts-are holderLine n0 s (rowsOf s) refl x readX i;
+            «sink_kinds» = firsts-are sinkLine n2 _ _ sinks-here y readY i;
+            «sink_parents» = seconds-are sinkLine n2 _ _ sinks-here y readY i;
+            «path_sources» = firsts-are pathLine n3 _ _ paths-here z readZ i;
+            «path_sinks» = seconds-are pathLine n3 _ _ paths-here z readZ i;
+          }

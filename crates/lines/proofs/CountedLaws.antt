@@ -3,10 +3,10 @@ use Prim.Native.Nat.{ℕ, zero, suc, _+_, _-_, _≤_, _<_, zero-le}
 use mathlib.Core.Path.{_≡_, refl, sym, ap, _∙_, subst}
 use native.Mathlib.Nat.{le-trans, le-of-eq}
 use mathlib.Core.Bool.{Bool, true, false, _&&_}
-use mathlib.Core.List.{List, [], _∷_, _++_, map}
+use mathlib.Core.List.{List, [], _∷_, _++_}
 use native.Mathlib.Numerals.{add-one}
 use native.Mathlib.Omega.{arith}
-use lib.ListN.{length, take, drop, set, getD, length-append, length-map, length-drop, drop-of-length-le}
+use lib.ListN.{length, take, drop, length-take, length-drop, drop-of-length-le}
 use lib.Seq.{drop-drop, length-take-le, take-all}
 use lib.Dec.{eqb}
 use borrow.Author.Tests.{eq-eqb, ne-eqb}
@@ -14,12 +14,13 @@ use Rattle.tariff.proofs.Tests.{and-left-false}
 use Rattle.lines.specs.declared.rows.Row.{Row}
 use Rattle.lines.specs.declared.counted.Counted.{Counted}
 use Rattle.lines.specs.declared.lines.NextRow.{NextRow}
-use Rattle.lines.specs.Text.{linesOf, maxLines}
-use Rattle.lines.specs.Rows.{rowsOf, field, allOfKind, counted}
+use Rattle.lines.specs.Text.{linesOf}
+use Rattle.lines.specs.Rows.{rowsOf, allOfKind, counted}
 use Rattle.lines.specs.Reading.{firstBytes, nextRow}
-use Rattle.lines.specs.Counted.{bytesOfLines, rowsCounted, countedOf, withField}
+use Rattle.lines.specs.Counted.{bytesOfLines, rowsCounted, countedOf, columnLength, columnStores, roomWith}
 use Rattle.lines.proofs.RowSteps.{first-row, used-within}
-use Rattle.lines.proofs.KeptFields.{take-more, drop-more, in-list, kinds-more, field-more}
+use Rattle.lines.proofs.RoomLaws.{row-kept, room-long}
+use Rattle.lines.proofs.KeptFields.{take-more, drop-more, in-list, kinds-more}
 
 -- one line more takes the bytes of the line that comes next
 pub bytes-more : (k : ℕ) (s : List ℕ) → bytesOfLines (suc k) s ≡ bytesOfLines k s + nextRow (drop (bytesOfLines k s) s) .used
@@ -46,11 +47,6 @@ bytes-all (suc m) (suc n) s a b =
     let u = nextRow s .used in
     let left = length-drop u s in
     ap (λ t. u + t) (bytes-all m n (drop u s) (omega arith) (omega arith))
-
--- before any line is read an array is as it was
-pub none-kept : (j : ℕ) (numbers : List ℕ) → numbers ≡ withField j [] numbers
-unfolding withField
-none-kept j numbers = refl
 
 -- what is known when k lines have been read
 pub record SoFar (s : List ℕ) (kind count k used : ℕ) (whole : Bool) : Type 0 where
@@ -83,6 +79,11 @@ module _ (s : List ℕ) (kind count k used : ℕ) (whole : Bool) (f : SoFar s ki
     pub row-below : k < length (rowsOf s)
     row-below = in-list k (rowsOf s) next (rowsOf (drop (nextRow rest .used) rest)) here
 
+    -- a line that is counted finds room in columns that have it for all of these
+    pub line-fits : (n : ℕ) → length (rowsCounted count s) ≤ n → k < count → k < n
+    unfolding rowsCounted
+    line-fits n fits l = let all = length-take count (rowsOf s) in let below = row-below in omega arith
+
     pub next-within : used + nextRow rest .used ≤ length s
     next-within = let u = used-within rest in let len = length-drop used s in omega arith
 
@@ -100,16 +101,6 @@ module _ (s : List ℕ) (kind count k used : ℕ) (whole : Bool) (f : SoFar s ki
           kinds = (λ i. f .kinds i && eqb (next .kind) kind) ∙ sym (kinds-more kind (take k (rowsOf s)) next) ∙ ap (allOfKind kind) (sym one-more) ∙ ap (λ n. allOfKind kind (take n (rowsOf s))) (sym (add-one k));
         }
 
-    -- a turn stores the row's field behind those before it
-    pub stored : (j : ℕ) (numbers old : List ℕ) → length numbers ≡ maxLines → length (rowsOf s) ≤ maxLines → old ≡ withField j (take k (rowsOf s)) numbers → set old k (field j next) ≡ withField j (take (k + 1) (rowsOf s)) numbers
-    stored j numbers old len few e =
-        let many = length-take-le k (rowsOf s) (f .inRows) in
-        let below = row-below in
-        (λ i. set (e i) (sym many i) (field j next))
-        ∙ field-more j (take k (rowsOf s)) next numbers (omega arith)
-        ∙ ap (λ rows. withField j rows numbers) (sym one-more)
-        ∙ ap (λ n. withField j (take n (rowsOf s)) numbers) (sym (add-one k))
-
     -- the same of a row that was read there, from the part of the bytes that begins there
     module _ (x : NextRow) (read : x ≡ nextRow (take (length s - used) rest)) where
       e : x ≡ nextRow rest
@@ -118,25 +109,29 @@ module _ (s : List ℕ) (kind count k used : ℕ) (whole : Bool) (f : SoFar s ki
       pub turn : k < count → SoFar s kind count (k + 1) (used + x .used) (whole && eqb (x .row .kind) kind)
       turn l = subst (λ y. SoFar s kind count (k + 1) (used + y .used) (whole && eqb (y .row .kind) kind)) (sym e) (read-more l)
 
-      pub turn-stored : (j : ℕ) (numbers old : List ℕ) → length numbers ≡ maxLines → length (rowsOf s) ≤ maxLines → old ≡ withField j (take k (rowsOf s)) numbers → set old k (getD (x .row .fields) j 0) ≡ withField j (take (k + 1) (rowsOf s)) numbers
-      unfolding field
-      turn-stored j numbers old len few p = ap (λ y. set old k (field j (y .row))) e ∙ stored j numbers old len few p
+      -- and its fields are kept behind those before it
+      pub turn-kept : (room old new : List ℕ) → length (rowsCounted count s) ≤ columnLength room → k < count → old ≡ roomWith (take k (rowsOf s)) room → new ≡ columnStores (columnLength room) k (x .row) old → new ≡ roomWith (take (k + 1) (rowsOf s)) room
+      turn-kept room old new fits l kept stored =
+          let many = length-take-le k (rowsOf s) (f .inRows) in
+          let below = line-fits (columnLength room) fits l in
+          stored
+          ∙ (λ i. columnStores (columnLength room) (sym many i) (e i .row) (kept i))
+          ∙ row-kept (take k (rowsOf s)) next room (omega arith)
+          ∙ ap (λ rows. roomWith rows room) (sym one-more)
+          ∙ ap (λ n. roomWith (take n (rowsOf s)) room) (sym (add-one k))
 
       pub turn-within : used + x .used ≤ length s
       turn-within = le-trans (le-of-eq (ap (λ y. used + y .used) e)) next-within
 
-  -- an array keeps its length
-  pub kept-length : (j : ℕ) (numbers old : List ℕ) → length numbers ≡ maxLines → length (rowsOf s) ≤ maxLines → old ≡ withField j (take k (rowsOf s)) numbers → length old ≡ length numbers
-  unfolding withField
-  kept-length j numbers old len few e =
-      let rows = take k (rowsOf s) in
-      let many = length-take-le k (rowsOf s) (f .inRows) in
-      let whole-length = ap length e in
-      let parts = length-append (map (field j) rows) (drop (length rows) numbers) in
-      let front = length-map rows (field j) in
-      let back = length-drop (length rows) numbers in
+  -- the room keeps its length
+  pub room-length : (room old : List ℕ) → length (rowsCounted count s) ≤ columnLength room → old ≡ roomWith (take k (rowsOf s)) room → length old ≡ length room
+  unfolding rowsCounted
+  room-length room old fits kept =
+      let all = length-take count (rowsOf s) in
+      let some = length-take-le k (rowsOf s) (f .inRows) in
+      let up = f .upTo in
       let below = f .inRows in
-      omega arith
+      ap length kept ∙ room-long (take k (rowsOf s)) room (omega arith)
 
   -- where the bytes run out the lines that are left are all there are
   module _ (none : length s ≤ used) (short : k < count) where
@@ -158,9 +153,9 @@ module _ (s : List ℕ) (kind count k used : ℕ) (whole : Bool) (f : SoFar s ki
         let all = ap length (take-all count (rowsOf s) (omega arith)) in
         λ i. record { whole = sym (and-left-false (allOfKind kind (take count (rowsOf s))) (ne-eqb (length (take count (rowsOf s))) count (λ e. omega (arith, e)))) i; used = (f .bytes ∙ bytes-all k count s (let same = f .bytes in omega arith) (omega arith)) i }
 
-    pub kept-all : (j : ℕ) (numbers old : List ℕ) → old ≡ withField j (take k (rowsOf s)) numbers → old ≡ withField j (rowsCounted count s) numbers
+    pub room-all : (room old : List ℕ) → old ≡ roomWith (take k (rowsOf s)) room → old ≡ roomWith (rowsCounted count s) room
     unfolding rowsCounted
-    kept-all j numbers old e = e ∙ ap (λ rows. withField j rows numbers) rows-same
+    room-all room old e = e ∙ ap (λ rows. roomWith rows room) rows-same
 
   -- where all are read
   module _ (done : count ≤ k) where
@@ -174,6 +169,6 @@ module _ (s : List ℕ) (kind count k used : ℕ) (whole : Bool) (f : SoFar s ki
         let many = length-take-le count (rowsOf s) (let few = f .inRows in omega arith) in
         λ i. record { whole = (f .kinds ∙ ap (λ n. allOfKind kind (take n (rowsOf s))) same ∙ sym (ap (λ t. t && allOfKind kind (take count (rowsOf s))) (eq-eqb (length (take count (rowsOf s))) count many))) i; used = (f .bytes ∙ ap (λ n. bytesOfLines n s) same) i }
 
-    pub kept-read : (j : ℕ) (numbers old : List ℕ) → old ≡ withField j (take k (rowsOf s)) numbers → old ≡ withField j (rowsCounted count s) numbers
+    pub room-read : (room old : List ℕ) → old ≡ roomWith (take k (rowsOf s)) room → old ≡ roomWith (rowsCounted count s) room
     unfolding rowsCounted
-    kept-read j numbers old e = e ∙ ap (λ n. withField j (take n (rowsOf s)) numbers) reached-count
+    room-read room old e = e ∙ ap (λ n. roomWith (take n (rowsOf s)) room) reached-count

@@ -39,19 +39,19 @@ place-left (suc n) rest l large =
     (omega arith, subst (λ k. rest / 10 < 10 ^ k) (omega arith) (tenth (suc n) rest (subst (λ k. rest < 10 ^ k) (add-one (suc n)) l)))
 
 -- one digit more stands in front of those that were found
-pub digit-found : (digits : List ℕ) (first rest d : ℕ) → 1 ≤ first → first < length digits → 10 ≤ rest → d ≡ digit (rest % 10) → digitsOf (9 + (first - 1)) (rest / 10) ++ drop (first - 1 + 1) (set digits first d) ≡ digitsOf (9 + first) rest ++ drop (first + 1) digits
+pub digit-found : (digits : List ℕ) (first rest d : ℕ) → 1 ≤ first → first < length digits → 10 ≤ rest → d ≡ digit (rest % 10) → digitsOf (first - 1 + 1) (rest / 10) ++ drop (first - 1 + 1) (set digits first d) ≡ digitsOf (first + 1) rest ++ drop (first + 1) digits
 digit-found digits first rest d low fits large e =
-    ap (λ n. digitsOf (9 + (first - 1)) (rest / 10) ++ drop n (set digits first d)) (let same : first - 1 + 1 ≡ first = omega arith in same)
-    ∙ ap (λ l. digitsOf (9 + (first - 1)) (rest / 10) ++ l) (from-stored digits first d fits ∙ ap (λ x. x ∷ drop (first + 1) digits) e)
-    ∙ sym (append-assoc (digitsOf (9 + (first - 1)) (rest / 10)) (digit (rest % 10) ∷ []) (drop (first + 1) digits))
-    ∙ ap (λ l. l ++ drop (first + 1) digits) (sym (last-digit (9 + (first - 1)) rest large) ∙ ap (λ n. digitsOf n rest) (let same : suc (9 + (first - 1)) ≡ 9 + first = omega arith in same))
+    ap (λ n. digitsOf n (rest / 10) ++ drop n (set digits first d)) (let same : first - 1 + 1 ≡ first = omega arith in same)
+    ∙ ap (λ l. digitsOf first (rest / 10) ++ l) (from-stored digits first d fits ∙ ap (λ x. x ∷ drop (first + 1) digits) e)
+    ∙ sym (append-assoc (digitsOf first (rest / 10)) (digit (rest % 10) ∷ []) (drop (first + 1) digits))
+    ∙ ap (λ l. l ++ drop (first + 1) digits) (sym (last-digit first rest large) ∙ ap (λ n. digitsOf n rest) (sym (add-one first)))
 
 -- the first digit stands in front of all
-pub first-found : (digits : List ℕ) (first rest d : ℕ) → first < length digits → rest < 10 → d ≡ digit rest → drop first (set digits first d) ≡ digitsOf (9 + first) rest ++ drop (first + 1) digits
+pub first-found : (digits : List ℕ) (first rest d : ℕ) → first < length digits → rest < 10 → d ≡ digit rest → drop first (set digits first d) ≡ digitsOf (first + 1) rest ++ drop (first + 1) digits
 first-found digits first rest d fits small e =
     from-stored digits first d fits
     ∙ ap (λ x. x ∷ drop (first + 1) digits) e
-    ∙ ap (λ l. l ++ drop (first + 1) digits) (sym (one-digit (8 + first) rest small) ∙ ap (λ n. digitsOf n rest) (let same : suc (8 + first) ≡ 9 + first = omega arith in same))
+    ∙ ap (λ l. l ++ drop (first + 1) digits) (sym (one-digit first rest small) ∙ ap (λ n. digitsOf n rest) (sym (add-one first)))
 
 -- a number below 10 ^ n has at most n digits
 pub digits-few : (most n v : ℕ) → v < 10 ^ suc n → length (digitsOf most v) ≤ suc n

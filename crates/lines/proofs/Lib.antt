@@ -7,7 +7,9 @@ pub mod NextRowLaws
 pub mod RowSteps
 pub mod LineBytes
 pub mod KeptFields
+pub mod RoomLaws
 pub mod CountedLaws
+pub mod PairLaws
 pub mod BookLines
 pub mod DigitLaws
 pub mod WritingLaws

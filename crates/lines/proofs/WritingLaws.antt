@@ -34,3 +34,12 @@ written-again out at xs ys fits =
         ∙ drop-append-add (take at out ++ xs) (drop (at + length xs) out) (length ys)
         ∙ drop-drop (length ys) (at + length xs) out
         ∙ ap (λ n. drop n out) (add-assoc at (length xs) (length ys) ∙ ap (λ n. at + n) (sym (length-append xs ys)))
+
+-- a text written where another one ends: both are one text
+pub written-both : (out first second xs ys : List ℕ) (at next end : ℕ) → at + length xs + length ys ≤ length out → (next ≡ at + length xs) × (first ≡ writtenAt out at xs) → (end ≡ next + length ys) × (second ≡ writtenAt first next ys) → (end ≡ at + length (xs ++ ys)) × (second ≡ writtenAt out at (xs ++ ys))
+written-both out first second xs ys at next end room one two =
+    (let begins = one .0 in let ends = two .0 in let sum = length-append xs ys in omega arith, two .1 ∙ (λ i. writtenAt (one .1 i) (one .0 i) ys) ∙ written-again out at xs ys room)
+
+-- what is said of a written text holds of the same text in other words
+pub written-as : (out last text same : List ℕ) (at end : ℕ) → text ≡ same → (end ≡ at + length text) × (last ≡ writtenAt out at text) → (end ≡ at + length same) × (last ≡ writtenAt out at same)
+written-as out last text same at end e wrote = (wrote .0 ∙ ap (λ l. at + length l) e, wrote .1 ∙ ap (writtenAt out at) e)

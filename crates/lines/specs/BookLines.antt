@@ -1,25 +1,55 @@
--- The lines that a book head counts, read into arrays one kind after another.
+-- The lines that a book head counts, read one kind after another (01, Script and host).
 use Prim.Native.Nat.{ℕ, _+_}
-use mathlib.Core.Path.{_≡_}
-use mathlib.Core.Bool.{Bool, _&&_}
-use mathlib.Core.List.{List}
-use lib.ListN.{length, take}
+use mathlib.Core.Bool.{Bool, cond, _&&_}
+use mathlib.Core.List.{List, map}
+use lib.ListN.{getD, set}
+use lib.Dec.{ltb}
+use Rattle.tariff.specs.Sizes.{maxPlaces}
+use Rattle.tariff.specs.Sum.{listTo}
 use Rattle.lines.specs.declared.rows.Row.{Row}
-use Rattle.lines.specs.declared.counted.Counted.{Counted}
+use Rattle.lines.specs.declared.book_lines.Pairs.{Pairs}
+use Rattle.lines.specs.declared.book_lines.BookLists.{BookLists}
 use Rattle.lines.specs.Rows.{holderLine, sinkLine, pathLine, rowsOf, field, counted, holderRows, sinkRows, pathRows}
-use Rattle.lines.specs.Counted.{bytesOfLines}
+use Rattle.lines.specs.Counted.{bytesOfLines, rowsCounted}
 
--- an array has these numbers in front
-unfoldable pub keeps : List ℕ → List ℕ → Type 0
-keeps front numbers = take (length front) numbers ≡ front
+-- a number put into a list, which has no room past its end
+unfoldable pub placed : List ℕ → ℕ → ℕ → List ℕ
+placed numbers k v = cond (ltb k maxPlaces) (set numbers k v) numbers
+
+-- the first 16 of some numbers, 0 past the last
+unfoldable pub firstPlaces : List ℕ → List ℕ
+firstPlaces numbers = listTo maxPlaces (λ k. getD numbers k 0)
+
+-- a field of each of the first 16 rows
+unfoldable pub firstFields : ℕ → List Row → List ℕ
+firstFields j rows = firstPlaces (map (field j) rows)
+
+-- whether there are as many lines as counted, all of the kind, how many bytes they take, and the first two fields of each
+unfoldable pub pairsOf : ℕ → ℕ → List ℕ → Pairs
+pairsOf kind n rest =
+    record {
+      complete = counted kind n (rowsCounted n rest);
+      consumed = bytesOfLines n rest;
+      firsts = firstFields 0 (rowsCounted n rest);
+      seconds = firstFields 1 (rowsCounted n rest);
+    }
 
 -- the lines that a book head counts are there, each of its kind
-unfoldable pub bookLinesWhole : Row → List Row → Bool
-bookLinesWhole head rows =
+unfoldable pub bookLinesComplete : Row → List Row → Bool
+bookLinesComplete head rows =
     counted holderLine (field 0 head) (holderRows head rows)
     && counted sinkLine (field 2 head) (sinkRows head rows)
     && counted pathLine (field 3 head) (pathRows head rows)
 
--- whether they are, and how many bytes they take
-unfoldable pub bookLinesOf : Row → List ℕ → Counted
-bookLinesOf head rest = record { whole = bookLinesWhole head (rowsOf rest); used = bytesOfLines (field 0 head + field 2 head + field 3 head) rest }
+-- whether they are, how many bytes they take, and what stands on them
+unfoldable pub bookListsOf : Row → List ℕ → BookLists
+bookListsOf head rest =
+    record {
+      complete = bookLinesComplete head (rowsOf rest);
+      consumed = bytesOfLines (field 0 head + field 2 head + field 3 head) rest;
+      «holder_kinds» = firstFields 0 (holderRows head (rowsOf rest));
+      «sink_kinds» = firstFields 0 (sinkRows head (rowsOf rest));
+      «sink_parents» = firstFields 1 (sinkRows head (rowsOf rest));
+      «path_sources» = firstFields 0 (pathRows head (rowsOf rest));
+      «path_sinks» = firstFields 1 (pathRows head (rowsOf rest));
+    }

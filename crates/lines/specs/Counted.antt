@@ -1,7 +1,7 @@
 -- Lines that a head counts, read into arrays: a field of each line in each array.
-use Prim.Native.Nat.{ℕ, zero, suc, _+_}
+use Prim.Native.Nat.{ℕ, zero, suc, _+_, _*_, _/_}
 use mathlib.Core.List.{List, _++_, map}
-use lib.ListN.{length, take, drop}
+use lib.ListN.{length, take, drop, set}
 use Rattle.lines.specs.declared.rows.Row.{Row}
 use Rattle.lines.specs.declared.counted.Counted.{Counted}
 use Rattle.lines.specs.Rows.{rowsOf, field, counted}
@@ -23,3 +23,27 @@ countedOf kind n script = record { whole = counted kind n (rowsCounted n script)
 -- an array with a field of each row in front; what stands past them is left as it was
 unfoldable pub withField : ℕ → List Row → List ℕ → List ℕ
 withField k rows numbers = map (field k) rows ++ drop (length rows) numbers
+
+-- Lines are kept in one room: a column to each of a row's first five fields, one column behind another, all of one length.
+abbrev pub keptFields : ℕ
+keptFields = 5
+
+unfoldable pub columnLength : List ℕ → ℕ
+columnLength room = length room / keptFields
+
+-- so many columns of length n in a room, from that of field j on, with a field of each row in front of each
+unfoldable pub columnsWith : ℕ → ℕ → ℕ → List Row → List ℕ → List ℕ
+columnsWith zero j n rows room = room
+columnsWith (suc more) j n rows room = withField j rows (take n room) ++ columnsWith more (suc j) n rows (drop n room)
+
+-- the room that keeps these rows
+unfoldable pub roomWith : List Row → List ℕ → List ℕ
+roomWith rows room = columnsWith keptFields 0 (columnLength room) rows room
+
+-- what storing the fields of line k does
+unfoldable pub columnStores : ℕ → ℕ → Row → List ℕ → List ℕ
+columnStores n k r room = set (set (set (set (set room k (field 0 r)) (n + k) (field 1 r)) (2 * n + k) (field 2 r)) (3 * n + k) (field 3 r)) (4 * n + k) (field 4 r)
+
+-- a column of a room, as far as lines are kept in it
+unfoldable pub columnOf : ℕ → ℕ → List ℕ → List ℕ
+columnOf j count room = take count (drop (j * columnLength room) room)

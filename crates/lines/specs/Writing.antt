@@ -1,11 +1,7 @@
--- A text's bytes at a place of the output, and the numbers that are written there (01, Script and host).
+-- A text's bytes at a place of the output (01, Script and host).
 use Prim.Native.Nat.{ℕ, _+_}
 use mathlib.Core.List.{List, _++_}
 use lib.ListN.{length, take, drop}
-
--- a number of at most twelve digits is below this
-abbrev pub leastOfThirteenDigits : ℕ
-leastOfThirteenDigits = 1000000000000
 
 -- the output with a text at a place; the bytes before and after the text stay
 unfoldable pub writtenAt : List ℕ → ℕ → List ℕ → List ℕ

@@ -1,63 +1,102 @@
-// The lines that a book head counts, read into arrays (01, Script and host).
-use crate::counted::Counted;
-use crate::counted::read_counted;
+// The lines that a book head counts, read one kind after another (01, Script and host).
+use crate::lines::next_row;
 use crate::rows::HOLDER;
 use crate::rows::PATH;
 use crate::rows::Row;
 use crate::rows::SINK;
-use crate::text::MAX_LINES;
-ghost use Prim.Native.Nat.{_≤_};
+use tariff::sizes::MAX_PLACES;
 ghost use mathlib.Core.Path.{_≡_};
-ghost use mathlib.Core.List.{map};
-ghost use lib.ListN.{length};
-ghost use Rattle.lines.specs.Rows.{rowsOf, field, holderRows, sinkRows, pathRows};
-ghost use Rattle.lines.specs.Counted.{rowsCounted, countedOf, withField};
-ghost use Rattle.lines.specs.BookLines.{keeps, bookLinesOf};
-ghost use Rattle.lines.specs.Text.{maxLines};
+ghost use Rattle.lines.specs.BookLines.{placed, pairsOf, bookListsOf};
 
-// Reads lines of at most two fields, as holder, sink and path lines are, and keeps both.
-fn read_pairs(rest: &[u8], kind: u64, count: u64, a: &mut [u64], b: &mut [u64]) -> Counted
-    requires few { ⌜ length (rowsOf (now rest)) ≤ maxLines ⌝ }
-    requires columns { ⌜ (length (now a) ≡ maxLines) × (length (now b) ≡ maxLines) ⌝ }
-    ensures counted { λ r. ⌜ r ≡ countedOf kind count (now (rest .entry)) ⌝ }
-    ensures first_column { λ _. ⌜ now (a .exit) ≡ withField 0 (rowsCounted count (now (rest .entry))) (now (a .entry)) ⌝ }
-    ensures second_column { λ _. ⌜ now (b .exit) ≡ withField 1 (rowsCounted count (now (rest .entry))) (now (b .entry)) ⌝ }
-{
-    // Room for the further fields, which nothing reads.
-    let mut c = [0u64; MAX_LINES];
-    let mut d = [0u64; MAX_LINES];
-    let mut e = [0u64; MAX_LINES];
-    read_counted(rest, kind, count, a, b, &mut c, &mut d, &mut e)
+// Lines of at most two fields: whether there are as many as counted, all of one kind, how many bytes they take, and the fields of the first 16.
+pub struct Pairs {
+    pub complete: bool,
+    pub consumed: usize,
+    pub firsts: [u64; MAX_PLACES],
+    pub seconds: [u64; MAX_PLACES],
 }
 
-// Reads the lines that a book head counts. The holders' kinds are kept in a, the sinks' kinds and parents in b and c, the paths' sources and sinks in d and e.
-pub fn read_book_lines(
-    rest: &[u8],
-    head: Row,
-    a: &mut [u64],
-    b: &mut [u64],
-    c: &mut [u64],
-    d: &mut [u64],
-    e: &mut [u64],
-) -> Counted
-    requires few { ⌜ length (rowsOf (now rest)) ≤ maxLines ⌝ }
-    requires columns { ⌜ (length (now a) ≡ maxLines) × (length (now b) ≡ maxLines) × (length (now c) ≡ maxLines) × (length (now d) ≡ maxLines) × (length (now e) ≡ maxLines) ⌝ }
-    ensures counted { λ r. ⌜ r ≡ bookLinesOf head (now (rest .entry)) ⌝ }
-    ensures holder_kinds { λ _. ⌜ keeps (map (field 0) (holderRows head (rowsOf (now (rest .entry))))) (now (a .exit)) ⌝ }
-    ensures sink_kinds { λ _. ⌜ keeps (map (field 0) (sinkRows head (rowsOf (now (rest .entry))))) (now (b .exit)) ⌝ }
-    ensures sink_parents { λ _. ⌜ keeps (map (field 1) (sinkRows head (rowsOf (now (rest .entry))))) (now (c .exit)) ⌝ }
-    ensures path_sources { λ _. ⌜ keeps (map (field 0) (pathRows head (rowsOf (now (rest .entry))))) (now (d .exit)) ⌝ }
-    ensures path_sinks { λ _. ⌜ keeps (map (field 1) (pathRows head (rowsOf (now (rest .entry))))) (now (e .exit)) ⌝ }
+// The same of all lines that a book head counts, with a list to a field.
+pub struct BookLists {
+    pub complete: bool,
+    pub consumed: usize,
+    pub holder_kinds: [u64; MAX_PLACES],
+    pub sink_kinds: [u64; MAX_PLACES],
+    pub sink_parents: [u64; MAX_PLACES],
+    pub path_sources: [u64; MAX_PLACES],
+    pub path_sinks: [u64; MAX_PLACES],
+}
+
+// A number put into a list. Past its end there is no room, and none is needed: a book with more than 16 of anything is refused.
+fn place(list: [u64; MAX_PLACES], k: usize, v: u64) -> [u64; MAX_PLACES]
+    ensures { λ r. ⌜ r ≡ placed list k v ⌝ }
+{
+    let mut next = list;
+    if k < MAX_PLACES {
+        next[k] = v;
+    }
+    next
+}
+
+// Reads as many lines as are counted, or all that are left; past the sixteenth only their kind matters.
+fn read_pairs(rest: &[u8], kind: u64, count: u64) -> Pairs
+    ensures { λ r. ⌜ r ≡ pairsOf kind count (now (rest .entry)) ⌝ }
+{
+    let mut complete = true;
+    let mut consumed = 0;
+    let mut firsts = [0u64; MAX_PLACES];
+    let mut seconds = [0u64; MAX_PLACES];
+    let mut k = 0;
+    while (k as u64) < count {
+        if rest.len() <= consumed {
+            return Pairs {
+                complete: false,
+                consumed,
+                firsts,
+                seconds,
+            };
+        }
+        let next = next_row(&rest[consumed..]);
+        let row = next.row;
+        let fields = row.fields;
+        complete = complete & (row.kind == kind);
+        let next_firsts = place(firsts, k, fields[0]);
+        let next_seconds = place(seconds, k, fields[1]);
+        firsts = next_firsts;
+        seconds = next_seconds;
+        consumed += next.used;
+        k += 1;
+    }
+    Pairs {
+        complete,
+        consumed,
+        firsts,
+        seconds,
+    }
+}
+
+// Reads the lines that a book head counts: holders, then sinks, then paths.
+pub fn read_book_lines(rest: &[u8], head: Row) -> BookLists
+    ensures { λ r. ⌜ r ≡ bookListsOf head (now (rest .entry)) ⌝ }
 {
     let fields = head.fields;
-    // A holder line has one field; where its second goes, the sinks' kinds come next.
-    let holders = read_pairs(rest, HOLDER, fields[0], a, b);
-    let at_sinks = holders.used;
-    let sinks = read_pairs(&rest[at_sinks..], SINK, fields[2], b, c);
-    let at_paths = at_sinks + sinks.used;
-    let paths = read_pairs(&rest[at_paths..], PATH, fields[3], d, e);
-    Counted {
-        whole: holders.whole & sinks.whole & paths.whole,
-        used: at_paths + paths.used,
+    let holders = read_pairs(rest, HOLDER, fields[0]);
+    let at_sinks = holders.consumed;
+    let sinks = read_pairs(&rest[at_sinks..], SINK, fields[2]);
+    let at_paths = at_sinks + sinks.consumed;
+    let paths = read_pairs(&rest[at_paths..], PATH, fields[3]);
+    let holder_kinds = holders.firsts;
+    let sink_kinds = sinks.firsts;
+    let sink_parents = sinks.seconds;
+    let path_sources = paths.firsts;
+    let path_sinks = paths.seconds;
+    BookLists {
+        complete: holders.complete & sinks.complete & paths.complete,
+        consumed: at_paths + paths.consumed,
+        holder_kinds,
+        sink_kinds,
+        sink_parents,
+        path_sources,
+        path_sinks,
     }
 }

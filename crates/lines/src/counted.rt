@@ -1,11 +1,10 @@
-// The lines that a head counts, read into arrays (01, Script and host).
+// The lines that a head counts, kept in one room: a column to each of the first five fields of a line (01, Script and host).
 use crate::lines::next_row;
+use crate::rows::Row;
 ghost use mathlib.Core.Path.{_≡_};
-ghost use Prim.Native.Nat.{_≤_};
+ghost use Prim.Native.Nat.{_*_, _≤_, _<_};
 ghost use lib.ListN.{length};
-ghost use Rattle.lines.specs.Rows.{rowsOf};
-ghost use Rattle.lines.specs.Counted.{rowsCounted, countedOf, withField};
-ghost use Rattle.lines.specs.Text.{maxLines};
+ghost use Rattle.lines.specs.Counted.{rowsCounted, countedOf, keptFields, columnLength, columnStores, columnOf, roomWith};
 
 // Whether there are as many lines as counted, all of one kind, and how many bytes they take.
 pub struct Counted {
@@ -13,26 +12,41 @@ pub struct Counted {
     pub used: usize,
 }
 
-// Reads as many lines as are counted, or all that are left, and keeps the first five fields of each, a field to an array.
-pub fn read_counted(
-    rest: &[u8],
-    kind: u64,
-    count: u64,
-    a: &mut [u64],
-    b: &mut [u64],
-    c: &mut [u64],
-    d: &mut [u64],
-    e: &mut [u64],
-) -> Counted
-    requires few { ⌜ length (rowsOf (now rest)) ≤ maxLines ⌝ }
-    requires columns { ⌜ (length (now a) ≡ maxLines) × (length (now b) ≡ maxLines) × (length (now c) ≡ maxLines) × (length (now d) ≡ maxLines) × (length (now e) ≡ maxLines) ⌝ }
-    ensures counted { λ r. ⌜ r ≡ countedOf kind count (now (rest .entry)) ⌝ }
-    ensures first_column { λ _. ⌜ now (a .exit) ≡ withField 0 (rowsCounted count (now (rest .entry))) (now (a .entry)) ⌝ }
-    ensures second_column { λ _. ⌜ now (b .exit) ≡ withField 1 (rowsCounted count (now (rest .entry))) (now (b .entry)) ⌝ }
-    ensures third_column { λ _. ⌜ now (c .exit) ≡ withField 2 (rowsCounted count (now (rest .entry))) (now (c .entry)) ⌝ }
-    ensures fourth_column { λ _. ⌜ now (d .exit) ≡ withField 3 (rowsCounted count (now (rest .entry))) (now (d .entry)) ⌝ }
-    ensures fifth_column { λ _. ⌜ now (e .exit) ≡ withField 4 (rowsCounted count (now (rest .entry))) (now (e .entry)) ⌝ }
+// How many fields of a line are kept.
+pub const KEPT_FIELDS: usize = 5;
+
+// Stores the fields of line k, each in its column.
+fn keep_row(room: &mut [u64], column: usize, k: usize, row: Row)
+    requires room { ⌜ keptFields * column ≤ length (now room) ⌝ }
+    requires line { ⌜ k < column ⌝ }
+    ensures { λ _. ⌜ now (room .exit) ≡ columnStores column k row (now (room .entry)) ⌝ }
 {
+    let fields = row.fields;
+    room[k] = fields[0];
+    room[column + k] = fields[1];
+    room[2 * column + k] = fields[2];
+    room[3 * column + k] = fields[3];
+    room[4 * column + k] = fields[4];
+}
+
+// A column of the room, as far as lines are kept in it.
+pub fn column(room: &[u64], j: usize, count: usize) -> &[u64]
+    requires column { ⌜ j < keptFields ⌝ }
+    requires lines { ⌜ count ≤ columnLength (now room) ⌝ }
+    ensures { λ r. ⌜ now r ≡ columnOf j count (now (room .entry)) ⌝ }
+{
+    let from = j * (room.len() / KEPT_FIELDS);
+    let end = from + count;
+    &room[from..end]
+}
+
+// Reads as many lines as are counted, or all that are left, and keeps the first five fields of each.
+pub fn read_counted(rest: &[u8], kind: u64, count: u64, room: &mut [u64]) -> Counted
+    requires room { ⌜ length (rowsCounted count (now rest)) ≤ columnLength (now room) ⌝ }
+    ensures counted { λ r. ⌜ r ≡ countedOf kind count (now (rest .entry)) ⌝ }
+    ensures kept { λ _. ⌜ now (room .exit) ≡ roomWith (rowsCounted count (now (rest .entry))) (now (room .entry)) ⌝ }
+{
+    let column = room.len() / KEPT_FIELDS;
     let mut whole = true;
     let mut used = 0;
     let mut k = 0;
@@ -42,13 +56,8 @@ pub fn read_counted(
         }
         let next = next_row(&rest[used..]);
         let row = next.row;
-        let fields = row.fields;
         whole = whole & (row.kind == kind);
-        a[k] = fields[0];
-        b[k] = fields[1];
-        c[k] = fields[2];
-        d[k] = fields[3];
-        e[k] = fields[4];
+        keep_row(room, column, k, row);
         used += next.used;
         k += 1;
     }

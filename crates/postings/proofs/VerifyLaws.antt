@@ -23,8 +23,10 @@ use Rattle.ledger.specs.Call.{Call, verify}
 use Rattle.ledger.specs.Causes.{verifyCauses, callCauses, refusal}
 use Rattle.ledger.specs.Effects.{same2, same3, afterVerify, effect}
 use Rattle.ledger.specs.Season.{accepted}
+use Rattle.ledger.specs.Season as season
 use Rattle.ledger.specs.Numbers.{outOfRange}
 use Rattle.ledger.proofs.Unmet.{unmet, accepted-zero}
+use Rattle.ledger.proofs.Steps.{step-accepted}
 use Rattle.ledger.proofs.PostingFacts.{VerifyFacts, verify-facts}
 use Rattle.records.specs.declared.answers.Answer.the-variants.{Done}
 use Rattle.records.specs.Opening.{openingIn}
@@ -164,9 +166,16 @@ module _ (o f : List ℕ) (m : List Bool) (x : List Entry) (h s kind capacity ri
       (λ i j k low high. ap (λ n. cond (same3 h s n i j k) filed (L .papers .entry i j k)) (sym kind-back))
       evidence-shown)
 
-  pub verify-steps : (entry : Entry) (f′ : List ℕ) (m′ : List Bool) (x′ : List Entry) → entry ≡ filed → f′ ≡ storedByTerm f h s (ownershipSlot + terms * (kind - 1)) entry → m′ ≡ storedAt postedSlots m h s (evidencePostedSlot + (kind - 1)) true → x′ ≡ storedAt evidenceSlots x h s (kind - 1) entry → Steps O L call Done f′ m′ x′
-  verify-steps entry f′ m′ x′ is ofFigures ofPosted ofEvidence =
-      steps-accepted O L call number found f′ m′ x′ zero
+  same : season.step O L call ≡ effect O L call
+  same = step-accepted O L call isAccepted
+
+  -- the entry is filed, whatever evidence the book has
+  pub verify-filed : (entry : Entry) (x′ : List Entry) → entry ≡ filed → x′ ≡ storedAt evidenceSlots x h s (kind - 1) entry → x′ ≡ evidenceOf (season.step O L call)
+  verify-filed entry x′ is e = entered x′ (e ∙ ap (storedAt evidenceSlots x h s (kind - 1)) is) ∙ ap evidenceOf (sym same)
+
+  pub verify-steps : (entry : Entry) (f′ : List ℕ) (m′ : List Bool) → entry ≡ filed → f′ ≡ storedByTerm f h s (ownershipSlot + terms * (kind - 1)) entry → m′ ≡ storedAt postedSlots m h s (evidencePostedSlot + (kind - 1)) true → Steps O L call Done f′ m′ (evidenceOf (season.step O L call))
+  verify-steps entry f′ m′ is ofFigures ofPosted =
+      steps-accepted O L call number found f′ m′ (evidenceOf (season.step O L call)) zero
       (verified f′ (ofFigures ∙ ap (storedByTerm f h s (ownershipSlot + terms * (kind - 1))) is))
       (noted m′ ofPosted)
-      (entered x′ (ofEvidence ∙ ap (storedAt evidenceSlots x h s (kind - 1)) is))
+      (ap evidenceOf same)

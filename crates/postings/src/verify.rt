@@ -33,10 +33,11 @@ ghost use Rattle.tariff.specs.Evidence.{entryOf};
 ghost use Rattle.tariff.specs.Ranges.{wrongEvidence};
 ghost use Rattle.ledger.specs.Call.{verify};
 ghost use Rattle.ledger.specs.Causes.{refusal};
+ghost use Rattle.ledger.specs.Season.{step};
 ghost use Rattle.records.specs.Opening.{openingOf};
 ghost use Rattle.slots.specs.Cells.{HasCell, storedAt};
-ghost use Rattle.slots.specs.Layout.{evidenceSlots, ledgerIn};
-ghost use Rattle.slots.specs.Steps.{Reachable, ReachablePostings, InPostings, Steps};
+ghost use Rattle.slots.specs.Layout.{evidenceSlots, evidenceOf, ledgerIn};
+ghost use Rattle.slots.specs.Steps.{Reachable, ReachablePostings, InPostings, EvidenceStep, Steps};
 ghost use Rattle.postings.specs.Verified.{storedByTerm, HasTerms};
 
 // An answer beside the book's evidence after it.
@@ -113,8 +114,59 @@ fn file(old: [Entry; EVIDENCE], h: u64, s: u64, slot: u64, entry: Entry) -> [Ent
     evidence
 }
 
-// Files evidence of a holder for a source, and stores what it gives for each term.
+// Posts evidence of a holder for a source: what it gives for each term is stored, and it is noted as posted.
 pub fn verify(
+    o: &[u64],
+    f: &mut [u64],
+    m: &mut [bool],
+    h: u64,
+    s: u64,
+    kind: u64,
+    capacity: u64,
+    right: u64,
+    first: u64,
+    last: u64,
+) -> Answer
+    requires { ⌜ ReachablePostings (now o) (now f) (now m) ⌝ }
+    ensures { λ r. ⌜ EvidenceStep (now (o .entry)) (now (f .entry)) (now (m .entry)) (verify h s kind capacity right first last) r (now (f .exit)) (now (m .exit)) ⌝ }
+{
+    let number = verify_refusal(o, f, m, h, s, kind, capacity, right, first, last);
+    if number != 0 {
+        return Answer::Refused(number);
+    }
+    let entry = entry_in_range(kind, capacity, right, first, last);
+    let slot = kind - 1;
+    store_by_term(f, h, s, VERIFIED + TERMS * slot, entry);
+    set_posted(m, h, s, EVIDENCE_POSTED + slot);
+    Answer::Done
+}
+
+// The book's evidence with what such a call files, where it is accepted.
+fn with_filed(
+    o: &[u64],
+    f: &[u64],
+    m: &[bool],
+    evidence: [Entry; EVIDENCE],
+    h: u64,
+    s: u64,
+    kind: u64,
+    capacity: u64,
+    right: u64,
+    first: u64,
+    last: u64,
+) -> [Entry; EVIDENCE]
+    requires { ⌜ Reachable (now o) (now f) (now m) evidence ⌝ }
+    ensures { λ r. ⌜ r ≡ evidenceOf (step (openingOf (o .entry)) (ledgerIn (now (f .entry)) (now (m .entry)) evidence) (verify h s kind capacity right first last)) ⌝ }
+{
+    if verify_refusal(o, f, m, h, s, kind, capacity, right, first, last) != 0 {
+        return evidence;
+    }
+    let entry = entry_in_range(kind, capacity, right, first, last);
+    file(evidence, h, s, kind - 1, entry)
+}
+
+// Posts evidence and files its entry among the book's.
+pub fn verify_and_file(
     o: &[u64],
     f: &mut [u64],
     m: &mut [bool],
@@ -130,17 +182,22 @@ pub fn verify(
     requires { ⌜ Reachable (now o) (now f) (now m) evidence ⌝ }
     ensures { λ r. ⌜ Steps (openingOf (o .entry)) (ledgerIn (now (f .entry)) (now (m .entry)) evidence) (verify h s kind capacity right first last) (r .answer) (now (f .exit)) (now (m .exit)) (r .evidence) ⌝ }
 {
-    let number = verify_refusal(o, f, m, h, s, kind, capacity, right, first, last);
-    if number != 0 {
-        let answer = Answer::Refused(number);
-        return VerifyOutcome { answer, evidence };
-    }
-    let entry = entry_in_range(kind, capacity, right, first, last);
-    let slot = kind - 1;
-    store_by_term(f, h, s, VERIFIED + TERMS * slot, entry);
-    set_posted(m, h, s, EVIDENCE_POSTED + slot);
+    let filed = with_filed(
+        o,
+        f,
+        m,
+        evidence,
+        h,
+        s,
+        kind,
+        capacity,
+        right,
+        first,
+        last,
+    );
+    let answer = verify(o, f, m, h, s, kind, capacity, right, first, last);
     VerifyOutcome {
-        answer: Answer::Done,
-        evidence: file(evidence, h, s, slot, entry),
+        answer,
+        evidence: filed,
     }
 }

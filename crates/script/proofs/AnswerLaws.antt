@@ -1,21 +1,25 @@
--- An answer's line has one to sixteen bytes. Assumes nothing.
+-- The line of each kind of answer has at most the bytes that a run asks for a line. Assumes nothing.
 use Prim.Native.Nat.{ℕ, _≤_, _<_}
 use native.Mathlib.Omega.{arith}
 use lib.ListN.{length, length-append}
-use Rattle.ledger.specs.Season.{Answer, done, value, refused}
+use Rattle.ledger.specs.Season.{done, value, refused}
 use Rattle.lines.specs.Text.{bytesOf, decimal}
-use Rattle.lines.specs.Writing.{leastOfThirteenDigits}
 use Rattle.lines.proofs.DigitLaws.{digits-few}
-use Rattle.script.specs.Answers.{textOf}
-use Rattle.script.specs.Writing.{Writable}
+use Rattle.script.specs.Answers.{valueField, valueFields, textOf}
+use Rattle.script.specs.Writing.{answerValueBound, TwoDigits, Writable}
 
--- a number of at most twelve digits
-pub decimal-few : (v : ℕ) → v < leastOfThirteenDigits → length (decimal v) ≤ 12
+pub done-writable : Writable done
+unfolding textOf valueFields bytesOf TwoDigits
+done-writable = record { twoDigits = tt; short = omega arith }
+
+decimal-few : (v : ℕ) → v < answerValueBound → length (decimal v) ≤ 12
 unfolding decimal
 decimal-few v small = digits-few 20 11 v small
 
-pub text-short : (a : Answer) → Writable a → length (textOf a) ≤ 16
-unfolding textOf bytesOf Writable
-text-short done w = omega arith
-text-short (value v) w = simp length-append (let few = decimal-few v w in omega arith)
-text-short (refused number) w = omega arith
+pub value-writable : (v : ℕ) → v < answerValueBound → Writable (value v)
+unfolding textOf valueField valueFields bytesOf TwoDigits
+value-writable v small = record { twoDigits = tt; short = simp length-append (let few = decimal-few v small in omega arith) }
+
+pub refused-writable : (number : ℕ) → number < 100 → Writable (refused number)
+unfolding textOf bytesOf TwoDigits
+refused-writable number small = record { twoDigits = small; short = omega arith }

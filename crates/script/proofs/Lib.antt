@@ -2,6 +2,6 @@ pub mod CaseOne
 pub mod PlayedLaws
 pub mod AnswerLaws
 pub mod WritableLaws
-pub mod PlayLaws
+pub mod RunGroupLaws
 pub mod RunLaws
 pub mod ScriptLaws

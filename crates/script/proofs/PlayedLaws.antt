@@ -13,7 +13,7 @@ use Rattle.book.specs.Handed.{refusedWith}
 use Rattle.book.specs.Reachable.{Reachable}
 use Rattle.book.proofs.ReachableSteps.{bookAt, at-next, handed-reached}
 use Rattle.book.proofs.SeasonAnswers.{call-answered, query-answered}
-use Rattle.groups.specs.Told.{answeredTo}
+use Rattle.groups.specs.Outcome.{answeredTo}
 use Rattle.groups.specs.Groups.{Asked, nothing, asked}
 use Rattle.script.specs.Answers.{answersTo}
 use Rattle.script.specs.Played.{answersOf}

@@ -28,10 +28,10 @@ use Rattle.lines.proofs.RowSteps.{first-row}
 use Rattle.groups.specs.Groups.{groupsOf, bookReadable, openingOfRows, callRows}
 use Rattle.script.specs.Answers.{answersTo, answersAfter, scriptAnswers, textOf, textsOf}
 use Rattle.script.specs.Played.{answersOf, textFrom}
-use Rattle.groups.specs.Started.{startedWith, openingLeft, startedOf, openingAfter}
+use Rattle.groups.specs.BookGroup.{bookGroupWith, openingLeft, bookGroupOf, openingAfter}
 use Rattle.script.specs.Run.{tooLong, tooShort, answersText, written, runRefusal, runNumber, outputAfter}
 use Rattle.script.proofs.PlayedLaws.{played}
-use Rattle.groups.proofs.StartedLaws.{start-readable}
+use Rattle.groups.proofs.BookGroupLaws.{group-rows}
 
 -- what the groups after a legal opening are answered
 groups-text : (o : Opening) → legal o ≡ true → (rows : List Row) → textsOf (map answerIn (answersOf (openedAs o .book) (groupsOf rows))) ≡ textsOf (answersTo o emptyLedger (groupsOf rows))
@@ -48,10 +48,10 @@ after-text o e rows =
     ap (λ t. textsOf (cond t (ledger.done ∷ answersTo o emptyLedger (groupsOf rows)) (ledger.refused (openingRefusal o) ∷ []))) e
     ∙ (λ i. textOf (sym (opened-answer o e) i) ++ sym (groups-text o e rows) i)
 
-module _ (head : Row) (rows : List Row) (used : ℕ) where
+module _ (head : Row) (rows : List Row) (consumed : ℕ) where
   -- a book group that ends the run is answered by itself
-  stops : startedWith head rows used .«goes_on» ≡ false → textsOf (scriptAnswers (head ∷ rows)) ≡ textOf (answerIn (startedWith head rows used .answer))
-  unfolding startedWith scriptAnswers answersAfter textsOf openedAnswer answerIn
+  stops : bookGroupWith head rows consumed .«is_open» ≡ false → textsOf (scriptAnswers (head ∷ rows)) ≡ textOf (answerIn (bookGroupWith head rows consumed .answer))
+  unfolding bookGroupWith scriptAnswers answersAfter textsOf openedAnswer answerIn
   stops e = go (bookReadable head rows) (legal (openingOfRows head rows)) e
     where
       go : (readable isLegal : Bool) → (readable && isLegal) ≡ false → textsOf (cond readable (cond isLegal (ledger.done ∷ answersTo (openingOfRows head rows) emptyLedger (groupsOf (callRows head rows))) (ledger.refused (openingRefusal (openingOfRows head rows)) ∷ [])) (ledger.refused 1 ∷ [])) ≡ textOf (answerIn (cond readable (cond isLegal Done (Refused (openingRefusal (openingOfRows head rows)))) (Refused 1)))
@@ -60,8 +60,8 @@ module _ (head : Row) (rows : List Row) (used : ℕ) where
       go false isLegal w = append-nil _
 
   -- one that does not is answered, and then the groups after it
-  goes-on : (o : List ℕ) → startedWith head rows used .«goes_on» ≡ true → textsOf (scriptAnswers (head ∷ rows)) ≡ textOf (answerIn (startedWith head rows used .answer)) ++ textsOf (map answerIn (answersOf (bookOf (openingLeft head rows o) emptyLedger) (groupsOf (callRows head rows))))
-  unfolding startedWith openingLeft scriptAnswers openedAs
+  goes-on : (o : List ℕ) → bookGroupWith head rows consumed .«is_open» ≡ true → textsOf (scriptAnswers (head ∷ rows)) ≡ textOf (answerIn (bookGroupWith head rows consumed .answer)) ++ textsOf (map answerIn (answersOf (bookOf (openingLeft head rows o) emptyLedger) (groupsOf (callRows head rows))))
+  unfolding bookGroupWith openingLeft scriptAnswers openedAs
   goes-on o e =
       let both = and-both (bookReadable head rows) (legal (openingOfRows head rows)) e in
       rw (both .0) (after-text (openingOfRows head rows) (both .1) (callRows head rows))
@@ -74,16 +74,16 @@ module _ (script : List ℕ) (some : 1 ≤ length script) where
   rows : List Row
   rows = rowsOf (drop (nextRow script .used) script)
 
-  pub run-stops : startedOf script .«goes_on» ≡ false → answersText script ≡ textOf (answerIn (startedOf script .answer))
-  unfolding answersText startedOf head rows
+  pub run-stops : bookGroupOf script .«is_open» ≡ false → answersText script ≡ textOf (answerIn (bookGroupOf script .answer))
+  unfolding answersText bookGroupOf head rows
   run-stops e = ap (λ all. textsOf (scriptAnswers all)) (first-row script some) ∙ stops head rows _ e
 
-  pub run-goes-on : (o : List ℕ) → startedOf script .«goes_on» ≡ true → answersText script ≡ textOf (answerIn (startedOf script .answer)) ++ textFrom (bookOf (openingAfter script o) emptyLedger) (drop (startedOf script .used) script)
-  unfolding answersText startedOf openingAfter head rows textFrom
+  pub run-goes-on : (o : List ℕ) → bookGroupOf script .«is_open» ≡ true → answersText script ≡ textOf (answerIn (bookGroupOf script .answer)) ++ textFrom (bookOf (openingAfter script o) emptyLedger) (drop (bookGroupOf script .consumed) script)
+  unfolding answersText bookGroupOf openingAfter head rows textFrom
   run-goes-on o e =
       ap (λ all. textsOf (scriptAnswers all)) (first-row script some)
       ∙ goes-on head rows _ o e
-      ∙ ap (λ calls. textOf (answerIn (startedOf script .answer)) ++ textsOf (map answerIn (answersOf (bookOf (openingAfter script o) emptyLedger) (groupsOf calls)))) (sym (start-readable script))
+      ∙ ap (λ calls. textOf (answerIn (bookGroupOf script .answer)) ++ textsOf (map answerIn (answersOf (bookOf (openingAfter script o) emptyLedger) (groupsOf calls)))) (sym (group-rows script))
 
 -- what is written from the start on
 from-start : (out text : List ℕ) → writtenAt out 0 text ≡ text ++ drop (length text) out

@@ -28,8 +28,8 @@ use Rattle.book.specs.Handed.{handed, told}
 use Rattle.book.specs.Reachable.{Reachable}
 use Rattle.book.proofs.ReachableSteps.{reached-book}
 use Rattle.book.proofs.SeasonAnswers.{call-answered, query-answered}
-use Rattle.lines.specs.Writing.{leastOfThirteenDigits}
-use Rattle.script.specs.Writing.{Writable}
+use Rattle.script.specs.Writing.{answerValueBound, Writable}
+use Rattle.script.proofs.AnswerLaws.{done-writable, value-writable, refused-writable}
 
 -- each cause of a list has a number of two digits
 unfoldable twoDigits : List Cause → Bool
@@ -96,7 +96,7 @@ module _ (o : Opening) (ok : legal o ≡ true) (cs : List Call) where
   unfolding net
   held-small h p m known = one-fits (λ i. held (after o cs) i p m) (o .holders) (11 * mostTogether) h (known .0) (net-fits o ok cs p m (known .1))
 
-  figure-small : (q : Query) → queryRefusal o (after o cs) q ≡ 0 → figure o (after o cs) q < leastOfThirteenDigits
+  figure-small : (q : Query) → queryRefusal o (after o cs) q ≡ 0 → figure o (after o cs) q < answerValueBound
   unfolding figure
   figure-small (limitOf h s) e = let most = limit-small h s e in omega arith
   figure-small (heldOn h p m) e = let most = held-small h p m (held-names o (after o cs) h p m e) in omega arith
@@ -104,17 +104,17 @@ module _ (o : Opening) (ok : legal o ≡ true) (cs : List Call) where
 
   -- whatever is asked of a ledger that calls lead to
   pub answer-writable : (a : Ask) → Writable (answer o (after o cs) a)
-  unfolding Writable answer
+  unfolding answer
   answer-writable (call c) = go (accepted o (after o cs) c)
     where
       go : (t : Bool) → Writable (cond t done (refused (refusal o (after o cs) c)))
-      go true = tt
-      go false = refusal-small o (after o cs) c
+      go true = done-writable
+      go false = refused-writable (refusal o (after o cs) c) (refusal-small o (after o cs) c)
   answer-writable (query q) = go (eqb (queryRefusal o (after o cs) q) 0) refl
     where
       go : (t : Bool) → eqb (queryRefusal o (after o cs) q) 0 ≡ t → Writable (cond t (value (figure o (after o cs) q)) (refused (queryRefusal o (after o cs) q)))
-      go true e = figure-small q (eqb-true (queryRefusal o (after o cs) q) 0 e)
-      go false e = query-refusal-small o (after o cs) q
+      go true e = value-writable (figure o (after o cs) q) (figure-small q (eqb-true (queryRefusal o (after o cs) q) 0 e))
+      go false e = refused-writable (queryRefusal o (after o cs) q) (query-refusal-small o (after o cs) q)
 
 -- and of a book that opening or a call handed back
 module _ (b : Book) (r : Reachable b) where

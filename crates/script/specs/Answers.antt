@@ -4,9 +4,9 @@ use mathlib.Core.Bool.{cond}
 use mathlib.Core.List.{List, [], _∷_, _++_}
 use Rattle.ledger.specs.Opening.{Opening, legal, openingRefusal}
 use Rattle.ledger.specs.Ledger.{Ledger, emptyLedger}
-use Rattle.ledger.specs.Season.{Answer, done, value, refused, answer, stepAsk}
+use Rattle.ledger.specs.Season.{Answer, done, values, refused, answer, stepAsk}
 use Rattle.lines.specs.declared.rows.Row.{Row}
-use Rattle.lines.specs.Text.{bytesOf, lineFeed, digit, decimal}
+use Rattle.lines.specs.Text.{bytesOf, lineFeed, comma, digit, decimal}
 use Rattle.groups.specs.Groups.{Asked, nothing, asked, groupsOf, bookReadable, openingOfRows, callRows}
 
 -- a group with an unreadable or absent line gets one 1 and is passed over
@@ -24,10 +24,17 @@ unfoldable pub scriptAnswers : List Row → List Answer
 scriptAnswers [] = []
 scriptAnswers (head ∷ rows) = cond (bookReadable head rows) (answersAfter (openingOfRows head rows) (callRows head rows)) (refused 1 ∷ [])
 
--- ok, ok,V or no,NN; a refusal's number has two digits
+-- a value's field: a comma and its digits
+unfoldable pub valueField : ℕ → List ℕ
+valueField v = comma ∷ decimal v
+
+unfoldable pub valueFields : List ℕ → List ℕ
+valueFields [] = []
+valueFields (v ∷ vs) = valueField v ++ valueFields vs
+
+-- ok and a field for each value, or no,NN; a refusal's number has two digits
 unfoldable pub textOf : Answer → List ℕ
-textOf done = bytesOf "ok" ++ (lineFeed ∷ [])
-textOf (value v) = bytesOf "ok," ++ decimal v ++ (lineFeed ∷ [])
+textOf (values vs) = bytesOf "ok" ++ valueFields vs ++ (lineFeed ∷ [])
 textOf (refused number) = bytesOf "no," ++ (digit (number / 10 % 10) ∷ digit (number % 10) ∷ lineFeed ∷ [])
 
 unfoldable pub textsOf : List Answer → List ℕ

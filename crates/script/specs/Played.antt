@@ -6,7 +6,7 @@ use Rattle.records.specs.declared.answers.Answer.{Answer}
 use Rattle.records.specs.Answers.{answerIn}
 use Rattle.lines.specs.Rows.{rowsOf}
 use Rattle.groups.specs.Groups.{Asked, groupsOf}
-use Rattle.groups.specs.Told.{answeredTo}
+use Rattle.groups.specs.Outcome.{answeredTo}
 use Rattle.script.specs.Answers.{textsOf}
 
 -- what a book answers to groups, each put to the book that the one before handed on

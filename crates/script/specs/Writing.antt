@@ -1,10 +1,20 @@
--- The answers that sixteen bytes hold (01, Script and host).
-use Prim.Native.Nat.{_<_}
-use Rattle.ledger.specs.Season.{Answer, done, value, refused}
-use Rattle.lines.specs.Writing.{leastOfThirteenDigits}
+-- What an answer's line asks for (01, Script and host).
+use Prim.Native.Nat.{ℕ, _≤_, _<_}
+use lib.ListN.{length}
+use Rattle.ledger.specs.Season.{Answer, values, refused}
+use Rattle.lines.specs.Text.{bytesPerLine}
+use Rattle.script.specs.Answers.{textOf}
 
--- a value has at most twelve digits, between `ok,` and LF; a refusal's number has two
-unfoldable pub Writable : Answer → Type 0
-Writable done = Unit {0}
-Writable (value v) = v < leastOfThirteenDigits
-Writable (refused number) = number < 100
+-- each value that the ledger answers is below this, and so has at most twelve digits
+abbrev pub answerValueBound : ℕ
+answerValueBound = 1000000000000
+
+-- a refusal's number is below 100, since it is written in two digits
+unfoldable pub TwoDigits : Answer → Type 0
+TwoDigits (values vs) = Unit {0}
+TwoDigits (refused number) = number < 100
+
+-- an answer that can be written in the bytes that a run asks for each line
+pub record Writable (a : Answer) : Type 0 where
+  pub twoDigits : TwoDigits a
+  pub short : length (textOf a) ≤ bytesPerLine

@@ -6,28 +6,36 @@ use records::answers::Answer;
 ghost use Prim.Native.Nat.{_+_, _≤_, _<_};
 ghost use mathlib.Core.Path.{_≡_};
 ghost use lib.ListN.{length};
-ghost use Rattle.lines.specs.Text.{bytesPerLine};
 ghost use Rattle.ledger.specs.Season.{value, refused};
 ghost use Rattle.records.specs.Answers.{answerIn};
-ghost use Rattle.lines.specs.Writing.{leastOfThirteenDigits, writtenAt};
-ghost use Rattle.script.specs.Answers.{textOf};
-ghost use Rattle.script.specs.Writing.{Writable};
+ghost use Rattle.lines.specs.Writing.{writtenAt};
+ghost use Rattle.script.specs.Answers.{valueField, textOf};
+ghost use Rattle.script.specs.Writing.{TwoDigits};
 
-// Writes `ok,` and a value.
+// Writes the field of a value: a comma and the value's digits.
+fn write_field(out: &mut [u8], at: usize, v: u64) -> usize
+    requires room { ⌜ at + length (valueField v) ≤ length (now out) ⌝ }
+    ensures end { λ r. ⌜ r ≡ at + length (valueField v) ⌝ }
+    ensures written { λ _. ⌜ now (out .exit) ≡ writtenAt (now (out .entry)) at (valueField v) ⌝ }
+{
+    let digits_at = write_bytes(out, at, b",");
+    write_decimal(out, digits_at, v)
+}
+
+// Writes `ok` and the field of a value.
 fn write_value(out: &mut [u8], at: usize, v: u64) -> usize
-    requires room { ⌜ at + bytesPerLine ≤ length (now out) ⌝ }
-    requires twelve_digits { ⌜ v < leastOfThirteenDigits ⌝ }
+    requires room { ⌜ at + length (textOf (value v)) ≤ length (now out) ⌝ }
     ensures end { λ r. ⌜ r ≡ at + length (textOf (value v)) ⌝ }
     ensures written { λ _. ⌜ now (out .exit) ≡ writtenAt (now (out .entry)) at (textOf (value v)) ⌝ }
 {
-    let digits_at = write_bytes(out, at, b"ok,");
-    let end = write_decimal(out, digits_at, v);
+    let field_at = write_bytes(out, at, b"ok");
+    let end = write_field(out, field_at, v);
     write_bytes(out, end, b"\n")
 }
 
 // Writes `no,` and the two digits of a refusal's number.
 fn write_refusal(out: &mut [u8], at: usize, number: u64) -> usize
-    requires room { ⌜ at + bytesPerLine ≤ length (now out) ⌝ }
+    requires room { ⌜ at + length (textOf (refused number)) ≤ length (now out) ⌝ }
     requires two_digits { ⌜ number < 100 ⌝ }
     ensures end { λ r. ⌜ r ≡ at + length (textOf (refused number)) ⌝ }
     ensures written { λ _. ⌜ now (out .exit) ≡ writtenAt (now (out .entry)) at (textOf (refused number)) ⌝ }
@@ -40,8 +48,8 @@ fn write_refusal(out: &mut [u8], at: usize, number: u64) -> usize
 
 // Writes the line of an answer into the output at a place, and says where the next one goes.
 pub fn write_answer(out: &mut [u8], at: usize, answer: Answer) -> usize
-    requires room { ⌜ at + bytesPerLine ≤ length (now out) ⌝ }
-    requires writable { ⌜ Writable (answerIn answer) ⌝ }
+    requires room { ⌜ at + length (textOf (answerIn answer)) ≤ length (now out) ⌝ }
+    requires two_digits { ⌜ TwoDigits (answerIn answer) ⌝ }
     ensures end { λ r. ⌜ r ≡ at + length (textOf (answerIn answer)) ⌝ }
     ensures written { λ _. ⌜ now (out .exit) ≡ writtenAt (now (out .entry)) at (textOf (answerIn answer)) ⌝ }
 {

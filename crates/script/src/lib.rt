@@ -1,5 +1,5 @@
 // Scripts: the groups of a season one after another, and the answers to them; `run` over lent bytes.
 
 pub mod answers;
-pub mod play;
 pub mod run;
+pub mod run_groups;

@@ -1,7 +1,7 @@
 // A run over a lent script and a lent output buffer (01, Script and host).
 use crate::answers::write_answer;
-use crate::play::play;
-use groups::opened::start;
+use crate::run_groups::run_groups;
+use groups::opened::open_from_script;
 use lines::text::BYTES_PER_LINE;
 use lines::text::MAX_BYTES;
 use lines::text::MAX_LINES;
@@ -33,32 +33,15 @@ fn answer_script(script: &[u8], out: &mut [u8]) -> usize
     ensures end { λ r. ⌜ r ≡ length (answersText (now (script .entry))) ⌝ }
     ensures written { λ _. ⌜ now (out .exit) ≡ writtenAt (now (out .entry)) 0 (answersText (now (script .entry))) ⌝ }
 {
-    // A field of each counted line goes to an array; a script has no more lines.
-    let mut a = [0u64; MAX_LINES];
-    let mut b = [0u64; MAX_LINES];
-    let mut c = [0u64; MAX_LINES];
-    let mut d = [0u64; MAX_LINES];
-    let mut e = [0u64; MAX_LINES];
     let mut o = [0u64; OPENING];
-    let started = start(script, &mut o, &mut a, &mut b, &mut c, &mut d, &mut e);
-    let answer = started.answer;
+    let group = open_from_script(script, &mut o);
+    let answer = group.answer;
     let written = write_answer(out, 0, answer);
-    if !started.goes_on {
+    if !group.is_open {
         return written;
     }
-    let used = started.used;
-    play(
-        script,
-        used,
-        &o,
-        out,
-        written,
-        &mut a,
-        &mut b,
-        &mut c,
-        &mut d,
-        &mut e,
-    )
+    let consumed = group.consumed;
+    run_groups(script, consumed, &o, out, written)
 }
 
 // Runs a script: the refusal, 0 for a run, times 1,000,000, plus the written length. Nothing is asked of the two slices.

@@ -1,6 +1,6 @@
 -- A call's outcome where it is refused and where it is accepted. Assumes nothing.
 use Prim.Native.Nat.{ℕ}
-use mathlib.Core.Path.{_≡_, sym, ap, _∙_}
+use mathlib.Core.Path.{_≡_, refl, sym, ap, _∙_}
 use mathlib.Core.Bool.{Bool, true, false, cond}
 use mathlib.Core.List.{List}
 use borrow.Author.Tests.{eq-eqb, ne-eqb}
@@ -12,6 +12,7 @@ use Rattle.ledger.specs.Causes.{refusal, queryRefusal}
 use Rattle.ledger.specs.Effects.{effect}
 use Rattle.ledger.specs.Season as season
 use Rattle.ledger.proofs.Steps.{step-refused, step-accepted}
+use Rattle.records.specs.declared.answers.Answer.{Answer}
 use Rattle.records.specs.declared.answers.Answer.the-variants.{Done, Value, Refused}
 use Rattle.records.specs.Opening.{openingIn}
 use Rattle.records.specs.Answers.{answerOf}
@@ -58,6 +59,10 @@ steps-refused o f m x c number found r ne =
 
     same : season.step (openingIn o) (ledgerIn f m x) c ≡ ledgerIn f m x
     same = step-refused (openingIn o) (ledgerIn f m x) c test
+
+-- an outcome beside the evidence of the next step, whatever stood for that before
+pub beside-next-evidence : (O : Opening) (L : Ledger) (c : Call) (a : Answer) (f : List ℕ) (m : List Bool) (x : List Entry) → Steps O L c a f m x → Steps O L c a f m (evidenceOf (season.step O L c))
+beside-next-evidence O L c a f m x s = record { answered = s .answered; figures = s .figures; posted = s .posted; evidence = refl }
 
 -- a query's answer, refused and not
 module _ (O : Opening) (L : Ledger) (q : Query) (number : ℕ) (found : number ≡ queryRefusal O L q) where

@@ -85,6 +85,10 @@ FiguresStep o f c answer f′ = (m : List Bool) (x : List Entry) → Reachable o
 abbrev pub PostingsStep : (o f : List ℕ) (m : List Bool) → Call → Answer → List ℕ → List Bool → Type 0
 PostingsStep o f m c answer f′ m′ = (x : List Entry) → Reachable o f m x → Steps (openingIn o) (ledgerIn f m x) c answer f′ m′ x
 
+-- a call that changes the evidence too, which is not lent: that of the next step stands beside the lent arrays
+abbrev pub EvidenceStep : (o f : List ℕ) (m : List Bool) → Call → Answer → List ℕ → List Bool → Type 0
+EvidenceStep o f m c answer f′ m′ = (x : List Entry) → Reachable o f m x → Steps (openingIn o) (ledgerIn f m x) c answer f′ m′ (evidenceOf (season.step (openingIn o) (ledgerIn f m x) c))
+
 -- the same of calls whose lines stand in slices
 abbrev pub FiguresStepIf : Bool → (o f : List ℕ) → Call → Answer → List ℕ → Type 0
 FiguresStepIf even o f c answer f′ = (m : List Bool) (x : List Entry) → Reachable o f m x → StepsIf even (openingIn o) (ledgerIn f m x) c answer f′ m x

@@ -10,7 +10,7 @@ use types.Run.{OneOf}
 use Rattle.records.specs.declared.answers.Answer.{Answer}
 use Rattle.records.specs.declared.answers.Answer.the-variants.{Done, Value, Refused}
 use Rattle.records.proofs.answers.Answer.{the-type}
-use Rattle.groups.specs.Started.{isDone}
+use Rattle.groups.specs.BookGroup.{isDone}
 use Rattle.groups.proofs.opened.is_done.Statement.{statement}
 use Rattle.groups.proofs.opened.is_done.Tie as tie
 

@@ -1,6 +1,7 @@
 -- `lines::book_lines::read_book_lines` meets its contract: each kind of lines is read where those before it end. Assumes nothing.
 use borrow.Author.Needs.{needs}
-use Rattle.lines.proofs.BookLines.{rest-few, here-within, first-used, at-paths, end-within, holders-kept, sinks-kept, paths-kept, lines-read}
+use Rattle.lines.proofs.PairLaws.{here-within}
+use Rattle.lines.proofs.BookLines.{consumed-is, at-paths, end-within, lists-read}
 use Rattle.lines.proofs.book_lines.read_book_lines.Statement.{statement}
 use Rattle.lines.proofs.book_lines.read_book_lines.Tie as tie
 
@@ -11,17 +12,10 @@ read-pairs-requires : tie.Need-read-pairs-requires
 read-pairs-requires c κs = search needs
 
 sub-read-pairs : tie.Need-sub-read-pairs
-sub-read-pairs c =
-    let start = c .before .before .before .before .before .before .before .before .before .before .before .before .before .before in
-    let x = c .before .before .before .before .read-pairs in
-    here-within _ _ _ (first-used _ _ _ _ (x .ensures .0))
+sub-read-pairs c = here-within _ _ _ (consumed-is _ _ _ _ (c .read-pairs .ensures))
 
 part-read-pairs-start : tie.Need-part-read-pairs-start
-part-read-pairs-start c =
-    let start = c .before .before .before .before .before .before .before .before .before .before .before .before .before .before in
-    let x = c .before .before .before .before .read-pairs in
-    let within = here-within _ _ _ (first-used _ _ _ _ (x .ensures .0)) in
-    search needs
+part-read-pairs-start c = let within = here-within _ _ _ (consumed-is _ _ _ _ (c .read-pairs .ensures)) in search needs
 
 part-read-pairs-end : tie.Need-part-read-pairs-end
 part-read-pairs-end c = search needs
@@ -30,34 +24,16 @@ array-read-read-pairs-2 : tie.Need-array-read-read-pairs-2
 array-read-read-pairs-2 c = search needs
 
 read-pairs-requires-2 : tie.Need-read-pairs-requires-2
-read-pairs-requires-2 c κs =
-    let start = c .before .before .before .before .before .before .before .before .before .before .before .before .before .before .before .before .before in
-    let x = c .before .before .before .before .before .before .before .read-pairs in
-    let few = rest-few _ _ _ (first-used _ _ _ _ (x .ensures .0)) (start .pre .0) in
-    search needs
+read-pairs-requires-2 c κs = search needs
 
 add-at-paths : tie.Need-add-at-paths
-add-at-paths c =
-    let start = c .before .before .before .before .before .before .before .before .before .before .before .before .before .before .before .before .before .before .before .before .before .before .before in
-    let x = c .before .before .before .before .before .before .before .before .before .before .before .before .before .read-pairs in
-    let y = c .before .before .before .before .before .read-pairs2 in
-    let within = here-within _ _ _ (at-paths _ (start .args .head) (x .result) (y .result) (y .result) (x .ensures .0) (y .ensures .0)) in
-    search needs
+add-at-paths c = let within = here-within _ _ _ (at-paths _ (c .before .before .before .before .before .before .args .head) _ _ (c .before .before .before .read-pairs .ensures) (c .before .read-pairs2 .ensures)) in search needs
 
 sub-read-pairs-2 : tie.Need-sub-read-pairs-2
-sub-read-pairs-2 c =
-    let start = c .before .before .before .before .before .before .before .before .before .before .before .before .before .before .before .before .before .before .before .before .before .before .before in
-    let x = c .before .before .before .before .before .before .before .before .before .before .before .before .before .read-pairs in
-    let y = c .before .before .before .before .before .read-pairs2 in
-    here-within _ _ _ (at-paths _ (start .args .head) (x .result) (y .result) (y .result) (x .ensures .0) (y .ensures .0))
+sub-read-pairs-2 c = here-within _ _ _ (at-paths _ (c .before .before .before .before .before .before .args .head) _ _ (c .before .before .before .read-pairs .ensures) (c .before .read-pairs2 .ensures))
 
 part-read-pairs-start-2 : tie.Need-part-read-pairs-start-2
-part-read-pairs-start-2 c =
-    let start = c .before .before .before .before .before .before .before .before .before .before .before .before .before .before .before .before .before .before .before .before .before .before .before in
-    let x = c .before .before .before .before .before .before .before .before .before .before .before .before .before .read-pairs in
-    let y = c .before .before .before .before .before .read-pairs2 in
-    let within = here-within _ _ _ (at-paths _ (start .args .head) (x .result) (y .result) (y .result) (x .ensures .0) (y .ensures .0)) in
-    search needs
+part-read-pairs-start-2 c = let within = here-within _ _ _ (at-paths _ (c .before .before .before .before .before .before .args .head) _ _ (c .before .before .before .read-pairs .ensures) (c .before .read-pairs2 .ensures)) in search needs
 
 part-read-pairs-end-2 : tie.Need-part-read-pairs-end-2
 part-read-pairs-end-2 c = search needs
@@ -66,48 +42,13 @@ array-read-read-pairs-3 : tie.Need-array-read-read-pairs-3
 array-read-read-pairs-3 c = search needs
 
 read-pairs-requires-3 : tie.Need-read-pairs-requires-3
-read-pairs-requires-3 c κs =
-    let start = c .before .before .before .before .before .before .before .before .before .before .before .before .before .before .before .before .before .before .before .before .before .before .before .before .before .before in
-    let x = c .before .before .before .before .before .before .before .before .before .before .before .before .before .before .before .before .read-pairs in
-    let y = c .before .before .before .before .before .before .before .before .read-pairs2 in
-    let few = rest-few _ _ _ (at-paths _ (start .args .head) (x .result) (y .result) (y .result) (x .ensures .0) (y .ensures .0)) (start .pre .0) in
-    search needs
+read-pairs-requires-3 c κs = search needs
 
-add-t22 : tie.Need-add-t22
-add-t22 c =
-    let start = c .before .before .before .before .before .before .before .before .before .before .before .before .before .before .before .before .before .before .before .before .before .before .before .before .before .before .before .before .before .before .before .before .before .before .before in
-    let x = c .before .before .before .before .before .before .before .before .before .before .before .before .before .before .before .before .before .before .before .before .before .before .before .before .before .read-pairs in
-    let y = c .before .before .before .before .before .before .before .before .before .before .before .before .before .before .before .before .before .read-pairs2 in
-    let z = c .before .before .before .before .before .before .before .before .read-pairs3 in
-    let within = end-within _ (start .args .head) (x .result) (y .result) (z .result) (x .ensures .0) (y .ensures .0) (z .ensures .0) in
-    search needs
-
-same-length : tie.Need-same-length
-same-length c = search needs
-
-same-length-2 : tie.Need-same-length-2
-same-length-2 c = search needs
-
-same-length-3 : tie.Need-same-length-3
-same-length-3 c = search needs
-
-same-length-4 : tie.Need-same-length-4
-same-length-4 c = search needs
-
-same-length-5 : tie.Need-same-length-5
-same-length-5 c = search needs
+add-t18 : tie.Need-add-t18
+add-t18 c = let within = end-within _ (c .before .before .before .before .before .before .before .before .before .before .before .before .before .before .before .before .before .args .head) _ _ (c .before .before .before .before .before .before .before .before .before .before .before .before .before .before .read-pairs .ensures) (c .before .before .before .before .before .before .before .before .before .before .before .before .read-pairs2 .ensures) _ (c .before .before .before .before .before .before .before .before .before .read-pairs3 .ensures) in search needs
 
 returns : tie.Need-returns
-returns c =
-    let start = c .before .before .before .before .before .before .before .before .before .before .before .before .before .before .before .before .before .before .before .before .before .before .before .before .before .before .before .before .before .before .before .before .before .before .before in
-    let x = c .before .before .before .before .before .before .before .before .before .before .before .before .before .before .before .before .before .before .before .before .before .before .before .before .before .read-pairs in
-    let y = c .before .before .before .before .before .before .before .before .before .before .before .before .before .before .before .before .before .read-pairs2 in
-    let z = c .before .before .before .before .before .before .before .before .read-pairs3 in
-    let head = start .args .head in
-    let holders = x .ensures .0 in
-    let sinks = y .ensures .0 in
-    let paths = z .ensures .0 in
-    (lines-read _ head (x .result) (y .result) (z .result) holders sinks paths, (holders-kept _ head (x .result) (y .result) (z .result) holders sinks _ _ (x .ensures .1 .0), (sinks-kept _ head (x .result) (y .result) (z .result) holders sinks 0 _ _ (y .ensures .1 .0), (sinks-kept _ head (x .result) (y .result) (z .result) holders sinks 1 _ _ (y .ensures .1 .1), (paths-kept _ head (x .result) (y .result) (z .result) holders sinks paths 0 _ _ (z .ensures .1 .0), paths-kept _ head (x .result) (y .result) (z .result) holders sinks paths 1 _ _ (z .ensures .1 .1))))))
+returns c = lists-read _ (c .before .before .before .before .before .before .before .before .before .before .before .before .before .before .before .before .before .args .head) _ _ (c .before .before .before .before .before .before .before .before .before .before .before .before .before .before .read-pairs .ensures) (c .before .before .before .before .before .before .before .before .before .before .before .before .read-pairs2 .ensures) _ (c .before .before .before .before .before .before .before .before .before .read-pairs3 .ensures)
 
 pub read-book-lines-spec : {M : Type 1} → statement M
 read-book-lines-spec =
@@ -126,10 +67,5 @@ read-book-lines-spec =
     part-read-pairs-end-2
     array-read-read-pairs-3
     read-pairs-requires-3
-    add-t22
-    same-length
-    same-length-2
-    same-length-3
-    same-length-4
-    same-length-5
+    add-t18
     returns)

@@ -3,24 +3,26 @@ use Prim.Native.Nat.{ℕ, _+_, _-_, _^_, _≤_, _<_}
 use mathlib.Core.Path.{_≡_, refl, ap, _∙_}
 use mathlib.Core.List.{List, _++_, append-nil}
 use native.Mathlib.Omega.{arith}
-use lib.ListN.{length, set, take, drop, length-set, length-drop, length-take}
+use lib.ListN.{length, set, take, drop, length-set, length-drop}
 use lib.Seq.{take-all}
 use borrow.Author.Needs.{needs}
 use Rattle.lines.specs.Text.{digit, digitsOf, decimal}
-use Rattle.lines.specs.Writing.{writtenAt}
 use Rattle.lines.proofs.DigitLaws.{place-left, digit-found, first-found}
+use Rattle.lines.proofs.WritingLaws.{written-as}
 use Rattle.lines.proofs.digits.write_decimal.Statement.{statement}
 use Rattle.lines.proofs.digits.write_decimal.Tie as tie
 
 abbrev Inv-loop : tie.InvT-loop
-Inv-loop out at v digits₀ first₀ rest₀ digits first rest = (first ≤ 11) × (length digits ≡ 12) × (rest < 10 ^ (first + 1)) × (digitsOf (9 + first) rest ++ drop (first + 1) digits ≡ decimal v)
+Inv-loop out at v digits₀ first₀ rest₀ digits first rest = (first ≤ 19) × (length digits ≡ 20) × (rest < 10 ^ (first + 1)) × (digitsOf (first + 1) rest ++ drop (first + 1) digits ≡ decimal v)
 
 abbrev μ-loop : tie.MeasureT-loop
 μ-loop out at v digits₀ first₀ rest₀ digits first rest = first
 
 loop-holds : tie.Need-loop-holds Inv-loop μ-loop
 unfolding decimal
-loop-holds c = (omega arith, refl, c .before .pre .1, append-nil (digitsOf 20 (c .before .args .v)))
+loop-holds c =
+    let twenty-digits : c .before .args .v < 100000000000000000000 = omega (arith, c .before .fits .v .fits) in
+    (omega arith, refl, twenty-digits, append-nil (digitsOf 20 (c .before .args .v)))
 
 digit-byte-requires : tie.Need-digit-byte-requires Inv-loop μ-loop
 digit-byte-requires c κs = omega arith
@@ -62,24 +64,22 @@ part-write-bytes-start c = search needs
 part-write-bytes-end : tie.Need-part-write-bytes-end Inv-loop μ-loop
 part-write-bytes-end c =
     let loop = c .before .before .before .before .loop in
-    let whole : 12 ≤ length (set (loop .digits) (loop .first) (c .before .before .digit-byte2 .result)) = simp length-set (omega arith) in
-    whole
+    let all : 20 ≤ length (set (loop .digits) (loop .first) (c .before .before .digit-byte2 .result)) = simp length-set (omega arith) in
+    all
 
--- the bytes from the first digit on
-part-few : (l : List ℕ) (first d : ℕ) → length (take (12 - first) (drop first (set l first d))) ≤ 12
-part-few l first d = simp length-take (omega arith)
-
--- and they are the number's digits
-part-is : (digits : List ℕ) (v first rest d : ℕ) → first ≤ 11 → length digits ≡ 12 → rest < 10 → d ≡ digit rest → digitsOf (9 + first) rest ++ drop (first + 1) digits ≡ decimal v → take (12 - first) (drop first (set digits first d)) ≡ decimal v
+-- the bytes from the first digit on are the number's digits
+part-is : (digits : List ℕ) (v first rest d : ℕ) → first ≤ 19 → length digits ≡ 20 → rest < 10 → d ≡ digit rest → digitsOf (first + 1) rest ++ drop (first + 1) digits ≡ decimal v → take (20 - first) (drop first (set digits first d)) ≡ decimal v
 part-is digits v first rest d low len small e inv =
-    take-all (12 - first) (drop first (set digits first d)) (simp (length-drop, length-set) (omega arith))
+    take-all (20 - first) (drop first (set digits first d)) (simp (length-drop, length-set) (omega arith))
     ∙ first-found digits first rest d (omega arith) small e
     ∙ inv
 
 write-bytes-requires : tie.Need-write-bytes-requires Inv-loop μ-loop
 write-bytes-requires c κs =
     let loop = c .before .before .before .before .before .loop in
-    let few = part-few (loop .digits) (loop .first) (c .before .before .before .digit-byte2 .result) in
+    let found = c .before .before .before .digit-byte2 in
+    let part = part-is (loop .digits) (c .before .before .before .before .before .before .before .args .v) (loop .first) (loop .rest) (found .result) (loop .inv .0) (loop .inv .1) (omega arith) (found .ensures) (loop .inv .3) in
+    let same = ap length part in
     omega arith
 
 same-length : tie.Need-same-length Inv-loop μ-loop
@@ -89,12 +89,10 @@ returns : tie.Need-returns Inv-loop μ-loop
 returns c =
     let start = c .before .before .before .before .before .before .before .before .before .before in
     let loop = c .before .before .before .before .before .before .before .before .loop in
-    let wrote = c .before .before .write-bytes .ensures in
-    let end = wrote .0 in
-    let written = wrote .1 in
+    let wrote = c .before .before .write-bytes in
     let found = c .before .before .before .before .before .before .digit-byte2 in
     let part = part-is (loop .digits) (start .args .v) (loop .first) (loop .rest) (found .result) (loop .inv .0) (loop .inv .1) (omega arith) (found .ensures) (loop .inv .3) in
-    (end ∙ ap (λ l. start .args .at + length l) part, written ∙ ap (writtenAt (start .args .out .now) (start .args .at)) part)
+    written-as (start .args .out .now) (wrote .last .0) _ _ (start .args .at) (wrote .result) part (wrote .ensures)
 
 pub write-decimal-spec : {M : Type 1} → statement M
 write-decimal-spec =

@@ -1,12 +1,11 @@
 -- `answers::write_refusal` meets its contract. Assumes nothing.
-use mathlib.Core.Path.{_≡_, ap, _∙_}
-use Prim.Native.Nat.{ℕ, _+_, _/_, _%_}
+use Prim.Native.Nat.{ℕ, _/_, _%_}
+use mathlib.Core.Path.{_≡_}
 use mathlib.Core.List.{[], _∷_}
-use lib.ListN.{length}
 use borrow.Author.Needs.{needs}
 use Rattle.ledger.specs.Season.{refused}
 use Rattle.lines.specs.Text.{bytesOf, digit}
-use Rattle.lines.specs.Writing.{writtenAt}
+use Rattle.lines.proofs.WritingLaws.{written-as}
 use Rattle.script.specs.Answers.{textOf}
 use Rattle.script.proofs.answers.write_refusal.Statement.{statement}
 use Rattle.script.proofs.answers.write_refusal.Tie as tie
@@ -26,6 +25,7 @@ slice-aggregate-write-bytes : tie.Need-slice-aggregate-write-bytes
 slice-aggregate-write-bytes c = search needs
 
 write-bytes-requires : tie.Need-write-bytes-requires
+unfolding textOf bytesOf
 write-bytes-requires c κs = search needs
 
 same-length : tie.Need-same-length
@@ -34,13 +34,11 @@ same-length c = search needs
 returns : tie.Need-returns
 returns c =
     let start = c .before .before .before .before .before .before .before .before in
-    let wrote = c .before .before .write-bytes .ensures in
-    let end = wrote .0 in
-    let written = wrote .1 in
+    let wrote = c .before .before .write-bytes in
     let ones = c .before .before .before .before .before .digit-byte2 in
     let tens = c .before .before .before .before .before .before .digit-byte in
     let line = line-is (start .args .number) (tens .result) (ones .result) (tens .ensures) (ones .ensures) in
-    (end ∙ ap (λ l. start .args .at + length l) line, written ∙ ap (writtenAt (start .args .out .now) (start .args .at)) line)
+    written-as (start .args .out .now) (wrote .last .0) _ _ (start .args .at) (wrote .result) line (wrote .ensures)
 
 pub write-refusal-spec : {M : Type 1} → statement M
 write-refusal-spec =
