@@ -182,19 +182,7 @@ pub fn verify_and_file(
     requires { ⌜ Reachable (now o) (now f) (now m) evidence ⌝ }
     ensures { λ r. ⌜ Steps (openingOf (o .entry)) (ledgerIn (now (f .entry)) (now (m .entry)) evidence) (verify h s kind capacity right first last) (r .answer) (now (f .exit)) (now (m .exit)) (r .evidence) ⌝ }
 {
-    let filed = with_filed(
-        o,
-        f,
-        m,
-        evidence,
-        h,
-        s,
-        kind,
-        capacity,
-        right,
-        first,
-        last,
-    );
+    let filed = with_filed(o, f, m, evidence, h, s, kind, capacity, right, first, last);
     let answer = verify(o, f, m, h, s, kind, capacity, right, first, last);
     VerifyOutcome {
         answer,

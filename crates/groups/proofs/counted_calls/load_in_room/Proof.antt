@@ -86,14 +86,15 @@ returns-2 c =
     let all = not-false _ (c .before .before .before .before .before .before .before .before .before .before .before .if1 .left) in
     let counts = load-counts _ (s .pre .1 .0) in
     let asks = load-asks _ _ (s .pre .1 .0) in
-    let fits = fits-counted _ _ _ counts _ (s .pre .1 .1) in
-    (λ x k.
-    whole-told _ _ _ _ _ _ (read .0) counts asks _ all _ _
-    (load-is _ (s .args .head) (rowsCounted (field 5 (s .args .head)) (s .args .rest .now)) _ _ _ _ (handed-if _ _ _ _ _ _ _ _ _ _ k (c .before .before .before .before .load .ensures x k))
-    (column-is _ _ _ _ (read .0) all _ _ fits (read .1) 0 _ (omega arith) (c .before .before .before .before .before .before .before .before .before .column .ensures))
-    (column-is _ _ _ _ (read .0) all _ _ fits (read .1) 1 _ (omega arith) (c .before .before .before .before .before .before .before .before .column2 .ensures))
-    (column-is _ _ _ _ (read .0) all _ _ fits (read .1) 2 _ (omega arith) (c .before .before .before .before .before .before .before .column3 .ensures))),
-    (told-bytes _ _ _ _ _ _ (read .0) counts asks, kept-counted _ _ _ counts _ _ (read .1)))
+    let fits = fits-counted _ _ _ counts _ (s .pre .1 .1) in (
+      λ x k.
+          whole-told _ _ _ _ _ _ (read .0) counts asks _ all _ _
+          (load-is _ (s .args .head) (rowsCounted (field 5 (s .args .head)) (s .args .rest .now)) _ _ _ _ (handed-if _ _ _ _ _ _ _ _ _ _ k (c .before .before .before .before .load .ensures x k))
+          (column-is _ _ _ _ (read .0) all _ _ fits (read .1) 0 _ (omega arith) (c .before .before .before .before .before .before .before .before .before .column .ensures))
+          (column-is _ _ _ _ (read .0) all _ _ fits (read .1) 1 _ (omega arith) (c .before .before .before .before .before .before .before .before .column2 .ensures))
+          (column-is _ _ _ _ (read .0) all _ _ fits (read .1) 2 _ (omega arith) (c .before .before .before .before .before .before .before .column3 .ensures))),
+      (told-bytes _ _ _ _ _ _ (read .0) counts asks, kept-counted _ _ _ counts _ _ (read .1)),
+    )
 
 pub load-in-room-spec : {M : Type 1} → statement M
 load-in-room-spec =

@@ -88,16 +88,17 @@ returns-2 c =
     let all = not-false _ (c .before .before .before .before .before .before .before .before .before .before .if1 .left) in
     let counts = migrate-counts _ (s .pre .1 .0) in
     let asks = migrate-asks _ _ (s .pre .1 .0) in
-    let fits = fits-counted _ _ _ counts _ (s .pre .1 .1) in
-    (λ m x k.
-    whole-told _ _ _ _ _ _ (read .0) counts asks _ all _ _
-    (migrate-is _ (s .args .head) (rowsCounted (field 2 (s .args .head)) (s .args .rest .now)) _ _ _ _ _ _ (handed-if _ _ _ _ _ _ _ _ _ _ k (c .before .before .migrate .ensures m x k))
-    (column-is _ _ _ _ (read .0) all _ _ fits (read .1) 0 _ (omega arith) (c .before .before .before .before .before .before .before .before .column .ensures))
-    (column-is _ _ _ _ (read .0) all _ _ fits (read .1) 1 _ (omega arith) (c .before .before .before .before .before .before .before .column2 .ensures))
-    (column-is _ _ _ _ (read .0) all _ _ fits (read .1) 2 _ (omega arith) (c .before .before .before .before .before .before .column3 .ensures))
-    (column-is _ _ _ _ (read .0) all _ _ fits (read .1) 3 _ (omega arith) (c .before .before .before .before .before .column4 .ensures))
-    (column-is _ _ _ _ (read .0) all _ _ fits (read .1) 4 _ (omega arith) (c .before .before .before .before .column5 .ensures))),
-    (told-bytes _ _ _ _ _ _ (read .0) counts asks, kept-counted _ _ _ counts _ _ (read .1)))
+    let fits = fits-counted _ _ _ counts _ (s .pre .1 .1) in (
+      λ m x k.
+          whole-told _ _ _ _ _ _ (read .0) counts asks _ all _ _
+          (migrate-is _ (s .args .head) (rowsCounted (field 2 (s .args .head)) (s .args .rest .now)) _ _ _ _ _ _ (handed-if _ _ _ _ _ _ _ _ _ _ k (c .before .before .migrate .ensures m x k))
+          (column-is _ _ _ _ (read .0) all _ _ fits (read .1) 0 _ (omega arith) (c .before .before .before .before .before .before .before .before .column .ensures))
+          (column-is _ _ _ _ (read .0) all _ _ fits (read .1) 1 _ (omega arith) (c .before .before .before .before .before .before .before .column2 .ensures))
+          (column-is _ _ _ _ (read .0) all _ _ fits (read .1) 2 _ (omega arith) (c .before .before .before .before .before .before .column3 .ensures))
+          (column-is _ _ _ _ (read .0) all _ _ fits (read .1) 3 _ (omega arith) (c .before .before .before .before .before .column4 .ensures))
+          (column-is _ _ _ _ (read .0) all _ _ fits (read .1) 4 _ (omega arith) (c .before .before .before .before .column5 .ensures))),
+      (told-bytes _ _ _ _ _ _ (read .0) counts asks, kept-counted _ _ _ counts _ _ (read .1)),
+    )
 
 pub migrate-in-room-spec : {M : Type 1} → statement M
 migrate-in-room-spec =

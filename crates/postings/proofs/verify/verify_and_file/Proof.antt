@@ -16,7 +16,7 @@ same-length-2 : tie.Need-same-length-2
 same-length-2 c = search needs
 
 returns : tie.Need-returns
-returns c = 
+returns c =
     let s = c .before .before .before .before .verify .ensures _ (c .before .before .before .before .before .before .before .before .before .before .before .before .before .pre) in
     record { answered = s .answered; figures = s .figures; posted = s .posted; evidence = c .before .before .before .before .before .before .before .with-filed .ensures }
 

@@ -12,7 +12,7 @@ open-from-script-requires : tie.Need-open-from-script-requires
 open-from-script-requires c κs = search needs
 
 write-answer-requires : tie.Need-write-answer-requires
-write-answer-requires c κs = 
+write-answer-requires c κs =
     let s = c .before .before .before .before .before .before in
     let some = s .pre .0 in
     let few = s .pre .1 .1 .0 in
@@ -24,7 +24,7 @@ same-length : tie.Need-same-length
 same-length c = search needs
 
 returns : tie.Need-returns
-returns c = 
+returns c =
     let s = c .before .before .before .before .before .before .before .before .before .before .before in
     let some = s .pre .0 in
     let few = s .pre .1 .1 .0 in
@@ -37,7 +37,7 @@ slice-aggregate-run-groups : tie.Need-slice-aggregate-run-groups
 slice-aggregate-run-groups c = search needs
 
 run-groups-requires : tie.Need-run-groups-requires
-run-groups-requires c κs = 
+run-groups-requires c κs =
     let s = c .before .before .before .before .before .before .before .before .before .before .before .before .before in
     let some = s .pre .0 in
     let few = s .pre .1 .1 .0 in
@@ -50,7 +50,7 @@ same-length-2 : tie.Need-same-length-2
 same-length-2 c = search needs
 
 returns-2 : tie.Need-returns-2
-returns-2 c = 
+returns-2 c =
     let s = c .before .before .before .before .before .before .before .before .before .before .before .before .before .before .before .before in
     let some = s .pre .0 in
     let few = s .pre .1 .1 .0 in

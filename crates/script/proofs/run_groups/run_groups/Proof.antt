@@ -19,7 +19,7 @@ abbrev μ-loop : tie.MeasureT-loop
 μ-loop script from o out₀ start f₀ m₀ at₀ written₀ out f m at written = length script - at
 
 loop-holds : tie.Need-loop-holds Inv-loop μ-loop
-loop-holds c = 
+loop-holds c =
     let k = c .before .before .before .pre in
     let reachable = k .0 in
     let in-script = k .1 .0 in
@@ -46,13 +46,13 @@ part-run-group-end c = search needs
 
 run-group-requires : tie.Need-run-group-requires Inv-loop μ-loop
 unfolding bookIn
-run-group-requires c κs = 
+run-group-requires c κs =
     let inv = c .before .before .before .before .loop .inv in
     (record { evidence = inv .evidence; reachable = inv .soFar .reached }, part-few _ _ _ _ _ _ _ _ _ (inv .soFar) (c .before .before .before .loop-test .taken))
 
 write-answer-requires : tie.Need-write-answer-requires Inv-loop μ-loop
 unfolding bookIn
-write-answer-requires c κs = 
+write-answer-requires c κs =
     let inv = c .before .before .before .before .before .before .before .before .loop .inv in
     let some = c .before .before .before .before .before .before .before .loop-test .taken in
     let ran = c .before .before .before .run-group .ensures in
@@ -61,7 +61,7 @@ write-answer-requires c κs =
 
 add-at : tie.Need-add-at Inv-loop μ-loop
 unfolding bookIn
-add-at c = 
+add-at c =
     let inv = c .before .before .before .before .before .before .before .before .before .before .before .before .loop .inv in
     let some = c .before .before .before .before .before .before .before .before .before .before .before .loop-test .taken in
     let ran = c .before .before .before .before .before .before .before .run-group .ensures in
@@ -72,7 +72,7 @@ add-at c =
 
 loop-less : tie.Need-loop-less Inv-loop μ-loop
 unfolding bookIn
-loop-less c = 
+loop-less c =
     let inv = c .before .before .before .before .before .before .before .before .before .before .before .before .loop .inv in
     let some = c .before .before .before .before .before .before .before .before .before .before .before .loop-test .taken in
     let ran = c .before .before .before .before .before .before .before .run-group .ensures in
@@ -83,7 +83,7 @@ loop-less c =
 
 loop-again : tie.Need-loop-again Inv-loop μ-loop
 unfolding bookIn
-loop-again c = 
+loop-again c =
     let inv = c .before .before .before .before .before .before .before .before .before .before .before .before .loop .inv in
     let some = c .before .before .before .before .before .before .before .before .before .before .before .loop-test .taken in
     let ran = c .before .before .before .before .before .before .before .run-group .ensures in
@@ -95,7 +95,7 @@ same-length : tie.Need-same-length Inv-loop μ-loop
 same-length c = played-length _ _ _ _ _ _ _ _ _ (c .before .loop .inv .soFar)
 
 returns : tie.Need-returns Inv-loop μ-loop
-returns c = 
+returns c =
     let f = c .before .loop .inv .soFar in
     let gone = c .loop-test .left in
     (played-number _ _ _ _ _ _ _ _ _ f gone, (played-bytes _ _ _ _ _ _ _ _ _ f gone, played-within _ _ _ _ _ _ _ _ _ f))
