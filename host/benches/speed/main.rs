@@ -74,6 +74,7 @@ fn main() {
     row("load of 2,208 blocks", &scripts::long_load());
     row("60 migrations of 64 lines", &scripts::migrations());
     row("refusals", &scripts::refusals());
+    row("four lines", &scripts::four_lines());
     println!();
     println!("| season of so many lines | lines | bytes | library, ns a line | model, ns a line | ratio |");
     println!("|---|---|---|---|---|---|");

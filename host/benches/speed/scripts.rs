@@ -125,3 +125,8 @@ pub fn refusals() -> Vec<u8> {
     }
     text.into_bytes()
 }
+
+/// What an interactive caller sends: a book of one holder, and one query.
+pub fn four_lines() -> Vec<u8> {
+    b"book,1,0,1,0\nholder,1\nsink,1,0\nlimit,0,0\n".to_vec()
+}
