@@ -46,19 +46,26 @@ fn run_head(o: &[u64], f: &mut [u64], m: &mut [bool], head: Row, rest: &[u8]) ->
 {
     let kind = head.kind;
     let n = head.fields;
+    let a = n[0];
+    let b = n[1];
+    let c = n[2];
+    let d = n[3];
+    let e = n[4];
+    let g = n[5];
+    let h = n[6];
     match kind {
         LOAD => run_load(o, f, m, head, rest),
-        CARRY => of_one_line(carry(o, f, m, n[0], n[1], n[2])),
-        PRIOR => of_one_line(prior(o, f, m, n[0], n[1], n[2], n[3])),
-        VERIFY => of_one_line(verify(o, f, m, n[0], n[1], n[2], n[3], n[4], n[5], n[6])),
+        CARRY => of_one_line(carry(o, f, m, a, b, c)),
+        PRIOR => of_one_line(prior(o, f, m, a, b, c, d)),
+        VERIFY => of_one_line(verify(o, f, m, a, b, c, d, e, g, h)),
         MIGRATE => run_migrate(o, f, head, rest),
-        OPEN => of_one_line(open_tier(f, n[0])),
-        NOMINATE => of_one_line(nominate(o, f, n[0], n[1], n[2])),
-        AWARD => of_one_line(award(o, f, n[0], n[1], n[2])),
+        OPEN => of_one_line(open_tier(f, a)),
+        NOMINATE => of_one_line(nominate(o, f, a, b, c)),
+        AWARD => of_one_line(award(o, f, a, b, c)),
         CLOSE => of_one_line(close_tier(f)),
-        LIMIT => of_one_line(limit(o, f, n[0], n[1])),
-        HELD => of_one_line(held(o, f, n[0], n[1], n[2])),
-        NET => of_one_line(net(o, f, n[0], n[1])),
+        LIMIT => of_one_line(limit(o, f, a, b)),
+        HELD => of_one_line(held(o, f, a, b, c)),
+        NET => of_one_line(net(o, f, a, b)),
         _ => of_one_line(Answer::Refused(UNREADABLE)),
     }
 }

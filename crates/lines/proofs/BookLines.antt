@@ -16,15 +16,15 @@ use Rattle.lines.proofs.PairLaws.{rest-all, rest-rows}
 
 -- what pairs are, from the rows that they are read from
 module _ (kind n : ℕ) (s : List ℕ) (rows : List Row) (these : rowsOf s ≡ rows) where
-  pub complete-is : (x : Pairs) → x ≡ pairsOf kind n s → x .complete ≡ counted kind n (take n rows)
+  complete-is : (x : Pairs) → x ≡ pairsOf kind n s → x .complete ≡ counted kind n (take n rows)
   unfolding pairsOf rowsCounted
   complete-is x e = ap (λ y. y .complete) e ∙ ap (λ r. counted kind n (take n r)) these
 
-  pub firsts-are : (x : Pairs) → x ≡ pairsOf kind n s → x .firsts ≡ firstFields 0 (take n rows)
+  firsts-are : (x : Pairs) → x ≡ pairsOf kind n s → x .firsts ≡ firstFields 0 (take n rows)
   unfolding pairsOf rowsCounted
   firsts-are x e = ap (λ y. y .firsts) e ∙ ap (λ r. firstFields 0 (take n r)) these
 
-  pub seconds-are : (x : Pairs) → x ≡ pairsOf kind n s → x .seconds ≡ firstFields 1 (take n rows)
+  seconds-are : (x : Pairs) → x ≡ pairsOf kind n s → x .seconds ≡ firstFields 1 (take n rows)
   unfolding pairsOf rowsCounted
   seconds-are x e = ap (λ y. y .seconds) e ∙ ap (λ r. firstFields 1 (take n r)) these
 
@@ -48,7 +48,7 @@ module _ (s : List ℕ) (head : Row) where
   n3 = getD (head .fields) 3 0
 
   module _ (x y : Pairs) (readX : x ≡ pairsOf holderLine n0 s) (readY : y ≡ pairsOf sinkLine n2 (take (length s - x .consumed) (drop (x .consumed) s))) where
-    pub at-sinks : x .consumed ≡ bytesOfLines n0 s
+    at-sinks : x .consumed ≡ bytesOfLines n0 s
     at-sinks = consumed-is holderLine n0 s x readX
 
     pub at-paths : x .consumed + y .consumed ≡ bytesOfLines (n0 + n2) s

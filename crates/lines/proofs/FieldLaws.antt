@@ -1,53 +1,59 @@
 -- Laws of reading the fields of a line one after another: what is read so far, and what the next field makes of it. Assumes nothing.
-use Prim.Native.Nat.{ℕ, zero, suc, _+_, _-_, _≤_, _<_}
+use Prim.Native.Nat.{ℕ, suc, _+_, _-_, _≤_, _<_}
 use mathlib.Core.Path.{_≡_, refl, sym, ap, ap₂, _∙_}
-use mathlib.Core.Bool.{Bool, true, false, cond, _&&_}
+use mathlib.Core.Bool.{Bool, true, false, cond, _&&_, _||_}
 use mathlib.Core.List.{List, [], _∷_, _++_, map}
-use mathlib.Core.Logic.{⊎-elim}
-use native.Mathlib.Nat.{not-suc-le-zero}
+use mathlib.Core.Logic.{_⊎_, inl, inr, ⊎-elim}
 use native.Mathlib.Numerals.{add-one}
 use native.Mathlib.Omega.{arith}
-use borrow.Author.Tests.{le-leb, lt-leb, leb-true, ltb-true, ltb-false}
+use borrow.Author.Tests.{le-leb, lt-leb, leb-true, ltb-true, ltb-false, ne-eqb}
 use lib.ListN.{length, getD, take, drop, set, length-map, length-drop, drop-of-length-le, List·getD-eq-default, List·getD-append}
 use lib.Seq.{take-all, sets, sets-eq, length-sets, getD-append-add, getD-drop, drop-drop}
-use lib.Dec.{leb, ltb}
-use Rattle.tariff.specs.Sum.{listTo}
-use Rattle.tariff.proofs.Lists.{list-is}
+use lib.Dec.{eqb, leb, ltb}
+use Rattle.tariff.specs.Sum.{listTo, anyOf}
+use Rattle.tariff.proofs.Lists.{length-list-to, at-list-to, list-is}
 use Rattle.tariff.proofs.Tests.{decided, both-ways, and-both, and-left-false, and-right-false}
-use Rattle.lines.specs.declared.text.Numeral.{Numeral}
-use Rattle.lines.specs.declared.text.Numeral.the-variants.{No, Value}
+use Rattle.lines.specs.declared.text.Field.{Field}
 use Rattle.lines.specs.declared.rows.Fields.{Fields}
-use Rattle.lines.specs.Text.{comma, isNumber, valueOf}
-use Rattle.lines.specs.Rows.{allNumbers}
-use Rattle.lines.specs.Reading.{lengthUpTo, numeral, fieldsAfter, fieldsRead, noFields}
-use Rattle.lines.proofs.TextLaws.{up-to-le, fields-parted}
-use Rattle.lines.proofs.NumberLaws.{no-number, is-number}
+use Rattle.lines.specs.Text.{lineFeed, comma, isDigit, allDigits, maxDigits, isNumber, valueOf}
+use Rattle.lines.specs.Rows.{maxFields, allNumbers}
+use Rattle.lines.specs.Reading.{lengthUpTo, leading, leadingDigits, fieldAt, fieldsAfter, lineText, fieldEnds, hasFeed, fieldsIf, fieldsRead, noFields}
+use Rattle.lines.proofs.TextLaws.{at-byte}
+use Rattle.lines.proofs.LineFields.{fieldLength, firstField, first-length, line-fields, feed-after, up-to-after}
+use Rattle.lines.proofs.LeadingLaws.{leading-field, field-leading, field-goes-on}
+use Rattle.lines.proofs.NumberLaws.{digit-inside, digits-more, number-fits, field-valid, field-invalid}
 
--- seven numbers, none read yet
-abbrev pub zeros : List ℕ
-zeros = 0 ∷ 0 ∷ 0 ∷ 0 ∷ 0 ∷ 0 ∷ 0 ∷ []
+-- a part of a line up to its end
+pub rest-whole : (text : List ℕ) (from : ℕ) → take (length text - from) (drop from text) ≡ drop from text
+rest-whole text from = take-all (length text - from) (drop from text) (let left = length-drop from text in omega arith)
+
+-- no number read yet
+unfoldable pub zeros : List ℕ
+zeros = listTo maxFields (λ k. 0)
 
 -- fields and their numbers, none where a test fails
-unfoldable pub fieldsIf : Bool → ℕ → List ℕ → Fields
-fieldsIf test count numbers = cond test (record { readable = true; count = count; numbers = numbers }) noFields
+unfoldable pub fieldsWhere : Bool → ℕ → List ℕ → ℕ → Fields
+fieldsWhere test count numbers end = cond test (record { readable = true; count = count; numbers = numbers; end = end }) noFields
 
 -- what is read of fields after so many others, whose numbers are stored
-unfoldable pub readFrom : ℕ → List ℕ → List (List ℕ) → Fields
-readFrom count numbers fields = fieldsIf (allNumbers fields && leb (count + length fields) 7) (count + length fields) (sets numbers count (map valueOf fields))
+unfoldable pub restIf : Bool → ℕ → List ℕ → List (List ℕ) → ℕ → Fields
+restIf readable count numbers fields end = fieldsWhere (readable && allNumbers fields && leb (count + length fields) maxFields) (count + length fields) (sets numbers count (map valueOf fields)) end
+
+-- the same, from a place on
+unfoldable pub readFrom : ℕ → List ℕ → ℕ → List ℕ → Fields
+readFrom count numbers at bytes = restIf (fieldEnds bytes && hasFeed bytes) count numbers (fieldsAfter (lineText bytes)) (at + lengthUpTo lineFeed bytes)
+
+long : length zeros ≡ maxFields
+unfolding zeros
+long = length-list-to maxFields (λ k. 0)
 
 zeros-at : (k : ℕ) → getD zeros k 0 ≡ 0
-zeros-at zero = refl
-zeros-at (suc zero) = refl
-zeros-at (suc (suc zero)) = refl
-zeros-at (suc (suc (suc zero))) = refl
-zeros-at (suc (suc (suc (suc zero)))) = refl
-zeros-at (suc (suc (suc (suc (suc zero))))) = refl
-zeros-at (suc (suc (suc (suc (suc (suc zero)))))) = refl
-zeros-at (suc (suc (suc (suc (suc (suc (suc k))))))) = refl
+unfolding zeros
+zeros-at k = ⊎-elim (λ b. at-list-to {A = ℕ} maxFields (λ k. 0) 0 k (ltb-true k maxFields b)) (λ b. let past = ltb-false k maxFields b in List·getD-eq-default {A = ℕ} zeros 0 {n = k} (omega (arith, long))) (decided (ltb k maxFields))
 
 -- numbers stored from the first place on are the numbers, and 0 past the last
-stored : (values : List ℕ) → length values ≤ 7 → sets zeros 0 values ≡ listTo 7 (λ k. getD values k 0)
-stored values l = list-is 7 (λ k. getD values k 0) (sets zeros 0 values) (length-sets zeros 0 values) (λ k b. ap (λ xs. getD xs k 0) (sets-eq values zeros 0 (omega arith)) ∙ at k)
+stored : (values : List ℕ) → length values ≤ maxFields → sets zeros 0 values ≡ listTo maxFields (λ k. getD values k 0)
+stored values l = list-is maxFields (λ k. getD values k 0) (sets zeros 0 values) (length-sets zeros 0 values ∙ long) (λ k b. ap (λ xs. getD xs k 0) (sets-eq values zeros 0 (omega (arith, long))) ∙ at k)
   where
     at : (k : ℕ) → getD (values ++ drop (0 + length values) zeros) k 0 ≡ getD values k 0
     at k = ⊎-elim (λ b. List·getD-append values (drop (0 + length values) zeros) 0 k (ltb-true k (length values) b)) (λ b. past (ltb-false k (length values) b)) (decided (ltb k (length values)))
@@ -61,85 +67,136 @@ stored values l = list-is 7 (λ k. getD values k 0) (sets zeros 0 values) (lengt
             ∙ zeros-at (0 + length values + (k - length values))
             ∙ sym (List·getD-eq-default values 0 {n = k} b)
 
-pub reading-starts : (fields : List (List ℕ)) → fieldsRead fields ≡ readFrom 0 zeros fields
-unfolding fieldsRead readFrom fieldsIf
-reading-starts fields =
+started : (readable : Bool) (fields : List (List ℕ)) (end : ℕ) → fieldsIf readable fields end ≡ restIf readable 0 zeros fields end
+unfolding fieldsIf restIf fieldsWhere
+started readable fields end =
     let none : length fields ≡ 0 + length fields = omega arith in
-    go (allNumbers fields && leb (length fields) 7) refl
-    ∙ ap (λ n. fieldsIf (allNumbers fields && leb n 7) n (sets zeros 0 (map valueOf fields))) none
+    go (readable && allNumbers fields && leb (length fields) maxFields) refl
+    ∙ ap (λ n. fieldsWhere (readable && allNumbers fields && leb n maxFields) n (sets zeros 0 (map valueOf fields)) end) none
   where
-    go : (t : Bool) → (allNumbers fields && leb (length fields) 7) ≡ t → fieldsIf t (length fields) (listTo 7 (λ k. getD (map valueOf fields) k 0)) ≡ fieldsIf t (length fields) (sets zeros 0 (map valueOf fields))
+    go : (t : Bool) → (readable && allNumbers fields && leb (length fields) maxFields) ≡ t → fieldsWhere t (length fields) (listTo maxFields (λ k. getD (map valueOf fields) k 0)) end ≡ fieldsWhere t (length fields) (sets zeros 0 (map valueOf fields)) end
     go true e =
-        let few = leb-true (length fields) 7 (and-both (allNumbers fields) (leb (length fields) 7) e .1) in
+        let few = leb-true (length fields) maxFields (and-both (readable && allNumbers fields) (leb (length fields) maxFields) e .1) in
         let same = length-map fields valueOf in
-        ap (fieldsIf true (length fields)) (sym (stored (map valueOf fields) (omega arith)))
+        ap (λ ns. fieldsWhere true (length fields) ns end) (sym (stored (map valueOf fields) (omega arith)))
     go false e = refl
 
--- what stands after a line's word, if anything: a comma, a field, and what stands after that
-pub next-field : (left : List ℕ) → 0 < length left → fieldsAfter left ≡ take (lengthUpTo comma (drop 1 left)) (drop 1 left) ∷ fieldsAfter (drop (lengthUpTo comma (drop 1 left)) (drop 1 left))
-unfolding fieldsAfter
-next-field [] l = absurd (not-suc-le-zero l)
-next-field (b ∷ bytes) l = fields-parted bytes
+pub reading-starts : (start : ℕ) (bytes : List ℕ) → fieldsRead start bytes ≡ readFrom 0 zeros start bytes
+unfolding fieldsRead readFrom
+reading-starts start bytes = started (fieldEnds bytes && hasFeed bytes) (fieldsAfter (lineText bytes)) (start + lengthUpTo lineFeed bytes)
 
--- the same at an index of a line, with a field from the next index to its end
-pub field-at : (text : List ℕ) (at end : ℕ) → at < length text → end ≡ at + 1 + lengthUpTo comma (drop (at + 1) text) → fieldsAfter (drop at text) ≡ take (end - (at + 1)) (drop (at + 1) text) ∷ fieldsAfter (drop end text)
-field-at text at end l e =
-    let some : 0 < length (drop at text) = simp length-drop (omega arith) in
-    let width : lengthUpTo comma (drop (at + 1) text) ≡ end - (at + 1) = omega arith in
-    next-field (drop at text) some
-    ∙ ap (λ bytes. take (lengthUpTo comma bytes) bytes ∷ fieldsAfter (drop (lengthUpTo comma bytes) bytes)) (drop-drop 1 at text)
-    ∙ ap₂ (λ n bytes. take n (drop (at + 1) text) ∷ fieldsAfter bytes) width (drop-drop (lengthUpTo comma (drop (at + 1) text)) (at + 1) text ∙ ap (λ n. drop n text) (sym e))
+refused : (t : Bool) (count : ℕ) (numbers : List ℕ) (end : ℕ) → t ≡ false → fieldsWhere t count numbers end ≡ noFields
+unfolding fieldsWhere
+refused true count numbers end e = absurd (both-ways refl e)
+refused false count numbers end e = refl
 
--- a part of a line up to its end
-pub rest-whole : (text : List ℕ) (from : ℕ) → take (length text - from) (drop from text) ≡ drop from text
-rest-whole text from = take-all (length text - from) (drop from text) (let left = length-drop from text in omega arith)
+rest-refused : (readable : Bool) (count : ℕ) (numbers : List ℕ) (fields : List (List ℕ)) (end : ℕ) → readable ≡ false → restIf readable count numbers fields end ≡ noFields
+unfolding restIf
+rest-refused readable count numbers fields end e = refused _ _ _ end (and-left-false _ (and-left-false (allNumbers fields) e))
 
-pub field-fits : (text : List ℕ) (from width : ℕ) → from ≤ length text → width ≡ lengthUpTo comma (drop from text) → from + width ≤ length text
-field-fits text from width l e = let most = up-to-le comma (drop from text) in let left = length-drop from text in omega arith
+module _ (readable : Bool) (count : ℕ) (numbers : List ℕ) (field : List ℕ) (fields : List (List ℕ)) (end : ℕ) where
+  field-refused : isNumber field ≡ false → restIf readable count numbers (field ∷ fields) end ≡ noFields
+  unfolding restIf allNumbers
+  field-refused e = refused _ _ _ end (and-left-false _ (and-right-false readable (and-left-false (allNumbers fields) e)))
 
-module _ (count : ℕ) (numbers : List ℕ) (field : List ℕ) (fields : List (List ℕ)) where
-  refused : (t : Bool) → t ≡ false → fieldsIf t (count + length (field ∷ fields)) (sets numbers count (map valueOf (field ∷ fields))) ≡ noFields
-  unfolding fieldsIf
-  refused true e = absurd (both-ways refl e)
-  refused false e = refl
+  one-too-many : count ≡ maxFields → restIf readable count numbers (field ∷ fields) end ≡ noFields
+  unfolding restIf allNumbers
+  one-too-many e = refused _ _ _ end (and-right-false (readable && (isNumber field && allNumbers fields)) (lt-leb (count + suc (length fields)) maxFields (omega arith)))
 
-  pub field-refused : isNumber field ≡ false → readFrom count numbers (field ∷ fields) ≡ noFields
-  unfolding readFrom allNumbers
-  field-refused e = refused ((isNumber field && allNumbers fields) && leb (count + length (field ∷ fields)) 7) (and-left-false _ (and-left-false (allNumbers fields) e))
-
-  pub eighth-refused : count ≡ 7 → readFrom count numbers (field ∷ fields) ≡ noFields
-  unfolding readFrom allNumbers
-  eighth-refused e = refused ((isNumber field && allNumbers fields) && leb (count + length (field ∷ fields)) 7) (and-right-false (isNumber field && allNumbers fields) (lt-leb (count + suc (length fields)) 7 (omega arith)))
-
-  pub field-more : isNumber field ≡ true → readFrom count numbers (field ∷ fields) ≡ readFrom (count + 1) (set numbers count (valueOf field)) fields
-  unfolding readFrom allNumbers
+  field-more : isNumber field ≡ true → restIf readable count numbers (field ∷ fields) end ≡ restIf readable (count + 1) (set numbers count (valueOf field)) fields end
+  unfolding restIf allNumbers
   field-more e =
       let one : count + suc (length fields) ≡ count + 1 + length fields = omega arith in
-      ap (λ t. fieldsIf ((t && allNumbers fields) && leb (count + suc (length fields)) 7) (count + suc (length fields)) (sets (set numbers count (valueOf field)) (suc count) (map valueOf fields))) e
-      ∙ ap₂ (λ n k. fieldsIf (allNumbers fields && leb n 7) n (sets (set numbers count (valueOf field)) k (map valueOf fields))) one (sym (add-one count))
+      ap (λ t. fieldsWhere (readable && (t && allNumbers fields) && leb (count + suc (length fields)) maxFields) (count + suc (length fields)) (sets (set numbers count (valueOf field)) (suc count) (map valueOf fields)) end) e
+      ∙ ap₂ (λ n k. fieldsWhere (readable && allNumbers fields && leb n maxFields) n (sets (set numbers count (valueOf field)) k (map valueOf fields)) end) one (sym (add-one count))
 
-pub reading-ends : (count : ℕ) (numbers : List ℕ) → count ≤ 7 → readFrom count numbers [] ≡ record { readable = true; count = count; numbers = numbers }
-unfolding readFrom allNumbers fieldsIf
-reading-ends count numbers l =
+reading-ends : (count : ℕ) (numbers : List ℕ) (at : ℕ) → count ≤ maxFields → restIf true count numbers [] (at + 0) ≡ record { readable = true; count = count; numbers = numbers; end = at }
+unfolding restIf allNumbers fieldsWhere
+reading-ends count numbers at l =
     let none : count + 0 ≡ count = omega arith in
-    ap (λ n. fieldsIf (leb n 7) n numbers) none ∙ ap (λ t. fieldsIf t count numbers) (le-leb count 7 l)
+    let here : at + 0 ≡ at = omega arith in
+    ap₂ (λ n k. fieldsWhere (leb n maxFields) n numbers k) none here ∙ ap (λ t. fieldsWhere t count numbers at) (le-leb count maxFields l)
+
+-- a line at a comma: the field after it, and what stands after that
+module _ (count : ℕ) (numbers : List ℕ) (at : ℕ) (bytes : List ℕ) where
+  end : ℕ
+  end = at + suc (lengthUpTo lineFeed bytes)
+
+  at-comma : readFrom count numbers at (comma ∷ bytes) ≡ restIf (hasFeed bytes) count numbers (firstField bytes ∷ fieldsAfter (lineText (drop (fieldLength bytes) bytes))) end
+  unfolding readFrom fieldEnds hasFeed anyOf lineText lengthUpTo fieldsAfter end
+  at-comma = ap (λ fields. restIf (hasFeed bytes) count numbers fields end) (line-fields bytes)
+
+  comma-too-many : count ≡ maxFields → readFrom count numbers at (comma ∷ bytes) ≡ noFields
+  comma-too-many e = at-comma ∙ one-too-many _ count numbers _ _ _ e
+
+  -- digits that are no number are no field
+  comma-no-number : isNumber (leadingDigits bytes) ≡ false → readFrom count numbers at (comma ∷ bytes) ≡ noFields
+  unfolding leadingDigits
+  comma-no-number e = at-comma ∙ field-refused _ count numbers _ _ _ (go (decided (isNumber (firstField bytes))))
+    where
+      go : (isNumber (firstField bytes) ≡ true) ⊎ (isNumber (firstField bytes) ≡ false) → isNumber (firstField bytes) ≡ false
+      go (inl is) = absurd (both-ways (ap isNumber (field-leading isDigit digit-inside allDigits digits-more maxDigits bytes (number-fits (firstField bytes) is)) ∙ is) e)
+      go (inr none) = none
+
+  -- a field that goes on after its digits is no number
+  number-ends : fieldEnds (drop (length (leading isDigit maxDigits bytes)) bytes) ≡ false → isNumber (firstField bytes) ≡ false
+  number-ends q = go (decided (isNumber (firstField bytes)))
+    where
+      go : (isNumber (firstField bytes) ≡ true) ⊎ (isNumber (firstField bytes) ≡ false) → isNumber (firstField bytes) ≡ false
+      go (inl is) = absurd (both-ways (number-fits (firstField bytes) is) (field-goes-on isDigit digit-inside allDigits digits-more maxDigits bytes q))
+      go (inr none) = none
+
+  comma-number : isNumber (leadingDigits bytes) ≡ true → readFrom count numbers at (comma ∷ bytes) ≡ readFrom (count + 1) (set numbers count (valueOf (leadingDigits bytes))) (at + 1 + length (leadingDigits bytes)) (drop (length (leadingDigits bytes)) bytes)
+  unfolding readFrom leadingDigits end
+  comma-number e = go (fieldEnds (drop (length digits) bytes)) refl
+    where
+      digits : List ℕ
+      digits = leading isDigit maxDigits bytes
+
+      go : (t : Bool) → fieldEnds (drop (length digits) bytes) ≡ t → readFrom count numbers at (comma ∷ bytes) ≡ restIf (fieldEnds (drop (length digits) bytes) && hasFeed (drop (length digits) bytes)) (count + 1) (set numbers count (valueOf digits)) (fieldsAfter (lineText (drop (length digits) bytes))) (at + 1 + length digits + lengthUpTo lineFeed (drop (length digits) bytes))
+      go true q =
+          let same : digits ≡ firstField bytes = leading-field isDigit digit-inside allDigits digits-more maxDigits bytes q in
+          let width : fieldLength bytes ≡ length digits = sym (ap length same ∙ first-length bytes) in
+          let line = up-to-after bytes ∙ ap (λ n. n + lengthUpTo lineFeed (drop n bytes)) width in
+          let place : end ≡ at + 1 + length digits + lengthUpTo lineFeed (drop (length digits) bytes) = omega arith in
+          at-comma
+          ∙ ap₂ (λ field n. restIf (hasFeed bytes) count numbers (field ∷ fieldsAfter (lineText (drop n bytes))) end) (sym same) width
+          ∙ field-more (hasFeed bytes) count numbers digits _ _ e
+          ∙ ap₂ (λ t n. restIf t (count + 1) (set numbers count (valueOf digits)) (fieldsAfter (lineText (drop (length digits) bytes))) n) (feed-after bytes ∙ ap (λ n. hasFeed (drop n bytes)) width ∙ sym (ap (λ t. t && hasFeed (drop (length digits) bytes)) q)) place
+      go false q = at-comma ∙ field-refused _ count numbers _ _ _ (number-ends q) ∙ sym (rest-refused _ _ _ _ _ (and-left-false _ q))
 
 -- a turn of the reading: from one comma of a line to the next
-module _ (text : List ℕ) (start at end count : ℕ) (numbers : List ℕ) (n : Numeral) (passed : fieldsRead (fieldsAfter (drop start text)) ≡ readFrom count numbers (fieldsAfter (drop at text))) (more : at < length text) (ends : end ≡ at + 1 + lengthUpTo comma (drop (at + 1) text)) (found : n ≡ numeral (take (end - (at + 1)) (drop (at + 1) text))) where
-  here : fieldsRead (fieldsAfter (drop start text)) ≡ readFrom count numbers (take (end - (at + 1)) (drop (at + 1) text) ∷ fieldsAfter (drop end text))
-  here = passed ∙ ap (readFrom count numbers) (field-at text at end more ends)
+module _ (rest : List ℕ) (start at count : ℕ) (numbers : List ℕ) (passed : fieldsRead start (drop start rest) ≡ readFrom count numbers at (drop at rest)) where
+  here : (b : ℕ) → at < length rest → getD rest at 0 ≡ b → fieldsRead start (drop start rest) ≡ readFrom count numbers at (b ∷ drop (at + 1) rest)
+  here b l e = passed ∙ at-byte (readFrom count numbers at) rest at l ∙ ap (λ b. readFrom count numbers at (b ∷ drop (at + 1) rest)) e
 
-  pub stops-at-none : n ≡ No → noFields ≡ fieldsRead (fieldsAfter (drop start text))
-  stops-at-none e = sym (here ∙ field-refused count numbers _ _ (no-number _ (sym found ∙ e)))
+  pub line-ends : at < length rest → getD rest at 0 ≡ lineFeed → count ≤ maxFields → record { readable = true; count = count; numbers = numbers; end = at } ≡ fieldsRead start (drop start rest)
+  unfolding readFrom fieldEnds hasFeed anyOf lineText lengthUpTo fieldsAfter
+  line-ends l e few = sym (here lineFeed l e ∙ reading-ends count numbers at few)
 
-  pub stops-at-eighth : count ≡ 7 → noFields ≡ fieldsRead (fieldsAfter (drop start text))
-  stops-at-eighth e = sym (here ∙ eighth-refused count numbers _ _ e)
+  pub stops-at-byte : at < length rest → (getD rest at 0 ≡ lineFeed → ⊥) → (getD rest at 0 ≡ comma → ⊥) → noFields ≡ fieldsRead start (drop start rest)
+  unfolding readFrom fieldEnds
+  stops-at-byte l p q =
+      let b = getD rest at 0 in
+      let other : (eqb b comma || eqb b lineFeed) ≡ false = rw (ne-eqb b comma q, ne-eqb b lineFeed p) in
+      sym (here b l refl ∙ rest-refused _ count numbers _ _ (and-left-false _ other))
 
-  pub goes-on : (v : ℕ) → n ≡ Value v → fieldsRead (fieldsAfter (drop start text)) ≡ readFrom (count + 1) (set numbers count v) (fieldsAfter (drop end text))
-  goes-on v e =
-      let number = is-number _ v (sym found ∙ e) in
-      here ∙ field-more count numbers _ _ (number .0) ∙ ap (λ x. readFrom (count + 1) (set numbers count x) (fieldsAfter (drop end text))) (number .1)
+  pub stops-at-end : length rest ≤ at → noFields ≡ fieldsRead start (drop start rest)
+  unfolding readFrom hasFeed anyOf
+  stops-at-end l = sym (passed ∙ ap (readFrom count numbers at) (drop-of-length-le rest l) ∙ rest-refused _ count numbers _ _ (and-right-false (fieldEnds []) refl))
 
-pub all-read : (text : List ℕ) (start at count : ℕ) (numbers : List ℕ) → fieldsRead (fieldsAfter (drop start text)) ≡ readFrom count numbers (fieldsAfter (drop at text)) → length text ≤ at → count ≤ 7 → record { readable = true; count = count; numbers = numbers } ≡ fieldsRead (fieldsAfter (drop start text))
-unfolding fieldsAfter
-all-read text start at count numbers passed l few = sym (passed ∙ ap (λ bytes. readFrom count numbers (fieldsAfter bytes)) (drop-of-length-le text l) ∙ reading-ends count numbers few)
+  module _ (l : at < length rest) (e : getD rest at 0 ≡ comma) where
+    pub stops-at-many : count ≡ maxFields → noFields ≡ fieldsRead start (drop start rest)
+    stops-at-many m = sym (here comma l e ∙ comma-too-many count numbers at _ m)
+
+    module _ (f : Field) (read : f ≡ fieldAt (at + 1) (drop (at + 1) rest)) where
+      pub stops-at-none : f .valid ≡ false → noFields ≡ fieldsRead start (drop start rest)
+      stops-at-none v = sym (here comma l e ∙ comma-no-number count numbers at _ (field-invalid _ _ f read v))
+
+      pub goes-on : f .valid ≡ true → fieldsRead start (drop start rest) ≡ readFrom (count + 1) (set numbers count (f .value)) (f .end) (drop (f .end) rest)
+      goes-on v =
+          let number = field-valid _ _ f read v in
+          here comma l e
+          ∙ comma-number count numbers at (drop (at + 1) rest) (number .0)
+          ∙ ap (readFrom (count + 1) (set numbers count (valueOf (leadingDigits (drop (at + 1) rest)))) (at + 1 + length (leadingDigits (drop (at + 1) rest)))) (drop-drop _ (at + 1) rest)
+          ∙ ap₂ (λ x n. readFrom (count + 1) (set numbers count x) n (drop n rest)) (sym (number .1)) (sym (number .2))

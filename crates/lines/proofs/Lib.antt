@@ -1,9 +1,11 @@
 pub mod TextLaws
+pub mod LineFields
+pub mod LeadingLaws
 pub mod NumberLaws
 pub mod WordLaws
 pub mod FieldLaws
-pub mod ReadRowLaws
 pub mod NextRowLaws
+pub mod ReadRowLaws
 pub mod RowSteps
 pub mod LineBytes
 pub mod KeptFields

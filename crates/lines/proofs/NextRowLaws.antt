@@ -1,6 +1,7 @@
--- Laws of the next line: a script's rows are the next line's and those of the bytes after it, and every number of a row has at most nine digits. Assumes nothing.
+-- Laws of the next line: its bytes and its row, and a script's rows, which are the next line's and those of the bytes after it. Assumes nothing.
 use Prim.Native.Nat.{ℕ, suc, _+_, _≤_, _<_}
-use mathlib.Core.Path.{_≡_, refl, sym, ap, ap₂, _∙_, subst}
+use mathlib.Core.Path.{_≡_, refl, sym, ap, _∙_, subst}
+use mathlib.Core.Bool.{true, false}
 use mathlib.Core.List.{List, [], _∷_, map}
 use mathlib.Core.Logic.{⊎-elim}
 use native.Mathlib.Omega.{arith}
@@ -9,31 +10,38 @@ use lib.ListN.{length, take, drop, length-map}
 use lib.Seq.{length-take-le, drop-length}
 use lib.Dec.{ltb}
 use Rattle.tariff.proofs.Tests.{decided}
-use Rattle.lines.specs.declared.rows.Row.{Row}
-use Rattle.lines.specs.declared.lines.NextRow.{NextRow}
 use Rattle.lines.specs.Text.{lineFeed, Line, ended, unended, linesOf, fieldsOf}
-use Rattle.lines.specs.Rows.{row, unreadableRow, rowOfFields, rowOf, rowsOf}
-use Rattle.lines.specs.Reading.{lengthUpTo, firstRow, firstBytes, nextRow}
+use Rattle.lines.specs.Rows.{unreadableRow, rowOfFields, rowOf, rowsOf}
+use Rattle.lines.specs.Reading.{lengthUpTo, lineText, hasFeed, firstRow, firstBytes, nextRow}
 use Rattle.lines.proofs.TextLaws.{up-to-le, line-ended, line-unended}
-
--- a row, and the bytes that its line takes
-nextOf : Row → ℕ → NextRow
-nextOf r n = record { row = r; used = n }
+use Rattle.lines.proofs.LineFields.{feed-found, no-feed}
 
 -- the next line has an end
-pub ended-next : (rest : List ℕ) (n : ℕ) (r : Row) → n ≡ lengthUpTo lineFeed rest → n < length rest → r ≡ rowOfFields (fieldsOf (take n rest)) → record { row = r; used = n + 1 } ≡ nextRow rest
-unfolding nextRow firstRow firstBytes rowOf nextOf
-ended-next rest n r e l q =
-    let at : linesOf rest ≡ ended (take n rest) ∷ linesOf (drop (suc n) rest) = line-ended rest (omega arith) ∙ ap (λ k. ended (take k rest) ∷ linesOf (drop (suc k) rest)) (sym e) in
-    ap₂ nextOf q (ap (λ k. k + 1) (sym (length-take-le n rest (omega arith)))) ∙ sym (ap (λ lines. nextOf (firstRow lines) (firstBytes lines)) at)
+module _ (rest : List ℕ) (n : ℕ) (e : n ≡ lengthUpTo lineFeed rest) (l : n < length rest) where
+  first-ended : linesOf rest ≡ ended (take n rest) ∷ linesOf (drop (suc n) rest)
+  first-ended = line-ended rest (omega arith) ∙ ap (λ k. ended (take k rest) ∷ linesOf (drop (suc k) rest)) (sym e)
+
+  pub ended-bytes : n + 1 ≡ firstBytes (linesOf rest)
+  unfolding firstBytes
+  ended-bytes = sym (ap firstBytes first-ended ∙ ap (λ k. k + 1) (length-take-le n rest (omega arith)))
 
 -- no LF is left
-pub unended-next : (rest : List ℕ) (n : ℕ) (r : Row) → n ≡ lengthUpTo lineFeed rest → length rest ≤ n → r ≡ unreadableRow → record { row = r; used = n } ≡ nextRow rest
-unfolding nextRow firstRow firstBytes rowOf nextOf linesOf
-unended-next [] n r e l q = let none = up-to-le lineFeed [] in ap₂ nextOf q (let z : n ≡ 0 = omega arith in z)
-unended-next (b ∷ bytes) n r e l q =
+pub unended-bytes : (rest : List ℕ) (n : ℕ) → n ≡ lengthUpTo lineFeed rest → length rest ≤ n → n ≡ firstBytes (linesOf rest)
+unfolding firstBytes linesOf
+unended-bytes [] n e l = let none = up-to-le lineFeed [] in omega arith
+unended-bytes (b ∷ bytes) n e l =
     let most = up-to-le lineFeed (b ∷ bytes) in
-    ap₂ nextOf q (let all : n ≡ length (b ∷ bytes) = omega arith in all) ∙ sym (ap (λ lines. nextOf (firstRow lines) (firstBytes lines)) (line-unended b bytes (omega arith)))
+    let all : n ≡ length (b ∷ bytes) = omega arith in
+    all ∙ sym (ap firstBytes (line-unended b bytes (omega arith)))
+
+pub ended-row : (rest : List ℕ) → hasFeed rest ≡ true → firstRow (linesOf rest) ≡ rowOfFields (fieldsOf (lineText rest))
+unfolding firstRow rowOf lineText
+ended-row rest e = ap firstRow (line-ended rest (feed-found rest e))
+
+pub unended-row : (rest : List ℕ) → hasFeed rest ≡ false → firstRow (linesOf rest) ≡ unreadableRow
+unfolding firstRow rowOf linesOf
+unended-row [] e = refl
+unended-row (b ∷ bytes) e = ap firstRow (line-unended b bytes (no-feed (b ∷ bytes) e))
 
 -- the lines of a script are the first one and those of the bytes after it
 data FirstOf : List ℕ → Type 0 where

@@ -156,7 +156,7 @@ module _ (s : List ℕ) (kind count k consumed : ℕ) (complete : Bool) (firsts 
 
   -- the first k rows are those that are counted
   module _ (all : take k (rowsOf s) ≡ rowsCounted count s) (last : bytesOfLines k s ≡ bytesOfLines count s) where
-    pub pairs-read : (whole : Bool) → whole ≡ counted kind count (rowsCounted count s) → _≡_ {A = Pairs} (record { complete = whole; consumed = consumed; firsts = firsts; seconds = seconds }) (pairsOf kind count s)
+    pairs-read : (whole : Bool) → whole ≡ counted kind count (rowsCounted count s) → _≡_ {A = Pairs} (record { complete = whole; consumed = consumed; firsts = firsts; seconds = seconds }) (pairsOf kind count s)
     unfolding pairsOf
     pairs-read whole e = λ i. record { complete = e i; consumed = (f .bytes ∙ last) i; firsts = (f .first ∙ ap (firstFields 0) all) i; seconds = (f .second ∙ ap (firstFields 1) all) i }
 

@@ -1,71 +1,170 @@
 -- Laws of a line's row: what its word and the fields read after it make of it. Assumes nothing.
-use Prim.Native.Nat.{ℕ}
-use mathlib.Core.Path.{_≡_, refl, sym, ap, _∙_}
+use Prim.Native.Nat.{ℕ, _+_, _≤_, _<_}
+use mathlib.Core.Path.{_≡_, refl, sym, ap, ap₂, _∙_}
 use mathlib.Core.Bool.{Bool, true, false, cond, _&&_}
 use mathlib.Core.List.{List, _∷_, map}
+use mathlib.Core.Logic.{_⊎_, inl, inr}
 use native.Mathlib.Omega.{arith}
-use borrow.Author.Tests.{eq-eqb, ne-eqb, leb-false}
-use lib.ListN.{length, getD, take, drop}
-use lib.Seq.{length-take-le}
-use lib.Dec.{eqb, leb}
+use borrow.Author.Tests.{eq-eqb, ne-eqb, leb-true, leb-false, le-leb}
+use lib.ListN.{length, getD, drop}
+use lib.Dec.{leb}
 use Rattle.tariff.specs.Sum.{listTo}
-use Rattle.tariff.proofs.Tests.{both-ways}
+use Rattle.tariff.proofs.Tests.{decided, both-ways, and-both, and-join}
+use Rattle.lines.specs.declared.text.Token.{Token}
 use Rattle.lines.specs.declared.rows.Fields.{Fields}
-use Rattle.lines.specs.Text.{comma, fieldsOf, valueOf}
-use Rattle.lines.specs.Rows.{kindOf, allNumbers, row, unreadableRow, rowIf, rowOfFields}
-use Rattle.lines.specs.Reading.{lengthUpTo, fieldsAfter, fieldsRead, noFields}
-use Rattle.lines.proofs.TextLaws.{up-to-le, fields-parted}
-use Rattle.lines.proofs.WordLaws.{no-form}
-use Rattle.lines.proofs.FieldLaws.{fieldsIf}
-
--- a line's row is that of its word and what is read after it
-pub row-parted : (text : List ℕ) (n : ℕ) → n ≡ lengthUpTo comma text → rowOfFields (fieldsOf text) ≡ rowOfFields (take n text ∷ fieldsAfter (drop n text))
-row-parted text n e = ap rowOfFields (fields-parted text ∙ ap (λ k. take k text ∷ fieldsAfter (drop k text)) (sym e))
-
-pub word-fits : (stop : ℕ) (text : List ℕ) (n : ℕ) → n ≡ lengthUpTo stop text → n ≡ length (take n text)
-word-fits stop text n e = let most = up-to-le stop text in sym (length-take-le n text (omega arith))
+use Rattle.lines.specs.Text.{lineFeed, linesOf, fieldsOf, valueOf}
+use Rattle.lines.specs.Rows.{maxFields, kindOf, allNumbers, row, unreadableRow, rowIf, rowOfFields}
+use Rattle.lines.specs.Reading.{lengthUpTo, leading, fieldsAfter, lineText, fieldEnds, hasFeed, fieldsIf, fieldsRead, noFields, firstRow, firstBytes, nextRow, unreadableLine}
+use Rattle.lines.specs.Words.{maxLetters, isLetter, allLetters, letterKey, keyLimit, leadingLetters, wordAt, isWord, wordKey}
+use Rattle.lines.proofs.LineFields.{fieldLength, firstField, first-length, line-fields, feed-after, up-to-after, feed-found}
+use Rattle.lines.proofs.LeadingLaws.{leading-few, leading-all, leading-field, field-goes-on}
+use Rattle.lines.proofs.WordLaws.{letter-inside, letters-none, letters-more, key-small, no-form, no-word}
+use Rattle.lines.proofs.NextRowLaws.{ended-bytes, ended-row, unended-row}
 
 -- the values of fields, 0 past the last
 values : List (List ℕ) → List ℕ
-values fields = listTo 7 (λ k. getD (map valueOf fields) k 0)
+values fields = listTo maxFields (λ k. getD (map valueOf fields) k 0)
 
-module _ (word : List ℕ) (fields : List (List ℕ)) where
-  -- a field that is no number, or an eighth, leaves a line unreadable
-  unread : (f : Fields) → f ≡ fieldsRead fields → f .readable ≡ false → unreadableRow ≡ rowOfFields (word ∷ fields)
-  unfolding fieldsRead fieldsIf noFields rowOfFields rowIf values
-  unread f e r = go (allNumbers fields) (leb (length fields) 7) refl (sym (ap (λ x. x .readable) e) ∙ r)
+-- a row of no kind
+no-kind : (kind : ℕ) (numbers : List ℕ) → 0 ≡ kind → rowIf kind numbers ≡ unreadableRow
+unfolding rowIf
+no-kind kind numbers e = ap (λ t. cond t unreadableRow (row kind numbers)) (eq-eqb kind 0 (sym e))
+
+no-row : (word : List ℕ) (fields : List (List ℕ)) → 0 ≡ kindOf word (length fields) → rowOfFields (word ∷ fields) ≡ unreadableRow
+unfolding rowOfFields
+no-row word fields e = go (allNumbers fields)
+  where
+    go : (t : Bool) → cond t (rowIf (kindOf word (length fields)) (map valueOf fields)) unreadableRow ≡ unreadableRow
+    go true = no-kind (kindOf word (length fields)) (map valueOf fields) e
+    go false = refl
+
+-- what the reading of fields tells
+record Readable (readable : Bool) (fields : List (List ℕ)) (end : ℕ) (f : Fields) : Type 0 where
+  before-feed : readable ≡ true
+  all-numbers : allNumbers fields ≡ true
+  few : length fields ≤ maxFields
+  counted : f .count ≡ length fields
+  valued : f .numbers ≡ values fields
+  ended : f .end ≡ end
+
+module _ (readable : Bool) (fields : List (List ℕ)) (end : ℕ) (f : Fields) (read : f ≡ fieldsIf readable fields end) where
+  found : Bool → Fields
+  found t = cond t (record { readable = true; count = length fields; numbers = values fields; end = end }) noFields
+
+  are-readable : f .readable ≡ true → Readable readable fields end f
+  unfolding fieldsIf noFields values found
+  are-readable r = go (readable && allNumbers fields && leb (length fields) maxFields) refl read
     where
-      go : (a b : Bool) → leb (length fields) 7 ≡ b → fieldsIf (a && b) (length fields) (values fields) .readable ≡ false → unreadableRow ≡ cond a (rowIf (kindOf word (length fields)) (map valueOf fields)) unreadableRow
-      go false b q r = refl
-      go true true q r = absurd (both-ways refl r)
-      go true false q r = ap (λ k. rowIf k (map valueOf fields)) (no-form word (length fields) (leb-false (length fields) 7 q))
+      go : (t : Bool) → (readable && allNumbers fields && leb (length fields) maxFields) ≡ t → f ≡ found t → Readable readable fields end f
+      go true e q =
+          let both = and-both (readable && allNumbers fields) (leb (length fields) maxFields) e in
+          let parts = and-both readable (allNumbers fields) (both .0) in
+          record { before-feed = parts .0; all-numbers = parts .1; few = leb-true (length fields) maxFields (both .1); counted = ap (λ g. g .count) q; valued = ap (λ g. g .numbers) q; ended = ap (λ g. g .end) q }
+      go false e q = absurd (both-ways (sym (ap (λ g. g .readable) q) ∙ r) refl)
 
-  -- otherwise its kind is that of its word and count of fields
-  taken : (f : Fields) (kind : ℕ) → f ≡ fieldsRead fields → f .readable ≡ true → kind ≡ kindOf word (f .count) → rowOfFields (word ∷ fields) ≡ cond (eqb kind 0) unreadableRow (record { kind = kind; fields = f .numbers })
-  unfolding fieldsRead fieldsIf noFields rowOfFields rowIf row values
-  taken f kind e r k = go (allNumbers fields) (leb (length fields) 7) (sym (ap (λ x. x .readable) e) ∙ r) (ap (λ x. x .count) e) (ap (λ x. x .numbers) e)
+  -- the fields of a line with an LF are no row's
+  are-unreadable : (word : List ℕ) → readable ≡ true → f .readable ≡ false → rowOfFields (word ∷ fields) ≡ unreadableRow
+  unfolding fieldsIf noFields rowOfFields values found
+  are-unreadable word r u = go (allNumbers fields) (leb (length fields) maxFields) refl (read ∙ ap (λ t. found (t && allNumbers fields && leb (length fields) maxFields)) r)
     where
-      go : (a b : Bool) → fieldsIf (a && b) (length fields) (values fields) .readable ≡ true → f .count ≡ fieldsIf (a && b) (length fields) (values fields) .count → f .numbers ≡ fieldsIf (a && b) (length fields) (values fields) .numbers → cond a (rowIf (kindOf word (length fields)) (map valueOf fields)) unreadableRow ≡ cond (eqb kind 0) unreadableRow (record { kind = kind; fields = f .numbers })
-      go false b r c n = absurd (both-ways r refl)
-      go true false r c n = absurd (both-ways r refl)
-      go true true r c n =
-          ap (λ q. rowIf q (map valueOf fields)) (sym (k ∙ ap (kindOf word) c))
-          ∙ ap (λ ns. cond (eqb kind 0) unreadableRow (record { kind = kind; fields = ns })) (sym n)
+      go : (a b : Bool) → leb (length fields) maxFields ≡ b → f ≡ found (a && b) → cond a (rowIf (kindOf word (length fields)) (map valueOf fields)) unreadableRow ≡ unreadableRow
+      go false b q e = refl
+      go true false q e = no-kind (kindOf word (length fields)) (map valueOf fields) (no-form word (length fields) (leb-false (length fields) maxFields q))
+      go true true q e = absurd (both-ways (ap (λ g. g .readable) e) u)
 
-module _ (text : List ℕ) (n : ℕ) (f : Fields) (parted : n ≡ lengthUpTo comma text) (read : f ≡ fieldsRead (fieldsAfter (drop n text))) where
-  pub fields-unread : f .readable ≡ false → unreadableRow ≡ rowOfFields (fieldsOf text)
-  fields-unread r = unread (take n text) (fieldsAfter (drop n text)) f read r ∙ sym (row-parted text n parted)
+-- a line whose word is read, and its fields after that
+module _ (rest : List ℕ) (word : Token) (f : Fields) (spelt : word ≡ wordAt rest) (read : f ≡ fieldsRead (word .end) (drop (word .end) rest)) where
+  letters : List ℕ
+  letters = leading isLetter maxLetters rest
 
-  pub word-unknown : (kind : ℕ) → f .readable ≡ true → kind ≡ kindOf (take n text) (f .count) → kind ≡ 0 → unreadableRow ≡ rowOfFields (fieldsOf text)
-  word-unknown kind r k z =
-      sym
-      (row-parted text n parted
-      ∙ taken (take n text) (fieldsAfter (drop n text)) f kind read r k
-      ∙ ap (λ t. cond t unreadableRow (record { kind = kind; fields = f .numbers })) (eq-eqb kind 0 z))
+  bytes : List ℕ
+  bytes = drop (length letters) rest
 
-  pub row-read : (kind : ℕ) → f .readable ≡ true → kind ≡ kindOf (take n text) (f .count) → (kind ≡ 0 → ⊥) → record { kind = kind; fields = f .numbers } ≡ rowOfFields (fieldsOf text)
-  row-read kind r k z =
-      sym
-      (row-parted text n parted
-      ∙ taken (take n text) (fieldsAfter (drop n text)) f kind read r k
-      ∙ ap (λ t. cond t unreadableRow (record { kind = kind; fields = f .numbers })) (ne-eqb kind 0 z))
+  fields : List (List ℕ)
+  fields = fieldsAfter (lineText bytes)
+
+  read-there : f ≡ fieldsIf (fieldEnds bytes && hasFeed bytes) fields (length letters + lengthUpTo lineFeed bytes)
+  unfolding wordAt leadingLetters fieldsRead letters bytes fields
+  read-there = read ∙ ap (λ n. fieldsRead n (drop n rest)) (ap (λ t. t .end) spelt)
+
+  pub key-fits : word .value < keyLimit
+  key-fits = let small = key-small rest in let same = ap (λ t. t .value) spelt in omega arith
+
+  key-of : word .value ≡ wordKey letters
+  unfolding wordAt leadingLetters wordKey isWord letters
+  key-of =
+      ap (λ t. t .value) spelt
+      ∙ sym (ap (λ t. cond t (letterKey letters) 0) (and-join (le-leb (length letters) maxLetters (leading-few isLetter maxLetters rest)) (leading-all isLetter allLetters letters-none letters-more maxLetters rest)))
+
+  -- the word ends with a field
+  module _ (ends : fieldEnds bytes ≡ true) where
+    same : letters ≡ firstField rest
+    unfolding letters bytes
+    same = leading-field isLetter letter-inside allLetters letters-more maxLetters rest ends
+
+    width : fieldLength rest ≡ length letters
+    width = sym (ap length same ∙ first-length rest)
+
+    parted : fieldsOf (lineText rest) ≡ letters ∷ fields
+    unfolding fields bytes
+    parted = line-fields rest ∙ ap₂ (λ field n. field ∷ fieldsAfter (lineText (drop n rest))) (sym same) width
+
+    fed : hasFeed rest ≡ hasFeed bytes
+    unfolding bytes
+    fed = feed-after rest ∙ ap (λ n. hasFeed (drop n rest)) width
+
+    feed-at : lengthUpTo lineFeed rest ≡ length letters + lengthUpTo lineFeed bytes
+    unfolding bytes
+    feed-at = up-to-after rest ∙ ap (λ n. n + lengthUpTo lineFeed (drop n rest)) width
+
+  -- or goes on, and is none
+  goes-on : fieldEnds bytes ≡ false → rowOfFields (fieldsOf (lineText rest)) ≡ unreadableRow
+  unfolding isWord letters bytes
+  goes-on e = ap rowOfFields (line-fields rest) ∙ no-row (firstField rest) _ (no-word (firstField rest) _ (field-goes-on isLetter letter-inside allLetters letters-more maxLetters rest e))
+
+  pub fields-unread : f .readable ≡ false → unreadableLine rest ≡ nextRow rest
+  unfolding unreadableLine nextRow
+  fields-unread r = ap (λ q. record { row = q; used = firstBytes (linesOf rest) }) (sym (go (decided (hasFeed rest)) (decided (fieldEnds bytes))))
+    where
+      go : (hasFeed rest ≡ true) ⊎ (hasFeed rest ≡ false) → (fieldEnds bytes ≡ true) ⊎ (fieldEnds bytes ≡ false) → firstRow (linesOf rest) ≡ unreadableRow
+      go (inr none) e = unended-row rest none
+      go (inl fd) (inr e) = ended-row rest fd ∙ goes-on e
+      go (inl fd) (inl e) = ended-row rest fd ∙ ap rowOfFields (parted e) ∙ are-unreadable _ fields _ f read-there letters (and-join e (sym (fed e) ∙ fd)) r
+
+  module _ (r : f .readable ≡ true) where
+    facts : Readable (fieldEnds bytes && hasFeed bytes) fields (length letters + lengthUpTo lineFeed bytes) f
+    facts = are-readable _ fields _ f read-there r
+
+    ends : fieldEnds bytes ≡ true
+    ends = and-both (fieldEnds bytes) (hasFeed bytes) (facts .before-feed) .0
+
+    has : hasFeed rest ≡ true
+    has = fed ends ∙ and-both (fieldEnds bytes) (hasFeed bytes) (facts .before-feed) .1
+
+    at-feed : f .end ≡ lengthUpTo lineFeed rest
+    at-feed = facts .ended ∙ sym (feed-at ends)
+
+    pub count-fits : f .count ≤ maxFields
+    count-fits = let few = facts .few in let same = facts .counted in omega arith
+
+    pub end-within : f .end < length rest
+    end-within = let within = feed-found rest has in let same = at-feed in omega arith
+
+    module _ (kind : ℕ) (known : (w : List ℕ) → word .value ≡ wordKey w → kind ≡ kindOf w (f .count)) where
+      first : firstRow (linesOf rest) ≡ rowIf kind (map valueOf fields)
+      unfolding rowOfFields
+      first =
+          ended-row rest has
+          ∙ ap rowOfFields (parted ends)
+          ∙ ap (λ t. cond t (rowIf (kindOf letters (length fields)) (map valueOf fields)) unreadableRow) (facts .all-numbers)
+          ∙ ap (λ k. rowIf k (map valueOf fields)) (sym (known letters key-of ∙ ap (kindOf letters) (facts .counted)))
+
+      pub word-unknown : kind ≡ 0 → unreadableLine rest ≡ nextRow rest
+      unfolding unreadableLine nextRow
+      word-unknown z = ap (λ q. record { row = q; used = firstBytes (linesOf rest) }) (sym (first ∙ no-kind kind (map valueOf fields) (sym z)))
+
+      pub row-read : (kind ≡ 0 → ⊥) → record { row = record { kind = kind; fields = f .numbers }; used = f .end + 1 } ≡ nextRow rest
+      unfolding nextRow rowIf row values
+      row-read z =
+          ap₂ (λ ns n. record { row = record { kind = kind; fields = ns }; used = n }) (facts .valued) (ended-bytes rest (f .end) at-feed end-within)
+          ∙ ap (λ q. record { row = q; used = firstBytes (linesOf rest) }) (sym (first ∙ ap (λ t. cond t unreadableRow (row kind (map valueOf fields))) (ne-eqb kind 0 z)))

@@ -1,7 +1,7 @@
--- Laws of reading bytes: where a line or a field ends, what a script's first byte adds to its lines, what a digit adds to a value. Assumes nothing.
-use Prim.Native.Nat.{ℕ, suc, _+_, _-_, _*_, _≤_, _<_, zero-le, suc-le-suc}
+-- Laws of reading bytes: where a line or a field ends, and what a script's first byte adds to its lines. Assumes nothing.
+use Prim.Native.Nat.{ℕ, suc, _+_, _≤_, _<_, zero-le, suc-le-suc}
 use mathlib.Core.Path.{_≡_, refl, sym, ap, _∙_}
-use mathlib.Core.Bool.{Bool, true, false, cond, _&&_, _||_}
+use mathlib.Core.Bool.{Bool, true, false, cond, _||_}
 use mathlib.Core.List.{List, [], _∷_}
 use native.Mathlib.Nat.{not-suc-le-zero, le-of-suc-le-suc}
 use native.Mathlib.Numerals.{add-one}
@@ -10,9 +10,8 @@ use borrow.Author.Tests.{eq-eqb, ne-eqb}
 use lib.ListN.{length, getD, take, drop, drop-of-length-le}
 use lib.Seq.{drop-cons}
 use lib.Dec.{eqb}
-use Rattle.lines.specs.declared.text.Numeral.the-variants.{No, Value}
-use Rattle.lines.specs.Text.{lineFeed, comma, Line, ended, unended, toFirstLine, linesOf, toFirstField, fieldsOf, isDigit, allDigits, valueAfter}
-use Rattle.lines.specs.Reading.{lengthUpTo, fieldsAfter, digitsRead}
+use Rattle.lines.specs.Text.{lineFeed, Line, ended, unended, toFirstLine, linesOf}
+use Rattle.lines.specs.Reading.{lengthUpTo}
 
 pub up-to-le : (stop : ℕ) (bytes : List ℕ) → lengthUpTo stop bytes ≤ length bytes
 unfolding lengthUpTo
@@ -46,19 +45,6 @@ module _ (stop : ℕ) (bytes : List ℕ) (i : ℕ) (passed : Passed stop bytes i
   pub passed-all : length bytes ≤ i → i ≡ lengthUpTo stop bytes
   unfolding lengthUpTo
   passed-all l = let none-left = ap (lengthUpTo stop) (drop-of-length-le bytes l) in omega arith
-
--- the fields of a line: the bytes before the first comma, and what is read after them
-pub fields-parted : (text : List ℕ) → fieldsOf text ≡ take (lengthUpTo comma text) text ∷ fieldsAfter (drop (lengthUpTo comma text) text)
-unfolding lengthUpTo fieldsOf fieldsAfter toFirstField
-fields-parted [] = refl
-fields-parted (b ∷ bytes) = go (eqb b comma) (fields-parted bytes)
-  where
-    n : ℕ
-    n = lengthUpTo comma bytes
-
-    go : (t : Bool) → fieldsOf bytes ≡ take n bytes ∷ fieldsAfter (drop n bytes) → cond t ([] ∷ fieldsOf bytes) (toFirstField b (fieldsOf bytes)) ≡ take (cond t 0 (suc n)) (b ∷ bytes) ∷ fieldsAfter (drop (cond t 0 (suc n)) (b ∷ bytes))
-    go true ih = refl
-    go false ih = ap (toFirstField b) ih
 
 -- the lines of a script in which an LF stands: the bytes before the first, and the lines after it
 pub line-ended : (rest : List ℕ) → lengthUpTo lineFeed rest < length rest → linesOf rest ≡ ended (take (lengthUpTo lineFeed rest) rest) ∷ linesOf (drop (suc (lengthUpTo lineFeed rest)) rest)
@@ -103,23 +89,3 @@ lines-more b bytes = go (eqb b lineFeed) (linesOf bytes)
     go false [] = refl
     go false (ended text ∷ lines) = rw (← add-one (length lines)) (some (length lines))
     go false (unended text ∷ lines) = rw (← add-one (length lines)) (some (length lines))
-
--- i digits are read, of value v
-abbrev pub ReadTo : List ℕ → ℕ → ℕ → Type 0
-ReadTo bytes i v = digitsRead 0 bytes ≡ digitsRead v (drop i bytes)
-
-module _ (bytes : List ℕ) (i v : ℕ) (done : ReadTo bytes i v) where
-  next : (t : Bool) → i < length bytes → isDigit (getD bytes i 0) ≡ t → digitsRead 0 bytes ≡ cond (t && allDigits (drop (i + 1) bytes)) (Value (valueAfter (v * 10 + (getD bytes i 0 - 48)) (drop (i + 1) bytes))) No
-  unfolding digitsRead allDigits valueAfter
-  next t l e = done ∙ at-byte (digitsRead v) bytes i l ∙ ap (λ t. cond (t && allDigits (drop (i + 1) bytes)) (Value (valueAfter (v * 10 + (getD bytes i 0 - 48)) (drop (i + 1) bytes))) No) e
-
-  pub digit-more : i < length bytes → isDigit (getD bytes i 0) ≡ true → ReadTo bytes (i + 1) (v * 10 + (getD bytes i 0 - 48))
-  unfolding digitsRead
-  digit-more l e = next true l e
-
-  pub digit-refused : i < length bytes → isDigit (getD bytes i 0) ≡ false → No ≡ digitsRead 0 bytes
-  digit-refused l e = sym (next false l e)
-
-  pub digits-end : length bytes ≤ i → Value v ≡ digitsRead 0 bytes
-  unfolding digitsRead allDigits valueAfter
-  digits-end l = sym (done ∙ ap (digitsRead v) (drop-of-length-le bytes l))

@@ -1,16 +1,18 @@
 -- How a script is read, line by line, out of its bytes: where a line or a field ends, and what the next line says (01, Script and host).
-use Prim.Native.Nat.{ℕ, suc, _+_}
-use mathlib.Core.Bool.{true, false, cond, _&&_}
+use Prim.Native.Nat.{ℕ, zero, suc, _+_, _-_}
+use mathlib.Core.Bool.{Bool, true, false, cond, _&&_, _||_}
 use mathlib.Core.List.{List, [], _∷_, map}
-use lib.ListN.{length, getD}
-use lib.Dec.{eqb, leb}
-use Rattle.tariff.specs.Sum.{listTo}
+use lib.ListN.{length, getD, take}
+use lib.Dec.{eqb, leb, ltb}
+use Rattle.tariff.specs.Sum.{listTo, anyOf}
 use Rattle.lines.specs.declared.text.Numeral.{Numeral}
 use Rattle.lines.specs.declared.text.Numeral.the-variants.{No, Value}
+use Rattle.lines.specs.declared.text.Token.{Token}
+use Rattle.lines.specs.declared.text.Field.{Field}
 use Rattle.lines.specs.declared.rows.Row.{Row}
 use Rattle.lines.specs.declared.rows.Fields.{Fields}
 use Rattle.lines.specs.declared.lines.NextRow.{NextRow}
-use Rattle.lines.specs.Text.{lineFeed, Line, ended, unended, linesOf, fieldsOf, allDigits, isNumber, valueAfter, valueOf}
+use Rattle.lines.specs.Text.{lineFeed, comma, Line, ended, unended, linesOf, fieldsOf, isDigit, maxDigits, isNumber, valueOf}
 use Rattle.lines.specs.Rows.{maxFields, allNumbers, unreadableRow, rowOf}
 
 -- how many bytes stand before the first that is the stop, all of them if none is
@@ -27,28 +29,65 @@ feedsIn (b ∷ bytes) = cond (eqb b lineFeed) (suc (feedsIn bytes)) (feedsIn byt
 abbrev pub chunkBytes : ℕ
 chunkBytes = 128
 
--- what digits write after others of value v: none where a byte is no digit
-unfoldable pub digitsRead : ℕ → List ℕ → Numeral
-digitsRead v bytes = cond (allDigits bytes) (Value (valueAfter v bytes)) No
-
 -- what a field writes: a number, or none
 unfoldable pub numeral : List ℕ → Numeral
 numeral field = cond (isNumber field) (Value (valueOf field)) No
+
+-- where a reading of at most so many bytes from a place on stops: after so many, or with the bytes
+unfoldable pub readingLimit : ℕ → ℕ → ℕ → ℕ
+readingLimit length from most = cond (ltb most (length - from)) (from + most) length
+
+-- the bytes of a test that others start with, at most so many
+unfoldable pub leading : (ℕ → Bool) → ℕ → List ℕ → List ℕ
+leading test most [] = []
+leading test zero (b ∷ bytes) = []
+leading test (suc most) (b ∷ bytes) = cond (test b) (b ∷ leading test most bytes) []
+
+-- the digits that bytes start with, so many as a number can have
+unfoldable pub leadingDigits : List ℕ → List ℕ
+leadingDigits bytes = leading isDigit maxDigits bytes
+
+-- the digits at a place, the bytes from there on being given
+unfoldable pub digitsAt : ℕ → List ℕ → Token
+digitsAt from bytes = record { value = valueOf (leadingDigits bytes); end = from + length (leadingDigits bytes) }
+
+unfoldable pub noField : Field
+noField = record { valid = false; value = 0; end = 0 }
+
+-- the number at a place, if its digits are one
+unfoldable pub fieldAt : ℕ → List ℕ → Field
+fieldAt from bytes = cond (isNumber (leadingDigits bytes)) (record { valid = true; value = valueOf (leadingDigits bytes); end = from + length (leadingDigits bytes) }) noField
 
 -- the fields of what stands after a line's word: nothing, or a comma and fields
 unfoldable pub fieldsAfter : List ℕ → List (List ℕ)
 fieldsAfter [] = []
 fieldsAfter (b ∷ bytes) = fieldsOf bytes
 
-unfoldable pub noFields : Fields
-noFields = record { readable = false; count = 0; numbers = listTo maxFields (λ k. 0) }
+-- the bytes of the first line, its LF not among them
+unfoldable pub lineText : List ℕ → List ℕ
+lineText bytes = take (lengthUpTo lineFeed bytes) bytes
 
--- fields of which each is a number, at most seven: how many, and their values, 0 past the last
-unfoldable pub fieldsRead : List (List ℕ) → Fields
-fieldsRead fields =
-    cond (allNumbers fields && leb (length fields) maxFields)
-    (record { readable = true; count = length fields; numbers = listTo maxFields (λ k. getD (map valueOf fields) k 0) })
+-- a field has ended where nothing is left, or at a comma or an LF
+unfoldable pub fieldEnds : List ℕ → Bool
+fieldEnds [] = true
+fieldEnds (b ∷ bytes) = eqb b comma || eqb b lineFeed
+
+unfoldable pub hasFeed : List ℕ → Bool
+hasFeed bytes = anyOf bytes (λ b. eqb b lineFeed)
+
+unfoldable pub noFields : Fields
+noFields = record { readable = false; count = 0; numbers = listTo maxFields (λ k. 0); end = 0 }
+
+-- fields, if each of them is a number and a row has room for them: how many, their values, 0 past the last, and where their line ends
+unfoldable pub fieldsIf : Bool → List (List ℕ) → ℕ → Fields
+fieldsIf readable fields end =
+    cond (readable && allNumbers fields && leb (length fields) maxFields)
+    (record { readable = true; count = length fields; numbers = listTo maxFields (λ k. getD (map valueOf fields) k 0); end = end })
     noFields
+
+-- the fields from a place on, where a word has ended, if an LF ends their line
+unfoldable pub fieldsRead : ℕ → List ℕ → Fields
+fieldsRead start bytes = fieldsIf (fieldEnds bytes && hasFeed bytes) (fieldsAfter (lineText bytes)) (start + lengthUpTo lineFeed bytes)
 
 -- the row of the first line; where there is none, that of a line that cannot be read
 unfoldable pub firstRow : List Line → Row
@@ -63,3 +102,7 @@ firstBytes (unended text ∷ lines) = length text
 
 unfoldable pub nextRow : List ℕ → NextRow
 nextRow rest = record { row = firstRow (linesOf rest); used = firstBytes (linesOf rest) }
+
+-- the first line passed over
+unfoldable pub unreadableLine : List ℕ → NextRow
+unreadableLine rest = record { row = unreadableRow; used = firstBytes (linesOf rest) }

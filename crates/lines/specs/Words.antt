@@ -6,7 +6,9 @@ use lib.ListN.{length}
 use lib.Dec.{leb}
 use Rattle.tariff.specs.Ranges.{within}
 use Rattle.lines.specs.Text.{bytesOf}
+use Rattle.lines.specs.declared.text.Token.{Token}
 use Rattle.lines.specs.Rows.{Form, form}
+use Rattle.lines.specs.Reading.{leading}
 
 -- the most letters of a word
 abbrev pub maxLetters : ℕ
@@ -20,10 +22,25 @@ unfoldable pub allLetters : List ℕ → Bool
 allLetters [] = true
 allLetters (b ∷ bytes) = isLetter b && allLetters bytes
 
--- letters as a number, five bits to a letter and the first letter lowest: a is 1, z is 26
+-- letters as a number, that of those before them being given: five bits to a letter; a is 1, z is 26
+unfoldable pub keyAfter : ℕ → List ℕ → ℕ
+keyAfter key [] = key
+keyAfter key (b ∷ bytes) = keyAfter (key * 32 + (b - 96)) bytes
+
 unfoldable pub letterKey : List ℕ → ℕ
-letterKey [] = 0
-letterKey (b ∷ bytes) = letterKey bytes * 32 + (b - 96)
+letterKey word = keyAfter 0 word
+
+-- five bits to each of eight letters: every word's number is less
+abbrev pub keyLimit : ℕ
+keyLimit = 1099511627776
+
+-- the letters that bytes start with, so many as a word can have
+unfoldable pub leadingLetters : List ℕ → List ℕ
+leadingLetters bytes = leading isLetter maxLetters bytes
+
+-- their number, and how many they are
+unfoldable pub wordAt : List ℕ → Token
+wordAt bytes = record { value = letterKey (leadingLetters bytes); end = length (leadingLetters bytes) }
 
 -- bytes that can be a line's word
 unfoldable pub isWord : List ℕ → Bool
@@ -33,12 +50,10 @@ isWord word = leb (length word) maxLetters && allLetters word
 unfoldable pub wordKey : List ℕ → ℕ
 wordKey word = cond (isWord word) (letterKey word) 0
 
--- what the table has of a form: the number of its word, its count of fields, and its kind
-unfoldable pub formKey : Form → ℕ
-formKey (form known fields kind) = letterKey (bytesOf known)
+-- every count of fields is less
+abbrev pub countLimit : ℕ
+countLimit = 16
 
-unfoldable pub formFields : Form → ℕ
-formFields (form known fields kind) = fields
-
-unfoldable pub formKind : Form → ℕ
-formKind (form known fields kind) = kind
+-- what the table has of a form: the number of its word and its count of fields as one
+unfoldable pub formNumber : Form → ℕ
+formNumber (form known fields kind) = letterKey (bytesOf known) * countLimit + fields

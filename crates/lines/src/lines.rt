@@ -1,10 +1,13 @@
 // The lines of a script, read one after another (01, Script and host).
 use crate::rows::Row;
-use crate::rows::read_row;
+use crate::rows::UNREADABLE;
+use crate::rows::read_fields;
 use crate::rows::unreadable_row;
 use crate::text::line_length;
+use crate::words::kind_of;
+use crate::words::read_word;
 ghost use mathlib.Core.Path.{_≡_};
-ghost use Rattle.lines.specs.Reading.{nextRow};
+ghost use Rattle.lines.specs.Reading.{nextRow, unreadableLine};
 
 // The row of the next line, and how many bytes that line takes, its LF included.
 pub struct NextRow {
@@ -12,19 +15,40 @@ pub struct NextRow {
     pub used: usize,
 }
 
-// The next line of what is left of a script. Where no LF ends it, it cannot be read, and is all that is left.
+// A line that cannot be read: it is passed over with its LF, or to the end where none is left.
+fn unreadable_line(rest: &[u8]) -> NextRow
+    ensures { λ r. ⌜ r ≡ unreadableLine (now (rest .entry)) ⌝ }
+{
+    let length = line_length(rest);
+    let row = unreadable_row();
+    if length < rest.len() {
+        return NextRow {
+            row,
+            used: length + 1,
+        };
+    }
+    NextRow { row, used: length }
+}
+
+// The next line of what is left of a script, read in one pass. Where no LF ends it, it cannot be read, and is all that is left.
 pub fn next_row(rest: &[u8]) -> NextRow
     ensures { λ r. ⌜ r ≡ nextRow (now (rest .entry)) ⌝ }
 {
-    let length = line_length(rest);
-    if length < rest.len() {
-        let row = read_row(&rest[..length]);
-        NextRow {
-            row,
-            used: length + 1,
-        }
-    } else {
-        let row = unreadable_row();
-        NextRow { row, used: length }
+    let word = read_word(rest);
+    let fields = read_fields(rest, word.end);
+    if !fields.readable {
+        return unreadable_line(rest);
+    }
+    let kind = kind_of(word.value, fields.count);
+    if kind == UNREADABLE {
+        return unreadable_line(rest);
+    }
+    let numbers = fields.numbers;
+    NextRow {
+        row: Row {
+            kind,
+            fields: numbers,
+        },
+        used: fields.end + 1,
     }
 }

@@ -1,14 +1,10 @@
 // What a line of a script says: its kind, by its word and count of fields, and its numbers (01, Script and host).
-use crate::text::Numeral;
-use crate::text::bytes_before;
-use crate::text::read_number;
-use crate::words::kind_of;
+use crate::text::LINE_FEED;
+use crate::text::read_field;
 ghost use mathlib.Core.Path.{_≡_};
-ghost use Prim.Native.Nat.{_+_, _≤_};
-ghost use lib.ListN.{length, drop};
-ghost use Rattle.lines.specs.Text.{comma, fieldsOf};
-ghost use Rattle.lines.specs.Rows.{unreadableRow, rowOfFields};
-ghost use Rattle.lines.specs.Reading.{lengthUpTo, fieldsAfter, fieldsRead, noFields};
+ghost use lib.ListN.{drop};
+ghost use Rattle.lines.specs.Rows.{unreadableRow};
+ghost use Rattle.lines.specs.Reading.{fieldsRead, noFields};
 
 // The kinds of lines. 0 is a line that cannot be read.
 pub const UNREADABLE: u64 = 0;
@@ -60,11 +56,12 @@ pub struct Row {
     pub fields: [u64; MAX_FIELDS],
 }
 
-// The fields after a line's word: whether each is a number and there are at most seven, how many, and their values.
-struct Fields {
-    readable: bool,
-    count: u64,
-    numbers: [u64; MAX_FIELDS],
+// The fields after a line's word: whether they can be read up to an LF, how many, their values, and where the LF stands.
+pub struct Fields {
+    pub readable: bool,
+    pub count: u64,
+    pub numbers: [u64; MAX_FIELDS],
+    pub end: usize,
 }
 
 // The row of a line that cannot be read.
@@ -84,61 +81,39 @@ fn no_fields() -> Fields
         readable: false,
         count: 0,
         numbers: [0u64; MAX_FIELDS],
+        end: 0,
     }
 }
 
-// Where the field that starts at `from` ends: at a comma, or with the line.
-fn field_end(text: &[u8], from: usize) -> usize
-    requires { ⌜ from ≤ length (now text) ⌝ }
-    ensures { λ r. ⌜ r ≡ from + lengthUpTo comma (drop from (now (text .entry))) ⌝ }
-{
-    from + bytes_before(&text[from..], COMMA)
-}
-
-// The fields of a line after the word that ends at `start`. The eighth ends the reading, since no line has so many.
-fn read_fields(text: &[u8], start: usize) -> Fields
-    ensures { λ r. ⌜ r ≡ fieldsRead (fieldsAfter (drop start (now (text .entry)))) ⌝ }
+// The fields of a line after the word that ends at `start`, up to its LF. One more than a line can have ends the reading.
+pub fn read_fields(rest: &[u8], start: usize) -> Fields
+    ensures { λ r. ⌜ r ≡ fieldsRead start (drop start (now (rest .entry))) ⌝ }
 {
     let mut numbers = [0u64; MAX_FIELDS];
     let mut count: usize = 0;
     let mut at = start;
-    while at < text.len() {
-        let from = at + 1;
-        let end = field_end(text, from);
-        let number = read_number(&text[from..end]);
-        let Numeral::Value(value) = number else {
+    while at < rest.len() {
+        if rest[at] == LINE_FEED {
+            return Fields {
+                readable: true,
+                count: count as u64,
+                numbers,
+                end: at,
+            };
+        }
+        if rest[at] != COMMA {
             return no_fields();
-        };
+        }
         if count == MAX_FIELDS {
             return no_fields();
         }
-        numbers[count] = value;
+        let field = read_field(rest, at + 1);
+        if !field.valid {
+            return no_fields();
+        }
+        numbers[count] = field.value;
         count += 1;
-        at = end;
+        at = field.end;
     }
-    Fields {
-        readable: true,
-        count: count as u64,
-        numbers,
-    }
-}
-
-// The row of a line's bytes, its LF not among them: the word up to the first comma, then the fields.
-pub fn read_row(text: &[u8]) -> Row
-    ensures { λ r. ⌜ r ≡ rowOfFields (fieldsOf (now (text .entry))) ⌝ }
-{
-    let word_end = bytes_before(text, COMMA);
-    let fields = read_fields(text, word_end);
-    if !fields.readable {
-        return unreadable_row();
-    }
-    let kind = kind_of(&text[..word_end], fields.count);
-    if kind == UNREADABLE {
-        return unreadable_row();
-    }
-    let numbers = fields.numbers;
-    Row {
-        kind,
-        fields: numbers,
-    }
+    no_fields()
 }

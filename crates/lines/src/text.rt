@@ -1,9 +1,9 @@
 // The bytes of a script: where a line or a field ends, how many lines there are, and the number that a field writes (01, Script and host).
 ghost use mathlib.Core.Path.{_≡_};
 ghost use Prim.Native.Nat.{_≤_};
-ghost use lib.ListN.{length};
-ghost use Rattle.lines.specs.Text.{lineFeed, maxDigits, linesOf};
-ghost use Rattle.lines.specs.Reading.{chunkBytes, feedsIn, lengthUpTo, numeral, digitsRead};
+ghost use lib.ListN.{length, drop};
+ghost use Rattle.lines.specs.Text.{lineFeed, linesOf};
+ghost use Rattle.lines.specs.Reading.{chunkBytes, feedsIn, lengthUpTo, numeral, readingLimit, digitsAt, fieldAt, noField};
 
 // The most bytes that a run takes.
 pub const MAX_BYTES: usize = 65536;
@@ -17,7 +17,7 @@ pub const BYTES_PER_LINE: u64 = 16;
 // The most digits of a number.
 const MAX_DIGITS: usize = 9;
 
-const LINE_FEED: u8 = 10;
+pub const LINE_FEED: u8 = 10;
 
 // The bytes whose LFs are counted together: few enough for a count of one byte.
 const CHUNK_BYTES: usize = 128;
@@ -26,6 +26,19 @@ const CHUNK_BYTES: usize = 128;
 pub enum Numeral {
     No,
     Value(u64),
+}
+
+// Letters or digits that stand at a place: the number that they write, and where they end.
+pub struct Token {
+    pub value: u64,
+    pub end: usize,
+}
+
+// A number that stands at a place: whether there is one, its value, and where it ends.
+pub struct Field {
+    pub valid: bool,
+    pub value: u64,
+    pub end: usize,
 }
 
 // How many bytes stand before the first that is `stop`: all of them if none is.
@@ -93,43 +106,81 @@ pub fn count_lines(script: &[u8]) -> u64
     feeds + 1
 }
 
-// The value of at most 9 bytes, where all of them are digits.
-fn read_digits(field: &[u8]) -> Numeral
-    requires { ⌜ length (now field) ≤ maxDigits ⌝ }
-    ensures { λ r. ⌜ r ≡ digitsRead 0 (now (field .entry)) ⌝ }
+// Where a reading of at most so many bytes from a place on stops.
+pub fn reading_limit(length: usize, from: usize, most: usize) -> usize
+    requires { ⌜ from ≤ length ⌝ }
+    ensures { λ r. ⌜ r ≡ readingLimit length from most ⌝ }
 {
+    if most < length - from {
+        return from + most;
+    }
+    length
+}
+
+// The digits from a place on, at most 9: so no value of more is worked out.
+fn read_digits(bytes: &[u8], from: usize) -> Token
+    requires { ⌜ from ≤ length (now bytes) ⌝ }
+    ensures { λ r. ⌜ r ≡ digitsAt from (drop from (now (bytes .entry))) ⌝ }
+{
+    let limit = reading_limit(bytes.len(), from, MAX_DIGITS);
     let mut value: u64 = 0;
-    let mut i = 0;
-    while i < field.len() {
-        let byte = field[i];
+    let mut i = from;
+    while i < limit {
+        let byte = bytes[i];
         if byte < b'0' {
-            return Numeral::No;
+            return Token { value, end: i };
         }
         if b'9' < byte {
-            return Numeral::No;
+            return Token { value, end: i };
         }
         value = value * 10 + (byte - b'0') as u64;
         i += 1;
     }
-    Numeral::Value(value)
+    Token { value, end: i }
 }
 
-// The number that a field writes: 1 to 9 digits, and no leading zero but 0 itself.
-// The length comes first, so that no value of more than 9 digits is worked out.
+fn no_field() -> Field
+    ensures { λ r. ⌜ r ≡ noField ⌝ }
+{
+    Field {
+        valid: false,
+        value: 0,
+        end: 0,
+    }
+}
+
+// The number whose digits start at a place: 1 to 9 of them, and no leading zero but 0 itself.
+pub fn read_field(bytes: &[u8], from: usize) -> Field
+    requires { ⌜ from ≤ length (now bytes) ⌝ }
+    ensures { λ r. ⌜ r ≡ fieldAt from (drop from (now (bytes .entry))) ⌝ }
+{
+    let digits = read_digits(bytes, from);
+    let end = digits.end;
+    if end == from {
+        return no_field();
+    }
+    if 1 < end - from {
+        if bytes[from] == b'0' {
+            return no_field();
+        }
+    }
+    Field {
+        valid: true,
+        value: digits.value,
+        end,
+    }
+}
+
+// The number that the bytes of a field write.
 pub fn read_number(field: &[u8]) -> Numeral
     ensures { λ r. ⌜ r ≡ numeral (now (field .entry)) ⌝ }
 {
-    let length = field.len();
-    if length < 1 {
+    let number = read_field(field, 0);
+    if !number.valid {
         return Numeral::No;
     }
-    if MAX_DIGITS < length {
+    if number.end < field.len() {
         return Numeral::No;
     }
-    if 1 < length {
-        if field[0] == b'0' {
-            return Numeral::No;
-        }
-    }
-    read_digits(field)
+    Numeral::Value(number.value)
 }

@@ -1,8 +1,12 @@
 // The words that lines begin with, and the kinds of lines that they say (01, Script and host).
 use crate::rows::UNREADABLE;
+use crate::text::Token;
+use crate::text::reading_limit;
 ghost use mathlib.Core.Path.{_≡_};
-ghost use Rattle.lines.specs.Rows.{kindOf};
-ghost use Rattle.lines.specs.Words.{wordKey};
+ghost use Prim.Native.Nat.{ℕ, _≤_, _<_};
+ghost use mathlib.Core.List.{List};
+ghost use Rattle.lines.specs.Rows.{maxFields, kindOf};
+ghost use Rattle.lines.specs.Words.{wordKey, wordAt, keyLimit};
 
 // How many kinds of lines there are.
 const KINDS: usize = 18;
@@ -10,82 +14,81 @@ const KINDS: usize = 18;
 // The most letters of a word.
 const MAX_LETTERS: usize = 8;
 
-// The words of lines as numbers (`word_key`), and how many fields follow each, in the order of the kinds.
-const WORDS: [u64; KINDS] = [
+// Every count of fields is less.
+const COUNT_LIMIT: u64 = 16;
+
+// The forms of lines in the order of their kinds, each as one number: its word's (`read_word`) and how many fields follow the word.
+const FORMS: [u64; KINDS] = [
     // book
-    376_290,
+    81_387 * COUNT_LIMIT + 4,
     // holder
-    609_366_504,
+    284_561_586 * COUNT_LIMIT + 1,
     // sink
-    375_091,
+    632_267 * COUNT_LIMIT + 2,
     // path
-    282_672,
+    525_960 * COUNT_LIMIT + 2,
     // load
-    132_588,
+    408_612 * COUNT_LIMIT + 6,
     // block
-    11_648_386,
+    2_505_835 * COUNT_LIMIT + 3,
     // carry
-    26_822_691,
+    3_197_529 * COUNT_LIMIT + 3,
     // prior
-    19_375_696,
+    17_376_754 * COUNT_LIMIT + 4,
     // verify
-    845_465_782,
+    744_039_641 * COUNT_LIMIT + 7,
     // migrate
-    6_041_443_629,
+    14_268_565_125 * COUNT_LIMIT + 3,
     // class
-    20_546_947,
+    3_540_595 * COUNT_LIMIT + 5,
     // open
-    464_399,
+    508_078 * COUNT_LIMIT + 1,
     // nominate
-    193_322_071_534,
+    497_588_569_733 * COUNT_LIMIT + 3,
     // award
-    4_785_889,
+    1_803_844 * COUNT_LIMIT + 3,
     // close
-    5_881_219,
+    3_554_917 * COUNT_LIMIT + 0,
     // limit
-    21_280_044,
+    12_891_444 * COUNT_LIMIT + 2,
     // held
-    143_528,
+    267_652 * COUNT_LIMIT + 3,
     // net
-    20_654,
+    14_516 * COUNT_LIMIT + 2,
 ];
 
-const FIELD_COUNTS: [u64; KINDS] = [4, 1, 2, 2, 6, 3, 3, 4, 7, 3, 5, 1, 3, 3, 0, 2, 3, 2];
-
-// A word as a number, 0 for bytes that are no word: 5 bits to a letter, the first letter lowest.
-fn word_key(word: &[u8]) -> u64
-    ensures { λ r. ⌜ r ≡ wordKey (now (word .entry)) ⌝ }
+// The letters at the start of a line, at most eight: 5 bits to a letter, the first letter highest.
+pub fn read_word(rest: &[u8]) -> Token
+    ensures { λ r. ⌜ r ≡ wordAt (now (rest .entry)) ⌝ }
 {
-    if MAX_LETTERS < word.len() {
-        return 0;
-    }
+    let limit = reading_limit(rest.len(), 0, MAX_LETTERS);
     let mut key: u64 = 0;
-    let mut i = word.len();
-    while 0 < i {
-        i -= 1;
-        let byte = word[i];
+    let mut i: usize = 0;
+    while i < limit {
+        let byte = rest[i];
         if byte < b'a' {
-            return 0;
+            return Token { value: key, end: i };
         }
         if b'z' < byte {
-            return 0;
+            return Token { value: key, end: i };
         }
         key = key * 32 + (byte - 96) as u64;
+        i += 1;
     }
-    key
+    Token { value: key, end: i }
 }
 
 // The kind of a word with so many fields after it.
-pub fn kind_of(word: &[u8], count: u64) -> u64
-    ensures { λ r. ⌜ r ≡ kindOf (now (word .entry)) count ⌝ }
+pub fn kind_of(key: u64, count: u64) -> u64
+    requires { ⌜ (key < keyLimit) × (count ≤ maxFields) ⌝ }
+    ensures { λ r. ⌜ ((word : List ℕ) → key ≡ wordKey word → r ≡ kindOf word count) ⌝ }
 {
     // A table that a loop reads by its name is made anew at each turn.
-    let words = WORDS;
-    let counts = FIELD_COUNTS;
-    let key = word_key(word);
+    let forms = FORMS;
+    let form = key * COUNT_LIMIT + count;
     let mut k: usize = 0;
     while k < KINDS {
-        if (words[k] == key) & (counts[k] == count) {
+        if forms[k] == form {
             return k as u64 + 1;
         }
         k += 1;

@@ -12,17 +12,29 @@ use borrow.Author.Needs.{needs}
 use Rattle.groups.proofs.groups.run_head.Statement.{statement}
 use Rattle.groups.proofs.groups.run_head.Tie as tie
 
+array-read-a : tie.Need-array-read-a
+array-read-a c = search needs
+
+array-read-b : tie.Need-array-read-b
+array-read-b c = search needs
+
+array-read-c : tie.Need-array-read-c
+array-read-c c = search needs
+
+array-read-d : tie.Need-array-read-d
+array-read-d c = search needs
+
+array-read-e : tie.Need-array-read-e
+array-read-e c = search needs
+
+array-read-g : tie.Need-array-read-g
+array-read-g c = search needs
+
+array-read-h : tie.Need-array-read-h
+array-read-h c = search needs
+
 run-load-requires : tie.Need-run-load-requires
 run-load-requires c κs = search needs
-
-array-read-carry : tie.Need-array-read-carry
-array-read-carry c = search needs
-
-array-read-carry-2 : tie.Need-array-read-carry-2
-array-read-carry-2 c = search needs
-
-array-read-carry-3 : tie.Need-array-read-carry-3
-array-read-carry-3 c = search needs
 
 carry-requires : tie.Need-carry-requires
 carry-requires c κs = search needs
@@ -30,44 +42,11 @@ carry-requires c κs = search needs
 of-one-line-requires : tie.Need-of-one-line-requires
 of-one-line-requires c κs = search needs
 
-array-read-prior : tie.Need-array-read-prior
-array-read-prior c = search needs
-
-array-read-prior-2 : tie.Need-array-read-prior-2
-array-read-prior-2 c = search needs
-
-array-read-prior-3 : tie.Need-array-read-prior-3
-array-read-prior-3 c = search needs
-
-array-read-prior-4 : tie.Need-array-read-prior-4
-array-read-prior-4 c = search needs
-
 prior-requires : tie.Need-prior-requires
 prior-requires c κs = search needs
 
 of-one-line-requires-2 : tie.Need-of-one-line-requires-2
 of-one-line-requires-2 c κs = search needs
-
-array-read-verify : tie.Need-array-read-verify
-array-read-verify c = search needs
-
-array-read-verify-2 : tie.Need-array-read-verify-2
-array-read-verify-2 c = search needs
-
-array-read-verify-3 : tie.Need-array-read-verify-3
-array-read-verify-3 c = search needs
-
-array-read-verify-4 : tie.Need-array-read-verify-4
-array-read-verify-4 c = search needs
-
-array-read-verify-5 : tie.Need-array-read-verify-5
-array-read-verify-5 c = search needs
-
-array-read-verify-6 : tie.Need-array-read-verify-6
-array-read-verify-6 c = search needs
-
-array-read-verify-7 : tie.Need-array-read-verify-7
-array-read-verify-7 c = search needs
 
 verify-requires : tie.Need-verify-requires
 verify-requires c κs = search needs
@@ -78,38 +57,17 @@ of-one-line-requires-3 c κs = search needs
 run-migrate-requires : tie.Need-run-migrate-requires
 run-migrate-requires c κs = search needs
 
-array-read-open-tier : tie.Need-array-read-open-tier
-array-read-open-tier c = search needs
-
 open-tier-requires : tie.Need-open-tier-requires
 open-tier-requires c κs = search needs
 
 of-one-line-requires-4 : tie.Need-of-one-line-requires-4
 of-one-line-requires-4 c κs = search needs
 
-array-read-nominate : tie.Need-array-read-nominate
-array-read-nominate c = search needs
-
-array-read-nominate-2 : tie.Need-array-read-nominate-2
-array-read-nominate-2 c = search needs
-
-array-read-nominate-3 : tie.Need-array-read-nominate-3
-array-read-nominate-3 c = search needs
-
 nominate-requires : tie.Need-nominate-requires
 nominate-requires c κs = search needs
 
 of-one-line-requires-5 : tie.Need-of-one-line-requires-5
 of-one-line-requires-5 c κs = search needs
-
-array-read-award : tie.Need-array-read-award
-array-read-award c = search needs
-
-array-read-award-2 : tie.Need-array-read-award-2
-array-read-award-2 c = search needs
-
-array-read-award-3 : tie.Need-array-read-award-3
-array-read-award-3 c = search needs
 
 award-requires : tie.Need-award-requires
 award-requires c κs = search needs
@@ -123,38 +81,17 @@ close-tier-requires c κs = search needs
 of-one-line-requires-7 : tie.Need-of-one-line-requires-7
 of-one-line-requires-7 c κs = search needs
 
-array-read-limit : tie.Need-array-read-limit
-array-read-limit c = search needs
-
-array-read-limit-2 : tie.Need-array-read-limit-2
-array-read-limit-2 c = search needs
-
 limit-requires : tie.Need-limit-requires
 limit-requires c κs = search needs
 
 of-one-line-requires-8 : tie.Need-of-one-line-requires-8
 of-one-line-requires-8 c κs = search needs
 
-array-read-held : tie.Need-array-read-held
-array-read-held c = search needs
-
-array-read-held-2 : tie.Need-array-read-held-2
-array-read-held-2 c = search needs
-
-array-read-held-3 : tie.Need-array-read-held-3
-array-read-held-3 c = search needs
-
 held-requires : tie.Need-held-requires
 held-requires c κs = search needs
 
 of-one-line-requires-9 : tie.Need-of-one-line-requires-9
 of-one-line-requires-9 c κs = search needs
-
-array-read-net : tie.Need-array-read-net
-array-read-net c = search needs
-
-array-read-net-2 : tie.Need-array-read-net-2
-array-read-net-2 c = search needs
 
 net-requires : tie.Need-net-requires
 net-requires c κs = search needs
@@ -182,7 +119,7 @@ same-length-4 c = search needs
 
 returns-2 : tie.Need-returns-2
 unfolding field headAsks
-returns-2 c =
+returns-2 c = 
     let one = c .of-one-line .ensures in
     let kind = c .before .before .before .before .before .before .before .before .match .keys2 in
     (λ x k. answers-one-line _ _ one _ _ _ (beside-evidence _ _ _ _ _ _ _ (by-call _ _ _ _ _ (handed-book _ _ _ _ _ _ _ _ _ (c .before .before .before .before .before .carry .ensures x k)) (carry-asks _ _ kind))), bytes-one-line _ _ one _ _ (kind-counts _ _ _ kind refl refl))
@@ -195,7 +132,7 @@ same-length-6 c = search needs
 
 returns-3 : tie.Need-returns-3
 unfolding field headAsks
-returns-3 c =
+returns-3 c = 
     let one = c .of-one-line2 .ensures in
     let kind = c .before .before .before .before .before .before .before .before .match .keys3 in
     (λ x k. answers-one-line _ _ one _ _ _ (beside-evidence _ _ _ _ _ _ _ (by-call _ _ _ _ _ (handed-book _ _ _ _ _ _ _ _ _ (c .before .before .before .before .before .prior .ensures x k)) (prior-asks _ _ kind))), bytes-one-line _ _ one _ _ (kind-counts _ _ _ kind refl refl))
@@ -208,7 +145,7 @@ same-length-8 c = search needs
 
 returns-4 : tie.Need-returns-4
 unfolding field headAsks
-returns-4 c =
+returns-4 c = 
     let one = c .of-one-line3 .ensures in
     let kind = c .before .before .before .before .before .before .before .before .match .keys4 in
     (λ x k. answers-one-line _ _ one _ _ _ (beside-evidence _ _ _ _ _ _ _ (by-call _ _ _ _ _ (handed-book _ _ _ _ _ _ _ _ _ (c .before .before .before .before .before .verify .ensures x k)) (verify-asks _ _ kind))), bytes-one-line _ _ one _ _ (kind-counts _ _ _ kind refl refl))
@@ -224,7 +161,7 @@ same-length-10 c = search needs
 
 returns-6 : tie.Need-returns-6
 unfolding field headAsks
-returns-6 c =
+returns-6 c = 
     let one = c .of-one-line4 .ensures in
     let kind = c .before .before .before .before .before .match .keys6 in
     (λ x k. answers-one-line _ _ one _ _ _ (beside-evidence _ _ _ _ _ _ _ (by-call _ _ _ _ _ (handed-book _ _ _ _ _ _ _ _ _ (c .before .before .before .open-tier .ensures _ _ x k)) (open-asks _ _ kind))), bytes-one-line _ _ one _ _ (kind-counts _ _ _ kind refl refl))
@@ -234,7 +171,7 @@ same-length-11 c = search needs
 
 returns-7 : tie.Need-returns-7
 unfolding field headAsks
-returns-7 c =
+returns-7 c = 
     let one = c .of-one-line5 .ensures in
     let kind = c .before .before .before .before .before .match .keys7 in
     (λ x k. answers-one-line _ _ one _ _ _ (beside-evidence _ _ _ _ _ _ _ (by-call _ _ _ _ _ (handed-book _ _ _ _ _ _ _ _ _ (c .before .before .before .nominate .ensures _ x k)) (nominate-asks _ _ kind))), bytes-one-line _ _ one _ _ (kind-counts _ _ _ kind refl refl))
@@ -244,7 +181,7 @@ same-length-12 c = search needs
 
 returns-8 : tie.Need-returns-8
 unfolding field headAsks
-returns-8 c =
+returns-8 c = 
     let one = c .of-one-line6 .ensures in
     let kind = c .before .before .before .before .before .match .keys8 in
     (λ x k. answers-one-line _ _ one _ _ _ (beside-evidence _ _ _ _ _ _ _ (by-call _ _ _ _ _ (handed-book _ _ _ _ _ _ _ _ _ (c .before .before .before .award .ensures _ x k)) (award-asks _ _ kind))), bytes-one-line _ _ one _ _ (kind-counts _ _ _ kind refl refl))
@@ -254,7 +191,7 @@ same-length-13 c = search needs
 
 returns-9 : tie.Need-returns-9
 unfolding field headAsks
-returns-9 c =
+returns-9 c = 
     let one = c .of-one-line7 .ensures in
     let kind = c .before .before .before .before .before .match .keys9 in
     (λ x k. answers-one-line _ _ one _ _ _ (beside-evidence _ _ _ _ _ _ _ (by-call _ _ _ _ _ (handed-book _ _ _ _ _ _ _ _ _ (c .before .before .before .close-tier .ensures _ _ x k)) (close-asks _ _ kind))), bytes-one-line _ _ one _ _ (kind-counts _ _ _ kind refl refl))
@@ -264,7 +201,7 @@ same-length-14 c = search needs
 
 returns-10 : tie.Need-returns-10
 unfolding field headAsks told queryAnswer bookIn ledgerOf openedWith
-returns-10 c =
+returns-10 c = 
     let one = c .of-one-line8 .ensures in
     let kind = c .before .before .before .match .keys10 in
     (λ x k. answers-one-line _ _ one _ _ _ (beside-evidence _ _ _ _ _ _ _ (by-query _ _ _ _ (c .before .limit .ensures _ x k) (limit-asks _ _ kind))), bytes-one-line _ _ one _ _ (kind-counts _ _ _ kind refl refl))
@@ -274,7 +211,7 @@ same-length-15 c = search needs
 
 returns-11 : tie.Need-returns-11
 unfolding field headAsks told queryAnswer bookIn ledgerOf openedWith
-returns-11 c =
+returns-11 c = 
     let one = c .of-one-line9 .ensures in
     let kind = c .before .before .before .match .keys11 in
     (λ x k. answers-one-line _ _ one _ _ _ (beside-evidence _ _ _ _ _ _ _ (by-query _ _ _ _ (c .before .held .ensures _ x k) (held-asks _ _ kind))), bytes-one-line _ _ one _ _ (kind-counts _ _ _ kind refl refl))
@@ -284,14 +221,14 @@ same-length-16 c = search needs
 
 returns-12 : tie.Need-returns-12
 unfolding field headAsks told queryAnswer bookIn ledgerOf openedWith
-returns-12 c =
+returns-12 c = 
     let one = c .of-one-line10 .ensures in
     let kind = c .before .before .before .match .keys12 in
     (λ x k. answers-one-line _ _ one _ _ _ (beside-evidence _ _ _ _ _ _ _ (by-query _ _ _ _ (c .before .net .ensures _ x k) (net-asks _ _ kind))), bytes-one-line _ _ one _ _ (kind-counts _ _ _ kind refl refl))
 
 returns-13 : tie.Need-returns-13
 unfolding headAsks
-returns-13 c =
+returns-13 c = 
     let one = c .of-one-line11 .ensures in
     let no = c .before .match .rest in
     (λ x k. answers-one-line _ _ one _ _ _ (beside-evidence _ _ _ _ _ _ _ (by-nothing _ _ (no-head _ _ (no .0 .0 .0 .0 .0 .0 .0 .0 .0 .0 .0 .1) (no .0 .0 .0 .0 .0 .0 .0 .0 .0 .0 .1) (no .0 .0 .0 .0 .0 .0 .0 .0 .0 .1) (no .0 .0 .0 .0 .0 .0 .0 .0 .1) (no .0 .0 .0 .0 .0 .0 .0 .1) (no .0 .0 .0 .0 .0 .0 .1) (no .0 .0 .0 .0 .0 .1) (no .0 .0 .0 .0 .1) (no .0 .0 .0 .1) (no .0 .0 .1) (no .0 .1) (no .1)))), bytes-one-line _ _ one _ _ (other-counts _ _ (no .0 .0 .0 .0 .0 .0 .0 .0 .0 .0 .0 .1) (no .0 .0 .0 .0 .0 .0 .0 .1)))
@@ -300,54 +237,33 @@ pub run-head-spec : {M : Type 1} → statement M
 run-head-spec =
     tie.close
     (tie.spec
+    array-read-a
+    array-read-b
+    array-read-c
+    array-read-d
+    array-read-e
+    array-read-g
+    array-read-h
     run-load-requires
-    array-read-carry
-    array-read-carry-2
-    array-read-carry-3
     carry-requires
     of-one-line-requires
-    array-read-prior
-    array-read-prior-2
-    array-read-prior-3
-    array-read-prior-4
     prior-requires
     of-one-line-requires-2
-    array-read-verify
-    array-read-verify-2
-    array-read-verify-3
-    array-read-verify-4
-    array-read-verify-5
-    array-read-verify-6
-    array-read-verify-7
     verify-requires
     of-one-line-requires-3
     run-migrate-requires
-    array-read-open-tier
     open-tier-requires
     of-one-line-requires-4
-    array-read-nominate
-    array-read-nominate-2
-    array-read-nominate-3
     nominate-requires
     of-one-line-requires-5
-    array-read-award
-    array-read-award-2
-    array-read-award-3
     award-requires
     of-one-line-requires-6
     close-tier-requires
     of-one-line-requires-7
-    array-read-limit
-    array-read-limit-2
     limit-requires
     of-one-line-requires-8
-    array-read-held
-    array-read-held-2
-    array-read-held-3
     held-requires
     of-one-line-requires-9
-    array-read-net
-    array-read-net-2
     net-requires
     of-one-line-requires-10
     of-one-line-requires-11

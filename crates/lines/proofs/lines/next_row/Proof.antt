@@ -1,40 +1,49 @@
--- `lines::lines::next_row` meets its contract: the next line ends at the first LF, or is all that is left. Assumes nothing.
-use Rattle.lines.specs.Text.{lineFeed}
-use Rattle.lines.proofs.ReadRowLaws.{word-fits}
-use Rattle.lines.proofs.NextRowLaws.{ended-next, unended-next}
+-- `lines::lines::next_row` meets its contract: a word and the fields after it up to an LF are the line's row, and any other line is passed over. Assumes nothing.
+use mathlib.Core.Path.{_∙_}
+use native.Mathlib.Omega.{arith}
+use borrow.Author.Tests.{not-true, not-false}
+use Rattle.lines.proofs.ReadRowLaws.{key-fits, count-fits, end-within, fields-unread, word-unknown, row-read}
 use borrow.Author.Needs.{needs}
 use Rattle.lines.proofs.lines.next_row.Statement.{statement}
 use Rattle.lines.proofs.lines.next_row.Tie as tie
 
-line-length-requires : tie.Need-line-length-requires
-line-length-requires c κs = search needs
+read-word-requires : tie.Need-read-word-requires
+read-word-requires c κs = search needs
 
-slice-aggregate-read-row : tie.Need-slice-aggregate-read-row
-slice-aggregate-read-row c = word-fits lineFeed _ _ (c .before .before .line-length .ensures)
+read-fields-requires : tie.Need-read-fields-requires
+read-fields-requires c κs = search needs
 
-read-row-requires : tie.Need-read-row-requires
-read-row-requires c κs = search needs
-
-add-t10 : tie.Need-add-t10
-add-t10 c = search needs
-
-unreadable-row-requires : tie.Need-unreadable-row-requires
-unreadable-row-requires c κs = search needs
+unreadable-line-requires : tie.Need-unreadable-line-requires
+unreadable-line-requires c κs = search needs
 
 returns : tie.Need-returns
-returns c = ended-next _ _ _ (c .before .before .before .line-length .ensures) (c .before .before .if1 .taken) (c .read-row .ensures)
+returns c = c .unreadable-line .ensures ∙ fields-unread _ _ _ (c .before .before .before .before .read-word .ensures) (c .before .before .before .read-fields .ensures) (not-true _ (c .before .if1 .taken))
+
+kind-of-requires : tie.Need-kind-of-requires
+kind-of-requires c κs = (key-fits _ _ _ (c .before .before .before .read-word .ensures) (c .before .before .read-fields .ensures), count-fits _ _ _ (c .before .before .before .read-word .ensures) (c .before .before .read-fields .ensures) (not-false _ (c .if1 .left)))
+
+unreadable-line-requires-2 : tie.Need-unreadable-line-requires-2
+unreadable-line-requires-2 c κs = search needs
 
 returns-2 : tie.Need-returns-2
-returns-2 c = unended-next _ _ _ (c .before .before .line-length .ensures) (c .before .if1 .left) (c .unreadable-row .ensures)
+returns-2 c = c .unreadable-line2 .ensures ∙ word-unknown _ _ _ (c .before .before .before .before .before .before .read-word .ensures) (c .before .before .before .before .before .read-fields .ensures) (not-false _ (c .before .before .before .if1 .left)) _ (c .before .before .kind-of .ensures) (c .before .if2 .taken)
+
+add-t8 : tie.Need-add-t8
+add-t8 c = let within = end-within _ _ _ (c .before .before .before .before .before .before .before .read-word .ensures) (c .before .before .before .before .before .before .read-fields .ensures) (not-false _ (c .before .before .before .before .if1 .left)) in omega (arith, within)
+
+returns-3 : tie.Need-returns-3
+returns-3 c = row-read _ _ _ (c .before .before .before .before .before .before .before .read-word .ensures) (c .before .before .before .before .before .before .read-fields .ensures) (not-false _ (c .before .before .before .before .if1 .left)) _ (c .before .before .before .kind-of .ensures) (c .before .before .if2 .left)
 
 pub next-row-spec : {M : Type 1} → statement M
 next-row-spec =
     tie.close
     (tie.spec
-    line-length-requires
-    slice-aggregate-read-row
-    read-row-requires
-    add-t10
-    unreadable-row-requires
+    read-word-requires
+    read-fields-requires
+    unreadable-line-requires
     returns
-    returns-2)
+    kind-of-requires
+    unreadable-line-requires-2
+    returns-2
+    add-t8
+    returns-3)
