@@ -109,16 +109,19 @@ module _ (s : List ℕ) (kind count k used : ℕ) (whole : Bool) (f : SoFar s ki
       pub turn : k < count → SoFar s kind count (k + 1) (used + x .used) (whole && eqb (x .row .kind) kind)
       turn l = subst (λ y. SoFar s kind count (k + 1) (used + y .used) (whole && eqb (y .row .kind) kind)) (sym e) (read-more l)
 
-      -- and its fields are kept behind those before it
+      -- the rows with one more
+      pub turn-rows : take (k + 1) (rowsOf s) ≡ take k (rowsOf s) ++ (x .row ∷ [])
+      turn-rows = ap (λ n. take n (rowsOf s)) (add-one k) ∙ one-more ∙ ap (λ y. take k (rowsOf s) ++ (y .row ∷ [])) (sym e)
+
+      -- its fields are kept behind those before it
       pub turn-kept : (room old new : List ℕ) → length (rowsCounted count s) ≤ columnLength room → k < count → old ≡ roomWith (take k (rowsOf s)) room → new ≡ columnStores (columnLength room) k (x .row) old → new ≡ roomWith (take (k + 1) (rowsOf s)) room
       turn-kept room old new fits l kept stored =
           let many = length-take-le k (rowsOf s) (f .inRows) in
           let below = line-fits (columnLength room) fits l in
           stored
-          ∙ (λ i. columnStores (columnLength room) (sym many i) (e i .row) (kept i))
-          ∙ row-kept (take k (rowsOf s)) next room (omega arith)
-          ∙ ap (λ rows. roomWith rows room) (sym one-more)
-          ∙ ap (λ n. roomWith (take n (rowsOf s)) room) (sym (add-one k))
+          ∙ (λ i. columnStores (columnLength room) (sym many i) (x .row) (kept i))
+          ∙ row-kept (take k (rowsOf s)) (x .row) room (omega arith)
+          ∙ ap (λ rows. roomWith rows room) (sym turn-rows)
 
       pub turn-within : used + x .used ≤ length s
       turn-within = le-trans (le-of-eq (ap (λ y. used + y .used) e)) next-within
@@ -143,8 +146,9 @@ module _ (s : List ℕ) (kind count k used : ℕ) (whole : Bool) (f : SoFar s ki
         let len = length-drop k (rowsOf s) in
         omega arith
 
-    rows-same : take k (rowsOf s) ≡ take count (rowsOf s)
-    rows-same = take-all k (rowsOf s) all-rows ∙ sym (take-all count (rowsOf s) (let few = all-rows in omega arith))
+    pub rows-cut : take k (rowsOf s) ≡ rowsCounted count s
+    unfolding rowsCounted
+    rows-cut = take-all k (rowsOf s) all-rows ∙ sym (take-all count (rowsOf s) (let few = all-rows in omega arith))
 
     pub cut-short : _≡_ {A = Counted} (record { whole = false; used = used }) (countedOf kind count s)
     unfolding countedOf counted rowsCounted
@@ -154,8 +158,7 @@ module _ (s : List ℕ) (kind count k used : ℕ) (whole : Bool) (f : SoFar s ki
         λ i. record { whole = sym (and-left-false (allOfKind kind (take count (rowsOf s))) (ne-eqb (length (take count (rowsOf s))) count (λ e. omega (arith, e)))) i; used = (f .bytes ∙ bytes-all k count s (let same = f .bytes in omega arith) (omega arith)) i }
 
     pub room-all : (room old : List ℕ) → old ≡ roomWith (take k (rowsOf s)) room → old ≡ roomWith (rowsCounted count s) room
-    unfolding rowsCounted
-    room-all room old e = e ∙ ap (λ rows. roomWith rows room) rows-same
+    room-all room old e = e ∙ ap (λ rows. roomWith rows room) rows-cut
 
   -- where all are read
   module _ (done : count ≤ k) where
@@ -169,6 +172,9 @@ module _ (s : List ℕ) (kind count k used : ℕ) (whole : Bool) (f : SoFar s ki
         let many = length-take-le count (rowsOf s) (let few = f .inRows in omega arith) in
         λ i. record { whole = (f .kinds ∙ ap (λ n. allOfKind kind (take n (rowsOf s))) same ∙ sym (ap (λ t. t && allOfKind kind (take count (rowsOf s))) (eq-eqb (length (take count (rowsOf s))) count many))) i; used = (f .bytes ∙ ap (λ n. bytesOfLines n s) same) i }
 
-    pub room-read : (room old : List ℕ) → old ≡ roomWith (take k (rowsOf s)) room → old ≡ roomWith (rowsCounted count s) room
+    pub rows-read : take k (rowsOf s) ≡ rowsCounted count s
     unfolding rowsCounted
-    room-read room old e = e ∙ ap (λ n. roomWith (take n (rowsOf s)) room) reached-count
+    rows-read = ap (λ n. take n (rowsOf s)) reached-count
+
+    pub room-read : (room old : List ℕ) → old ≡ roomWith (take k (rowsOf s)) room → old ≡ roomWith (rowsCounted count s) room
+    room-read room old e = e ∙ ap (λ rows. roomWith rows room) rows-read

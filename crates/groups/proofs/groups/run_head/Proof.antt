@@ -119,7 +119,7 @@ same-length-4 c = search needs
 
 returns-2 : tie.Need-returns-2
 unfolding field headAsks
-returns-2 c = 
+returns-2 c =
     let one = c .of-one-line .ensures in
     let kind = c .before .before .before .before .before .before .before .before .match .keys2 in
     (λ x k. answers-one-line _ _ one _ _ _ (beside-evidence _ _ _ _ _ _ _ (by-call _ _ _ _ _ (handed-book _ _ _ _ _ _ _ _ _ (c .before .before .before .before .before .carry .ensures x k)) (carry-asks _ _ kind))), bytes-one-line _ _ one _ _ (kind-counts _ _ _ kind refl refl))
@@ -132,7 +132,7 @@ same-length-6 c = search needs
 
 returns-3 : tie.Need-returns-3
 unfolding field headAsks
-returns-3 c = 
+returns-3 c =
     let one = c .of-one-line2 .ensures in
     let kind = c .before .before .before .before .before .before .before .before .match .keys3 in
     (λ x k. answers-one-line _ _ one _ _ _ (beside-evidence _ _ _ _ _ _ _ (by-call _ _ _ _ _ (handed-book _ _ _ _ _ _ _ _ _ (c .before .before .before .before .before .prior .ensures x k)) (prior-asks _ _ kind))), bytes-one-line _ _ one _ _ (kind-counts _ _ _ kind refl refl))
@@ -145,7 +145,7 @@ same-length-8 c = search needs
 
 returns-4 : tie.Need-returns-4
 unfolding field headAsks
-returns-4 c = 
+returns-4 c =
     let one = c .of-one-line3 .ensures in
     let kind = c .before .before .before .before .before .before .before .before .match .keys4 in
     (λ x k. answers-one-line _ _ one _ _ _ (beside-evidence _ _ _ _ _ _ _ (by-call _ _ _ _ _ (handed-book _ _ _ _ _ _ _ _ _ (c .before .before .before .before .before .verify .ensures x k)) (verify-asks _ _ kind))), bytes-one-line _ _ one _ _ (kind-counts _ _ _ kind refl refl))
@@ -161,7 +161,7 @@ same-length-10 c = search needs
 
 returns-6 : tie.Need-returns-6
 unfolding field headAsks
-returns-6 c = 
+returns-6 c =
     let one = c .of-one-line4 .ensures in
     let kind = c .before .before .before .before .before .match .keys6 in
     (λ x k. answers-one-line _ _ one _ _ _ (beside-evidence _ _ _ _ _ _ _ (by-call _ _ _ _ _ (handed-book _ _ _ _ _ _ _ _ _ (c .before .before .before .open-tier .ensures _ _ x k)) (open-asks _ _ kind))), bytes-one-line _ _ one _ _ (kind-counts _ _ _ kind refl refl))
@@ -171,7 +171,7 @@ same-length-11 c = search needs
 
 returns-7 : tie.Need-returns-7
 unfolding field headAsks
-returns-7 c = 
+returns-7 c =
     let one = c .of-one-line5 .ensures in
     let kind = c .before .before .before .before .before .match .keys7 in
     (λ x k. answers-one-line _ _ one _ _ _ (beside-evidence _ _ _ _ _ _ _ (by-call _ _ _ _ _ (handed-book _ _ _ _ _ _ _ _ _ (c .before .before .before .nominate .ensures _ x k)) (nominate-asks _ _ kind))), bytes-one-line _ _ one _ _ (kind-counts _ _ _ kind refl refl))
@@ -181,7 +181,7 @@ same-length-12 c = search needs
 
 returns-8 : tie.Need-returns-8
 unfolding field headAsks
-returns-8 c = 
+returns-8 c =
     let one = c .of-one-line6 .ensures in
     let kind = c .before .before .before .before .before .match .keys8 in
     (λ x k. answers-one-line _ _ one _ _ _ (beside-evidence _ _ _ _ _ _ _ (by-call _ _ _ _ _ (handed-book _ _ _ _ _ _ _ _ _ (c .before .before .before .award .ensures _ x k)) (award-asks _ _ kind))), bytes-one-line _ _ one _ _ (kind-counts _ _ _ kind refl refl))
@@ -191,7 +191,7 @@ same-length-13 c = search needs
 
 returns-9 : tie.Need-returns-9
 unfolding field headAsks
-returns-9 c = 
+returns-9 c =
     let one = c .of-one-line7 .ensures in
     let kind = c .before .before .before .before .before .match .keys9 in
     (λ x k. answers-one-line _ _ one _ _ _ (beside-evidence _ _ _ _ _ _ _ (by-call _ _ _ _ _ (handed-book _ _ _ _ _ _ _ _ _ (c .before .before .before .close-tier .ensures _ _ x k)) (close-asks _ _ kind))), bytes-one-line _ _ one _ _ (kind-counts _ _ _ kind refl refl))
@@ -201,7 +201,7 @@ same-length-14 c = search needs
 
 returns-10 : tie.Need-returns-10
 unfolding field headAsks told queryAnswer bookIn ledgerOf openedWith
-returns-10 c = 
+returns-10 c =
     let one = c .of-one-line8 .ensures in
     let kind = c .before .before .before .match .keys10 in
     (λ x k. answers-one-line _ _ one _ _ _ (beside-evidence _ _ _ _ _ _ _ (by-query _ _ _ _ (c .before .limit .ensures _ x k) (limit-asks _ _ kind))), bytes-one-line _ _ one _ _ (kind-counts _ _ _ kind refl refl))
@@ -211,7 +211,7 @@ same-length-15 c = search needs
 
 returns-11 : tie.Need-returns-11
 unfolding field headAsks told queryAnswer bookIn ledgerOf openedWith
-returns-11 c = 
+returns-11 c =
     let one = c .of-one-line9 .ensures in
     let kind = c .before .before .before .match .keys11 in
     (λ x k. answers-one-line _ _ one _ _ _ (beside-evidence _ _ _ _ _ _ _ (by-query _ _ _ _ (c .before .held .ensures _ x k) (held-asks _ _ kind))), bytes-one-line _ _ one _ _ (kind-counts _ _ _ kind refl refl))
@@ -221,14 +221,14 @@ same-length-16 c = search needs
 
 returns-12 : tie.Need-returns-12
 unfolding field headAsks told queryAnswer bookIn ledgerOf openedWith
-returns-12 c = 
+returns-12 c =
     let one = c .of-one-line10 .ensures in
     let kind = c .before .before .before .match .keys12 in
     (λ x k. answers-one-line _ _ one _ _ _ (beside-evidence _ _ _ _ _ _ _ (by-query _ _ _ _ (c .before .net .ensures _ x k) (net-asks _ _ kind))), bytes-one-line _ _ one _ _ (kind-counts _ _ _ kind refl refl))
 
 returns-13 : tie.Need-returns-13
 unfolding headAsks
-returns-13 c = 
+returns-13 c =
     let one = c .of-one-line11 .ensures in
     let no = c .before .match .rest in
     (λ x k. answers-one-line _ _ one _ _ _ (beside-evidence _ _ _ _ _ _ _ (by-nothing _ _ (no-head _ _ (no .0 .0 .0 .0 .0 .0 .0 .0 .0 .0 .0 .1) (no .0 .0 .0 .0 .0 .0 .0 .0 .0 .0 .1) (no .0 .0 .0 .0 .0 .0 .0 .0 .0 .1) (no .0 .0 .0 .0 .0 .0 .0 .0 .1) (no .0 .0 .0 .0 .0 .0 .0 .1) (no .0 .0 .0 .0 .0 .0 .1) (no .0 .0 .0 .0 .0 .1) (no .0 .0 .0 .0 .1) (no .0 .0 .0 .1) (no .0 .0 .1) (no .0 .1) (no .1)))), bytes-one-line _ _ one _ _ (other-counts _ _ (no .0 .0 .0 .0 .0 .0 .0 .0 .0 .0 .0 .1) (no .0 .0 .0 .0 .0 .0 .0 .1)))

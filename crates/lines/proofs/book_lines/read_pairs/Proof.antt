@@ -1,7 +1,7 @@
 -- `lines::book_lines::read_pairs` meets its contract: so far it has read the first k of the lines. Assumes nothing.
 use Prim.Native.Nat.{_-_}
 use borrow.Author.Needs.{needs}
-use Rattle.lines.proofs.PairLaws.{ReadTo, none-read, next-within, read-more, cut-short, all-read}
+use Rattle.lines.proofs.PairLaws.{ReadTo, no-pairs, pair-within, one-pair-more, pairs-cut, all-pairs}
 use Rattle.lines.proofs.book_lines.read_pairs.Statement.{statement}
 use Rattle.lines.proofs.book_lines.read_pairs.Tie as tie
 
@@ -12,10 +12,10 @@ abbrev μ-loop : tie.MeasureT-loop
 μ-loop rest kind count complete₀ consumed₀ firsts₀ seconds₀ k₀ complete consumed firsts seconds k = count - k
 
 loop-holds : tie.Need-loop-holds Inv-loop μ-loop
-loop-holds c = none-read _ _ _
+loop-holds c = no-pairs _ _ _
 
 returns : tie.Need-returns Inv-loop μ-loop
-returns c = cut-short _ _ _ _ _ _ _ _ (c .before .before .loop .inv) (c .if1 .taken) (c .before .loop-test .taken)
+returns c = pairs-cut _ _ _ _ _ _ _ _ (c .before .before .loop .inv) (c .if1 .taken) (c .before .loop-test .taken)
 
 sub-next-row : tie.Need-sub-next-row Inv-loop μ-loop
 sub-next-row c = search needs
@@ -43,7 +43,7 @@ place-requires-2 c κs = search needs
 
 add-consumed : tie.Need-add-consumed Inv-loop μ-loop
 add-consumed c =
-    let within = next-within _ _ _ _ _ _ _ _ (c .before .before .before .before .before .before .before .before .before .before .loop .inv) (c .before .before .before .before .before .before .before .before .if1 .left) _ (c .before .before .before .before .before .before .next-row .ensures) in
+    let within = pair-within _ _ _ _ _ _ _ _ (c .before .before .before .before .before .before .before .before .before .before .loop .inv) (c .before .before .before .before .before .before .before .before .if1 .left) _ (c .before .before .before .before .before .before .next-row .ensures) in
     search needs
 
 add-k : tie.Need-add-k Inv-loop μ-loop
@@ -53,10 +53,10 @@ loop-less : tie.Need-loop-less Inv-loop μ-loop
 loop-less c = search needs
 
 loop-again : tie.Need-loop-again Inv-loop μ-loop
-loop-again c = read-more _ _ _ _ _ _ _ _ (c .before .before .before .before .before .before .before .before .before .before .loop .inv) (c .before .before .before .before .before .before .before .before .if1 .left) _ (c .before .before .before .before .before .before .next-row .ensures) (c .before .before .before .before .before .before .before .before .before .loop-test .taken) _ _ (c .before .before .place .ensures) (c .before .place2 .ensures)
+loop-again c = one-pair-more _ _ _ _ _ _ _ _ (c .before .before .before .before .before .before .before .before .before .before .loop .inv) (c .before .before .before .before .before .before .before .before .if1 .left) _ (c .before .before .before .before .before .before .next-row .ensures) (c .before .before .before .before .before .before .before .before .before .loop-test .taken) _ _ (c .before .before .place .ensures) (c .before .place2 .ensures)
 
 returns-2 : tie.Need-returns-2 Inv-loop μ-loop
-returns-2 c = all-read _ _ _ _ _ _ _ _ (c .before .loop .inv) (c .loop-test .left)
+returns-2 c = all-pairs _ _ _ _ _ _ _ _ (c .before .loop .inv) (c .loop-test .left)
 
 pub read-pairs-spec : {M : Type 1} → statement M
 read-pairs-spec =
