@@ -1,3 +1,4 @@
+pub mod AskedLaws
 pub mod CaseOne
 pub mod PlayedLaws
 pub mod AnswerLaws

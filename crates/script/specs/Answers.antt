@@ -2,6 +2,7 @@
 use Prim.Native.Nat.{ℕ, _/_, _%_}
 use mathlib.Core.Bool.{cond}
 use mathlib.Core.List.{List, [], _∷_, _++_}
+use Rattle.ledger.specs.Numbers.{unreadable}
 use Rattle.ledger.specs.Opening.{Opening, legal, openingRefusal}
 use Rattle.ledger.specs.Ledger.{Ledger, emptyLedger}
 use Rattle.ledger.specs.Season.{Answer, done, values, refused, answer, stepAsk}
@@ -12,7 +13,7 @@ use Rattle.groups.specs.Groups.{Asked, nothing, asked, groupsOf, bookReadable, 
 -- a group with an unreadable or absent line gets one 1 and is passed over
 unfoldable pub answersTo : Opening → Ledger → List Asked → List Answer
 answersTo o L [] = []
-answersTo o L (nothing ∷ groups) = refused 1 ∷ answersTo o L groups
+answersTo o L (nothing ∷ groups) = refused unreadable ∷ answersTo o L groups
 answersTo o L (asked a ∷ groups) = answer o L a ∷ answersTo o (stepAsk o L a) groups
 
 -- after a refused book group the run stops
@@ -22,7 +23,7 @@ answersAfter o rows = cond (legal o) (done ∷ answersTo o emptyLedger (groupsOf
 -- a first line other than a readable book head is refused as a book group, with 1
 unfoldable pub scriptAnswers : List Row → List Answer
 scriptAnswers [] = []
-scriptAnswers (head ∷ rows) = cond (bookReadable head rows) (answersAfter (openingOfRows head rows) (callRows head rows)) (refused 1 ∷ [])
+scriptAnswers (head ∷ rows) = cond (bookReadable head rows) (answersAfter (openingOfRows head rows) (callRows head rows)) (refused unreadable ∷ [])
 
 -- a value's field: a comma and its digits
 unfoldable pub valueField : ℕ → List ℕ
