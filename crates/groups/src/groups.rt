@@ -45,6 +45,7 @@ fn run_head(o: &[u64], f: &mut [u64], m: &mut [bool], head: Row, rest: &[u8]) ->
     ensures consumed { λ r. ⌜ r .consumed ≡ headBytes head (now (rest .entry)) ⌝ }
 {
     let kind = head.kind;
+    // The numbers of the head's line, in their order.
     let n = head.fields;
     let a = n[0];
     let b = n[1];

@@ -1,4 +1,4 @@
--- Lines that a head counts, read into arrays: a field of each line in each array.
+-- Lines that a head counts: how many bytes they take, and the room that keeps their fields.
 use Prim.Native.Nat.{ℕ, zero, suc, _+_, _*_, _/_}
 use mathlib.Core.List.{List, _++_, map}
 use lib.ListN.{length, take, drop, set}
