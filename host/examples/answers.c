@@ -20,7 +20,7 @@ static int show(const char *name, FILE *file)
         fprintf(stderr, "%s: it cannot be read\n", name);
         return 1;
     }
-    uint64_t number = run(script, length, out, sizeof out);
+    uint64_t number = season_run(script, length, out, sizeof out);
     if (number >= SEASON_REFUSAL_UNIT) {
         fprintf(stderr, "%s: refused with %d\n", name, (int)(number / SEASON_REFUSAL_UNIT));
         return 1;

@@ -3,7 +3,7 @@
  *
  * Link target/staticlib/libscript.a, which `rt staticlib script` proves and
  * writes. docs/SCRIPT.md has the script's format and docs/REFUSALS.md the
- * numbers of its refusals.
+ * numbers of its refusals. docs/LINKING.md goes step by step.
  */
 #ifndef SEASON_BOOK_H
 #define SEASON_BOOK_H
@@ -22,12 +22,28 @@ extern "C" {
 /* Output that a line needs: with this many bytes a line every run has room. */
 #define SEASON_OUTPUT_A_LINE 16
 
-/* The number that `run` returns counts a refusal in millions. */
+/* The number that `season_run` returns counts a refusal in millions. */
 #define SEASON_REFUSAL_UNIT 1000000
 
 /* The two refusals of a whole script. */
 #define SEASON_SCRIPT_TOO_LONG 1
 #define SEASON_OUTPUT_TOO_SHORT 15
+
+/*
+ * The name that the library exports, `run`, is a common word. Where another
+ * function of the program has it, the linker may take that one and say nothing.
+ * Then rename the library's in a copy of the archive
+ *
+ *   objcopy --redefine-sym run=season_book_run \
+ *       target/staticlib/libscript.a target/staticlib/libseason_book.a
+ *
+ * and compile every file that includes this header with
+ * -DSEASON_SYMBOL=season_book_run. A program that calls `season_run` below
+ * needs no other change.
+ */
+#ifndef SEASON_SYMBOL
+#define SEASON_SYMBOL run
+#endif
 
 /*
  * Answers a script: reads script_length bytes from script and writes the
@@ -44,9 +60,17 @@ extern "C" {
  * the two stretches must not overlap. Nothing is kept between two calls, so
  * threads may call it at the same time; each needs SEASON_STACK bytes of stack.
  */
-uint64_t run(const uint8_t *script, size_t script_length, uint8_t *out, size_t out_length);
+uint64_t SEASON_SYMBOL(const uint8_t *script, size_t script_length, uint8_t *out,
+                       size_t out_length);
 
-/* Stack that one call of `run` may take. */
+/* The same under a name of its own, which the library's symbol does not decide. */
+static inline uint64_t season_run(const uint8_t *script, size_t script_length, uint8_t *out,
+                                  size_t out_length)
+{
+    return SEASON_SYMBOL(script, script_length, out, out_length);
+}
+
+/* Stack that one call of `season_run` may take. */
 #define SEASON_STACK 1048576
 
 #ifdef __cplusplus

@@ -2,15 +2,22 @@
 //! function that answers scripts.
 //!
 //! [`answers`] takes a script and gives its answers; [`answers_into`] writes
-//! them to a buffer of the caller's. The script's format is docs/SCRIPT.md.
+//! them to a buffer of the caller's; [`group_answers`] reads them as values,
+//! each with the lines that it answers. The script's format is docs/SCRIPT.md.
 //!
 //! ```
 //! let script = b"book,1,1,1,1\nholder,1\nsink,1,0\npath,0,0\ncarry,0,0,25\nnet,0,3\n";
 //! assert_eq!(season_book::answers(script), Ok(b"ok\nok\nok,25\n".to_vec()));
 //! ```
 
+mod answer;
+mod causes;
+mod groups;
 mod refusal;
 
+pub use answer::{group_answers, Answer, GroupAnswer, NotItsAnswers};
+pub use causes::cause;
+pub use groups::{groups, script_lines, Group};
 pub use refusal::Refusal;
 
 /// Most bytes of a script.
@@ -26,6 +33,7 @@ pub const STACK_BYTES: usize = 1_048_576;
 const REFUSAL_UNIT: u64 = 1_000_000;
 
 extern "C" {
+    #[cfg_attr(feature = "renamed", link_name = "season_book_run")]
     fn run(script: *const u8, script_length: usize, out: *mut u8, out_length: usize) -> u64;
 }
 

@@ -8,14 +8,15 @@ fn repository() -> PathBuf {
     Path::new(env!("CARGO_MANIFEST_DIR")).join("..")
 }
 
-/// The scripts of `examples/`, by name, each with its stored answers.
+/// The scripts of `examples/`, by name, each with its stored answers. Other
+/// texts have a second end to their name, as `.answers.txt`.
 fn scripts() -> Vec<(PathBuf, Vec<u8>)> {
     let folder = repository().join("examples");
     let entries = std::fs::read_dir(folder).expect("a folder of examples");
     let paths = entries.map(|entry| entry.expect("an entry").path());
     let mut scripts: Vec<PathBuf> = paths
         .filter(|path| path.extension().is_some_and(|end| end == "txt"))
-        .filter(|path| !path.to_string_lossy().ends_with(".answers.txt"))
+        .filter(|path| path.with_extension("").extension().is_none())
         .collect();
     scripts.sort();
     let stored = |script: &Path| std::fs::read(script.with_extension("answers.txt"));
@@ -25,20 +26,35 @@ fn scripts() -> Vec<(PathBuf, Vec<u8>)> {
         .collect()
 }
 
-/// The C program, built by the machine's own compiler, warnings as errors.
-fn c_program() -> PathBuf {
-    let program = Path::new(env!("CARGO_TARGET_TMPDIR")).join("answers-c");
+/// A C program in the test's own folder, linked to an archive and built by the
+/// machine's own compiler, warnings as errors.
+fn c_program(name: &str, flags: &[&str], sources: &[&Path], archive: &Path) -> PathBuf {
+    let program = Path::new(env!("CARGO_TARGET_TMPDIR")).join(name);
     let status = Command::new("cc")
         .args(["-std=c11", "-Wall", "-Wextra", "-Werror", "-O2", "-I"])
         .arg(repository().join("host/include"))
-        .arg(repository().join("host/examples/answers.c"))
-        .arg(repository().join("target/staticlib/libscript.a"))
+        .args(flags)
+        .args(sources)
+        .arg(archive)
         .arg("-o")
         .arg(&program)
         .status()
         .expect("a C compiler, named cc");
     assert!(status.success(), "the C program does not build");
     program
+}
+
+/// The archive with its exported name changed, as the header says.
+fn renamed_archive() -> PathBuf {
+    let renamed = Path::new(env!("CARGO_TARGET_TMPDIR")).join("libseason_book.a");
+    let status = Command::new("objcopy")
+        .args(["--redefine-sym", "run=season_book_run"])
+        .arg(repository().join("target/staticlib/libscript.a"))
+        .arg(&renamed)
+        .status()
+        .expect("objcopy");
+    assert!(status.success(), "the archive's symbol cannot be renamed");
+    renamed
 }
 
 fn output(program: &Path, scripts: &[&Path]) -> Output {
@@ -74,7 +90,24 @@ fn check(program: &Path) {
 
 #[test]
 fn c_program_answers_every_example() {
-    check(&c_program());
+    let source = repository().join("host/examples/answers.c");
+    let archive = repository().join("target/staticlib/libscript.a");
+    check(&c_program("answers-c", &[], &[&source], &archive));
+}
+
+/// A program with a `run` of its own links the renamed archive.
+#[test]
+fn c_program_with_a_run_of_its_own_answers_every_example() {
+    let own = Path::new(env!("CARGO_TARGET_TMPDIR")).join("run.c");
+    std::fs::write(&own, "int run(void);\nint run(void) { return 1; }\n").expect("a source");
+    let source = repository().join("host/examples/answers.c");
+    let flags = ["-DSEASON_SYMBOL=season_book_run"];
+    check(&c_program(
+        "answers-own-run",
+        &flags,
+        &[&source, &own],
+        &renamed_archive(),
+    ));
 }
 
 #[test]

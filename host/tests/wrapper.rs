@@ -1,5 +1,7 @@
 //! The wrapper: what it gives, what it refuses, and what it leaves alone.
 
+mod stored;
+
 use season_book::{answers, answers_into, output_bytes, Refusal};
 
 const OPEN_BOOK: &[u8] = b"book,1,1,1,1\nholder,1\nsink,1,0\npath,0,0\n";
@@ -78,4 +80,23 @@ fn threads_answer_side_by_side() {
                 .expect("a thread");
         }
     });
+}
+
+/// The stack that is said is enough for every stored script.
+#[test]
+fn every_stored_script_runs_on_the_stack_that_is_said() {
+    let scripts = stored::scripts();
+    let run_all = move || {
+        for (name, script) in scripts {
+            let known =
+                answers(&script) == model::answers(&script).map_err(|_| Refusal::ScriptTooLong);
+            assert!(known, "{name}");
+        }
+    };
+    let thread = std::thread::Builder::new().stack_size(season_book::STACK_BYTES);
+    thread
+        .spawn(run_all)
+        .expect("a thread")
+        .join()
+        .expect("all scripts run");
 }

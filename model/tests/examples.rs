@@ -24,12 +24,13 @@ fn files() -> BTreeSet<String> {
         .collect()
 }
 
-/// The names of the scripts, without `.txt`.
+/// The names of the scripts, without `.txt`. Other texts have a second end to
+/// their name, as `.answers.txt`.
 fn scripts() -> Vec<String> {
     let files = files();
-    let texts = files.iter().filter(|name| !name.ends_with(ANSWERS));
+    let texts = files.iter().filter_map(|name| name.strip_suffix(".txt"));
     let scripts: Vec<String> = texts
-        .filter_map(|name| name.strip_suffix(".txt"))
+        .filter(|name| !name.contains('.'))
         .map(String::from)
         .collect();
     assert!(!scripts.is_empty(), "no script in the folder");

@@ -1,0 +1,28 @@
+//! The causes of docs/REFUSALS.md in words.
+
+/// The cause of a refused call by its number; none where no cause has it.
+pub fn cause(refusal: u64) -> Option<&'static str> {
+    let words = match refusal {
+        1 => {
+            "unreadable: another word or count of fields, no number of 1 to 9 digits, \
+             a line of a group missing or of another kind, a last line without LF"
+        }
+        2 => "a holder, source, sink or path is not in the book",
+        3 => "another field is outside its range",
+        4 => "not at this time",
+        5 => "posted before",
+        6 => "the block list is broken, or there is no block",
+        7 => "more than 1 hour in 50 is missing",
+        8 => "a class line from a holder to itself, or with a holder of kind 2",
+        9 => "a loser's m together exceed its load",
+        10 => "the sink is not for this holder, or a Sub-LAP in load or tier 1",
+        11 => "above the verified kW of the source",
+        12 => "above the path's a − l in tier 1",
+        13 => "above the tier's limit",
+        14 => "an award above what is nominated and unawarded",
+        15 => "the output buffer is shorter than 16 bytes a line",
+        16 => "a kind, parent, path or count of the opening breaks the rules",
+        _ => return None,
+    };
+    Some(words)
+}
