@@ -16,11 +16,11 @@ extern "C" {
 #endif
 
 /* The most that a script may have. */
-#define SEASON_MOST_BYTES 65536
-#define SEASON_MOST_LINES 4096
+#define SEASON_MAX_BYTES 65536
+#define SEASON_MAX_LINES 4096
 
 /* Output that a line needs: with this many bytes a line every run has room. */
-#define SEASON_OUTPUT_A_LINE 16
+#define SEASON_OUTPUT_PER_LINE 16
 
 /* The number that `season_run` returns counts a refusal in millions. */
 #define SEASON_REFUSAL_UNIT 1000000

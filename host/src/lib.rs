@@ -21,11 +21,11 @@ pub use groups::{groups, script_lines, Group};
 pub use refusal::Refusal;
 
 /// Most bytes of a script.
-pub const MOST_SCRIPT_BYTES: usize = 65_536;
+pub const MAX_SCRIPT_BYTES: usize = 65_536;
 /// Most lines of a script.
-pub const MOST_SCRIPT_LINES: usize = 4_096;
+pub const MAX_SCRIPT_LINES: usize = 4_096;
 /// Output bytes that each line of a script needs.
-pub const OUTPUT_BYTES_A_LINE: usize = 16;
+pub const OUTPUT_BYTES_PER_LINE: usize = 16;
 /// Stack that one call may take.
 pub const STACK_BYTES: usize = 1_048_576;
 
@@ -47,13 +47,13 @@ pub fn count_lines(script: &[u8]) -> usize {
 
 /// Output bytes with which no run of this script is refused for want of room.
 pub fn output_bytes(script: &[u8]) -> usize {
-    count_lines(script) * OUTPUT_BYTES_A_LINE
+    count_lines(script) * OUTPUT_BYTES_PER_LINE
 }
 
 /// The answers of a script, a line to each group. Refused calls are among
 /// them; an `Err` is a script over 65,536 bytes or 4,096 lines.
 pub fn answers(script: &[u8]) -> Result<Vec<u8>, Refusal> {
-    if script.len() > MOST_SCRIPT_BYTES {
+    if script.len() > MAX_SCRIPT_BYTES {
         return Err(Refusal::ScriptTooLong);
     }
     let mut out = vec![0; output_bytes(script)];

@@ -125,7 +125,11 @@ fn compare_vectors() {
     let vectors = model::vectors::vectors(&text);
     let lines = text.split(|&byte| byte == b'\n');
     let named = lines.filter(|line| line.starts_with(b"# ")).count();
-    assert_eq!(vectors.len(), named, "vectors read, and vectors that the text names");
+    assert_eq!(
+        vectors.len(),
+        named,
+        "vectors read, and vectors that the text names"
+    );
     for vector in &vectors {
         let compared = compare_lent(&vector.script, vector.lent);
         if let Err(difference) = compared.and_then(|()| compare(&vector.script)) {

@@ -74,7 +74,9 @@ fn a_folder_is_no_script() {
 fn a_read_that_would_wait_is_no_end_of_the_script() {
     for program in programs() {
         let (mut given, taken) = UnixStream::pair().expect("a pair of sockets");
-        taken.set_nonblocking(true).expect("a socket that does not wait");
+        taken
+            .set_nonblocking(true)
+            .expect("a socket that does not wait");
         let script = case_1();
         let ten_lines = script.split_inclusive(|&byte| byte == b'\n').take(10);
         for line in ten_lines {

@@ -1,7 +1,7 @@
 //! The book itself: its figures, opening, and read access to every figure.
 
 use crate::evidence::Filed;
-use crate::opening::{Opening, OUTSIDE, SCHEDULING_POINT, SUB_LAP};
+use crate::opening::{Opening, OBAALSE, SCHEDULING_POINT, SUB_LAP};
 use crate::sizes::{HOLDERS, MONTHS, PATHS, SINKS, SOURCES, TERMS, TIERS};
 
 /// One figure for each holder, path and month.
@@ -110,8 +110,8 @@ impl Book {
         path < self.paths as u64
     }
 
-    pub(crate) fn is_outside(&self, holder: usize) -> bool {
-        self.holder_kind[holder] == OUTSIDE
+    pub(crate) fn is_obaalse(&self, holder: usize) -> bool {
+        self.holder_kind[holder] == OBAALSE
     }
 
     pub(crate) fn is_sub_lap(&self, sink: usize) -> bool {
@@ -120,9 +120,9 @@ impl Book {
 
     /// Cause 10 by kind: a scheduling point is for kind 2 holders alone, and
     /// they have no other sink.
-    pub(crate) fn sink_not_for(&self, holder: usize, sink: usize) -> bool {
+    pub(crate) fn sink_ineligible(&self, holder: usize, sink: usize) -> bool {
         let scheduling_point = self.sink_kind[sink] == SCHEDULING_POINT;
-        scheduling_point != self.is_outside(holder)
+        scheduling_point != self.is_obaalse(holder)
     }
 
     pub(crate) fn base_of_path(&self, path: usize) -> usize {

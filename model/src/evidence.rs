@@ -2,8 +2,8 @@
 
 use crate::book::Book;
 use crate::calls::Verify;
-use crate::refusals::{refuse_if, NOT_IN_BOOK, NOT_NOW, OUT_OF_RANGE, POSTED_BEFORE};
-use crate::sizes::{MOST_KW, WHOLE_RIGHT};
+use crate::refusals::{refuse_if, NOT_AT_THIS_TIME, NOT_IN_BOOK, OUT_OF_RANGE, POSTED_BEFORE};
+use crate::sizes::{MAX_KW, WHOLE_PLANT};
 
 /// What was shown for one holder, source and kind.
 #[derive(Clone, Copy, Debug, PartialEq, Eq)]
@@ -35,7 +35,7 @@ impl Evidence {
     pub fn kw(&self) -> u64 {
         match *self {
             Evidence::Empty => 0,
-            Evidence::Ownership { capacity, right } => capacity * right / WHOLE_RIGHT,
+            Evidence::Ownership { capacity, right } => capacity * right / WHOLE_PLANT,
             Evidence::Contract { right, .. } => right,
         }
     }
@@ -64,7 +64,7 @@ pub(crate) fn verify(book: &mut Book, verify: &Verify) -> Result<(), u64> {
     let known = book.has_holder(verify.holder) && book.has_source(verify.source);
     refuse_if(!known, NOT_IN_BOOK)?;
     refuse_if(!in_range(verify), OUT_OF_RANGE)?;
-    refuse_if(book.open_tier.is_some(), NOT_NOW)?;
+    refuse_if(book.open_tier.is_some(), NOT_AT_THIS_TIME)?;
     let (holder, source) = (verify.holder as usize, verify.source as usize);
     let entry = &mut book.evidence[holder][source][verify.kind as usize - 1];
     refuse_if(entry.evidence != Evidence::Empty, POSTED_BEFORE)?;
@@ -83,13 +83,13 @@ pub(crate) fn verify(book: &mut Book, verify: &Verify) -> Result<(), u64> {
 
 /// Cause 3 of verify: the kind, the capacity, the right by kind, the months.
 fn in_range(verify: &Verify) -> bool {
-    let most_right = match verify.kind {
-        1 => WHOLE_RIGHT,
+    let max_right = match verify.kind {
+        1 => WHOLE_PLANT,
         2 => verify.capacity,
         _ => return false,
     };
-    (1..=MOST_KW).contains(&verify.capacity)
-        && (1..=most_right).contains(&verify.right)
+    (1..=MAX_KW).contains(&verify.capacity)
+        && (1..=max_right).contains(&verify.right)
         && verify.first_month >= 1
         && verify.first_month <= verify.last_month
         && verify.last_month <= 3
@@ -114,7 +114,7 @@ mod tests {
         let owned = |capacity, right| Evidence::Ownership { capacity, right }.kw();
         assert_eq!(owned(1_000, 3_333), 333);
         assert_eq!(owned(1, 9_999), 0);
-        assert_eq!(owned(MOST_KW, WHOLE_RIGHT), MOST_KW);
+        assert_eq!(owned(MAX_KW, WHOLE_PLANT), MAX_KW);
         let contract = Evidence::Contract {
             capacity: 1_000,
             right: 3,

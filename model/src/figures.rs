@@ -5,8 +5,8 @@
 
 use crate::book::Book;
 use crate::calls::{Block, Call, ClassLine, Load, Migrate, Verify};
-use crate::migration::{all_known, any_beyond_load, in_range, net, shared_out};
-use crate::opening::{Opening, DEFAULT_LAP, LOAD_SERVING};
+use crate::migration::{all_known, any_loss_above_load, in_range, net, shared_out};
+use crate::opening::{Opening, DEFAULT_LAP, LSE};
 use crate::sizes::{HOLDERS, TERMS};
 use crate::{calendar, evidence, limit, load};
 
@@ -114,7 +114,7 @@ pub fn shifted(
     lines: &[ClassLine],
 ) -> Option<[u64; HOLDERS]> {
     let moves = net(lines);
-    let refused = any_beyond_load(&moves, load);
+    let refused = any_loss_above_load(&moves, load);
     (!refused).then(|| shared_out(column, &moves, load))
 }
 
@@ -139,7 +139,7 @@ fn book_of(holders: usize) -> Book {
         sources: 1,
         sinks: 1,
         paths: 1,
-        holder_kinds: vec![LOAD_SERVING; holders],
+        holder_kinds: vec![LSE; holders],
         sink_kinds: vec![DEFAULT_LAP],
         sink_parents: vec![0],
         path_sources: vec![0],

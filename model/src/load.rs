@@ -4,23 +4,23 @@ use crate::book::Book;
 use crate::calendar::load_in_time;
 use crate::calls::{Block, Load};
 use crate::refusals::{
-    refuse_if, BLOCKS_BROKEN, HOURS_MISSING, NOT_IN_BOOK, NOT_NOW, OUT_OF_RANGE, POSTED_BEFORE,
-    SINK_NOT_FOR_HOLDER,
+    refuse_if, BROKEN_BLOCKS, HOURS_MISSING, NOT_AT_THIS_TIME, NOT_IN_BOOK, OUT_OF_RANGE,
+    POSTED_BEFORE, SINK_INELIGIBLE,
 };
-use crate::sizes::{MOST_BLOCKS, MOST_HOURS, MOST_KW};
+use crate::sizes::{MAX_BLOCKS, MAX_HOURS, MAX_KW};
 
 /// Load: causes 2 to 7 and 10, then the load posted is added.
 pub(crate) fn post(book: &mut Book, load: &Load) -> Result<(), u64> {
     let known = book.has_holder(load.holder) && book.has_sink(load.sink);
     refuse_if(!known, NOT_IN_BOOK)?;
     refuse_if(!in_range(load), OUT_OF_RANGE)?;
-    refuse_if(!load_in_time(book, load.term), NOT_NOW)?;
+    refuse_if(!load_in_time(book, load.term), NOT_AT_THIS_TIME)?;
     let (holder, sink) = (load.holder as usize, load.sink as usize);
     let term = load.term as usize;
     refuse_if(book.load_posted[holder][sink][term], POSTED_BEFORE)?;
     let kw = metered(load)?;
-    let not_for_it = book.sink_not_for(holder, sink) || book.is_sub_lap(sink);
-    refuse_if(not_for_it, SINK_NOT_FOR_HOLDER)?;
+    let not_for_it = book.sink_ineligible(holder, sink) || book.is_sub_lap(sink);
+    refuse_if(not_for_it, SINK_INELIGIBLE)?;
 
     book.load[holder][sink][term] += kw;
     book.load_posted[holder][sink][term] = true;
@@ -29,7 +29,7 @@ pub(crate) fn post(book: &mut Book, load: &Load) -> Result<(), u64> {
 
 /// What the meter feed gives: causes 6 and 7, and then the load posted.
 pub(crate) fn metered(load: &Load) -> Result<u64, u64> {
-    refuse_if(blocks_broken(load.blocks, load.hours), BLOCKS_BROKEN)?;
+    refuse_if(blocks_broken(load.blocks, load.hours), BROKEN_BLOCKS)?;
     refuse_if(too_many_missing(load), HOURS_MISSING)?;
     Ok(load_posted(load))
 }
@@ -37,10 +37,10 @@ pub(crate) fn metered(load: &Load) -> Result<u64, u64> {
 /// Cause 3 of a load. First hours and lengths are left to cause 6.
 fn in_range(load: &Load) -> bool {
     load.term <= 3
-        && load.contract <= MOST_KW
-        && (1..=MOST_HOURS).contains(&load.hours)
-        && load.blocks.len() <= MOST_BLOCKS
-        && load.blocks.iter().all(|block| block.kw <= MOST_KW)
+        && load.contract <= MAX_KW
+        && (1..=MAX_HOURS).contains(&load.hours)
+        && load.blocks.len() <= MAX_BLOCKS
+        && load.blocks.iter().all(|block| block.kw <= MAX_KW)
 }
 
 /// Cause 6: no block, or one that has no hour, starts before the one before

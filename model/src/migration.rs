@@ -3,8 +3,10 @@
 use crate::book::Book;
 use crate::calendar::migration_in_time;
 use crate::calls::{ClassLine, Migrate};
-use crate::refusals::{refuse_if, BEYOND_LOAD, NOT_IN_BOOK, NOT_NOW, OUT_OF_RANGE, WRONG_PARTY};
-use crate::sizes::{HOLDERS, MOST_CLASS_LINES, MOST_PER_CLASS};
+use crate::refusals::{
+    refuse_if, LOSS_ABOVE_LOAD, NOT_AT_THIS_TIME, NOT_BETWEEN_LSES, NOT_IN_BOOK, OUT_OF_RANGE,
+};
+use crate::sizes::{HOLDERS, MAX_CLASS_LINES, MAX_PER_CLASS};
 
 /// m kW from a loser to a gainer.
 pub(crate) struct Move {
@@ -31,12 +33,12 @@ enum Record {
 pub(crate) fn migrate(book: &mut Book, migrate: &Migrate) -> Result<(), u64> {
     refuse_if(!all_known(book, migrate), NOT_IN_BOOK)?;
     refuse_if(!in_range(migrate), OUT_OF_RANGE)?;
-    refuse_if(!migration_in_time(book, migrate.term), NOT_NOW)?;
-    refuse_if(any_wrong_party(book, migrate.lines), WRONG_PARTY)?;
+    refuse_if(!migration_in_time(book, migrate.term), NOT_AT_THIS_TIME)?;
+    refuse_if(any_not_between_lses(book, migrate.lines), NOT_BETWEEN_LSES)?;
     let (sink, term) = (migrate.sink as usize, migrate.term as usize);
     let load = column(|holder| book.load[holder][sink][term]);
     let moves = net(migrate.lines);
-    refuse_if(any_beyond_load(&moves, &load), BEYOND_LOAD)?;
+    refuse_if(any_loss_above_load(&moves, &load), LOSS_ABOVE_LOAD)?;
 
     move_load(book, sink, term, &moves);
     move_records(book, sink, term, &moves, &load);
@@ -53,20 +55,20 @@ pub(crate) fn all_known(book: &Book, migrate: &Migrate) -> bool {
 pub(crate) fn in_range(migrate: &Migrate) -> bool {
     let line_in_range = |line: &ClassLine| {
         (1..=8).contains(&line.class)
-            && line.customers <= MOST_PER_CLASS
-            && line.watts <= MOST_PER_CLASS
+            && line.customers <= MAX_PER_CLASS
+            && line.watts <= MAX_PER_CLASS
     };
     migrate.term <= 3
-        && migrate.lines.len() <= MOST_CLASS_LINES
+        && migrate.lines.len() <= MAX_CLASS_LINES
         && migrate.lines.iter().all(line_in_range)
 }
 
 /// Cause 8: customers that stay where they are, or a kind 2 holder.
-fn any_wrong_party(book: &Book, lines: &[ClassLine]) -> bool {
+fn any_not_between_lses(book: &Book, lines: &[ClassLine]) -> bool {
     lines.iter().any(|line| {
         line.from == line.to
-            || book.is_outside(line.from as usize)
-            || book.is_outside(line.to as usize)
+            || book.is_obaalse(line.from as usize)
+            || book.is_obaalse(line.to as usize)
     })
 }
 
@@ -89,7 +91,7 @@ pub(crate) fn net(lines: &[ClassLine]) -> Vec<Move> {
 
 /// Cause 9: what a loser loses to all gainers is more than its load. At a
 /// Sub-LAP no load is ever posted, so every m is more than that.
-pub(crate) fn any_beyond_load(moves: &[Move], load: &[u64; HOLDERS]) -> bool {
+pub(crate) fn any_loss_above_load(moves: &[Move], load: &[u64; HOLDERS]) -> bool {
     let lost_by = |holder| -> u64 {
         let own = moves.iter().filter(|one| one.loser == holder);
         own.map(|one| one.m).sum()
@@ -227,7 +229,7 @@ mod tests {
     /// Migration: the largest lines there can be still fit the sums.
     #[test]
     fn the_largest_lines_fit() {
-        let lines = [line(0, 1, MOST_PER_CLASS, MOST_PER_CLASS); MOST_CLASS_LINES];
+        let lines = [line(0, 1, MAX_PER_CLASS, MAX_PER_CLASS); MAX_CLASS_LINES];
         assert_eq!(netted(&lines), [(0, 1, 6_399_998_720_000)]);
     }
 }

@@ -1,12 +1,12 @@
 //! The opening: what a book is drawn up from, and when it breaks the rules.
 
-use crate::refusals::{refuse_if, OPENING_BROKEN};
+use crate::refusals::{refuse_if, BREAKS_RULES};
 use crate::sizes::{HOLDERS, PATHS, SINKS, SOURCES};
 
 /// Holder kind 1: a load-serving entity.
-pub const LOAD_SERVING: u64 = 1;
+pub const LSE: u64 = 1;
 /// Holder kind 2: a qualified entity outside the balancing area.
-pub const OUTSIDE: u64 = 2;
+pub const OBAALSE: u64 = 2;
 
 /// Sink kind 1: a Default LAP.
 pub const DEFAULT_LAP: u64 = 1;
@@ -45,7 +45,7 @@ impl Opening {
             || !self.parents_fit()
             || !self.paths_fit()
             || self.path_twice();
-        refuse_if(broken, OPENING_BROKEN)
+        refuse_if(broken, BREAKS_RULES)
     }
 
     /// The book: up to 8 holders and 16 sources, sinks and paths each.
@@ -67,7 +67,7 @@ impl Opening {
 
     /// The book: two kinds of holder, four kinds of sink.
     fn kinds_known(&self) -> bool {
-        let holders = (LOAD_SERVING..=OUTSIDE, &self.holder_kinds);
+        let holders = (LSE..=OBAALSE, &self.holder_kinds);
         let sinks = (DEFAULT_LAP..=SCHEDULING_POINT, &self.sink_kinds);
         holders.1.iter().all(|kind| holders.0.contains(kind))
             && sinks.1.iter().all(|kind| sinks.0.contains(kind))

@@ -2,7 +2,7 @@
 
 use crate::book::Book;
 use crate::limit;
-use crate::refusals::{refuse_if, NOT_IN_BOOK, NOT_NOW, OUT_OF_RANGE};
+use crate::refusals::{refuse_if, NOT_AT_THIS_TIME, NOT_IN_BOOK, OUT_OF_RANGE};
 
 /// Limit: of the sink's base, in the open tier, else 4.
 pub(crate) fn limit(book: &Book, holder: u64, sink: u64) -> Result<u64, u64> {
@@ -10,7 +10,7 @@ pub(crate) fn limit(book: &Book, holder: u64, sink: u64) -> Result<u64, u64> {
         !book.has_holder(holder) || !book.has_sink(sink),
         NOT_IN_BOOK,
     )?;
-    let tier = book.open_tier.ok_or(NOT_NOW)?;
+    let tier = book.open_tier.ok_or(NOT_AT_THIS_TIME)?;
     let base = book.base[sink as usize];
     Ok(limit::limit(book, holder as usize, base, tier))
 }

@@ -7,19 +7,19 @@ pub const NOT_IN_BOOK: u64 = 2;
 /// Script writer: any other field outside its range.
 pub const OUT_OF_RANGE: u64 = 3;
 /// Calendar: the call does not run at this time.
-pub const NOT_NOW: u64 = 4;
+pub const NOT_AT_THIS_TIME: u64 = 4;
 /// Calendar: the same thing was posted before.
 pub const POSTED_BEFORE: u64 = 5;
 /// Meter feed: no block, or blocks that break their order or their end.
-pub const BLOCKS_BROKEN: u64 = 6;
+pub const BROKEN_BLOCKS: u64 = 6;
 /// Meter feed: more than one hour in fifty is missing.
 pub const HOURS_MISSING: u64 = 7;
 /// Distribution company: customers moved to their own holder, or a kind 2 holder.
-pub const WRONG_PARTY: u64 = 8;
+pub const NOT_BETWEEN_LSES: u64 = 8;
 /// Distribution company: a holder loses more than its load.
-pub const BEYOND_LOAD: u64 = 9;
+pub const LOSS_ABOVE_LOAD: u64 = 9;
 /// Holder: the sink is not for it.
-pub const SINK_NOT_FOR_HOLDER: u64 = 10;
+pub const SINK_INELIGIBLE: u64 = 10;
 /// Holder: above the verified kW.
 pub const ABOVE_VERIFIED: u64 = 11;
 /// Holder: above last year's allocation left on the path, in tier 1.
@@ -29,9 +29,9 @@ pub const ABOVE_LIMIT: u64 = 13;
 /// Feasibility run: an award of more kW than are nominated and still open.
 pub const ABOVE_NOMINATED: u64 = 14;
 /// Host: the output buffer is too short.
-pub const OUTPUT_SHORT: u64 = 15;
+pub const BUFFER_TOO_SHORT: u64 = 15;
 /// Whoever draws up the book: an opening that no book can be made from.
-pub const OPENING_BROKEN: u64 = 16;
+pub const BREAKS_RULES: u64 = 16;
 
 /// One cause, looked for: the calls list these in ascending number, so the
 /// first cause met is the one returned.

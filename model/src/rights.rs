@@ -4,21 +4,21 @@ use crate::book::Book;
 use crate::calendar::is_before;
 use crate::calls::{OnPath, Prior};
 use crate::refusals::{
-    refuse_if, NOT_IN_BOOK, NOT_NOW, OUT_OF_RANGE, POSTED_BEFORE, SINK_NOT_FOR_HOLDER,
+    refuse_if, NOT_AT_THIS_TIME, NOT_IN_BOOK, OUT_OF_RANGE, POSTED_BEFORE, SINK_INELIGIBLE,
 };
-use crate::sizes::MOST_KW;
+use crate::sizes::MAX_KW;
 
 /// Carry: causes 2 to 5 and 10; then Long Term rights are held in each month,
 /// on top of what migration has brought.
 pub(crate) fn carry(book: &mut Book, carry: &OnPath) -> Result<(), u64> {
     let known = book.has_holder(carry.holder) && book.has_path(carry.path);
     refuse_if(!known, NOT_IN_BOOK)?;
-    refuse_if(!(1..=MOST_KW).contains(&carry.kw), OUT_OF_RANGE)?;
-    refuse_if(!is_before(book, 1), NOT_NOW)?;
+    refuse_if(!(1..=MAX_KW).contains(&carry.kw), OUT_OF_RANGE)?;
+    refuse_if(!is_before(book, 1), NOT_AT_THIS_TIME)?;
     let (holder, path) = (carry.holder as usize, carry.path as usize);
     refuse_if(book.carry_posted[holder][path], POSTED_BEFORE)?;
-    let not_for_it = book.sink_not_for(holder, book.path_sink[path]);
-    refuse_if(not_for_it, SINK_NOT_FOR_HOLDER)?;
+    let not_for_it = book.sink_ineligible(holder, book.path_sink[path]);
+    refuse_if(not_for_it, SINK_INELIGIBLE)?;
 
     for month in &mut book.carried[holder][path] {
         *month += carry.kw;
@@ -32,13 +32,13 @@ pub(crate) fn carry(book: &mut Book, carry: &OnPath) -> Result<(), u64> {
 pub(crate) fn prior(book: &mut Book, prior: &Prior) -> Result<(), u64> {
     let known = book.has_holder(prior.holder) && book.has_path(prior.path);
     refuse_if(!known, NOT_IN_BOOK)?;
-    let in_range = (1..=MOST_KW).contains(&prior.allocated) && prior.long_term <= prior.allocated;
+    let in_range = (1..=MAX_KW).contains(&prior.allocated) && prior.long_term <= prior.allocated;
     refuse_if(!in_range, OUT_OF_RANGE)?;
-    refuse_if(!is_before(book, 1), NOT_NOW)?;
+    refuse_if(!is_before(book, 1), NOT_AT_THIS_TIME)?;
     let (holder, path) = (prior.holder as usize, prior.path as usize);
     refuse_if(book.prior_posted[holder][path], POSTED_BEFORE)?;
-    let not_for_it = book.sink_not_for(holder, book.path_sink[path]);
-    refuse_if(not_for_it, SINK_NOT_FOR_HOLDER)?;
+    let not_for_it = book.sink_ineligible(holder, book.path_sink[path]);
+    refuse_if(not_for_it, SINK_INELIGIBLE)?;
 
     book.prior_allocated[holder][path] += prior.allocated;
     book.prior_rest[holder][path] += prior.allocated - prior.long_term;

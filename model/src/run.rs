@@ -3,9 +3,9 @@
 use crate::book::Book;
 use crate::calls::{Answer, Block, Call, ClassLine, Load, Migrate};
 use crate::opening::Opening;
-use crate::refusals::{OUTPUT_SHORT, UNREADABLE};
+use crate::refusals::{BUFFER_TOO_SHORT, UNREADABLE};
 use crate::script::{self, Head};
-use crate::sizes::{MOST_SCRIPT_BYTES, MOST_SCRIPT_LINES, OUTPUT_BYTES_A_LINE};
+use crate::sizes::{MAX_SCRIPT_BYTES, MAX_SCRIPT_LINES, OUTPUT_BYTES_PER_LINE};
 use std::io::Write;
 
 /// The host's number counts refusals in millions.
@@ -21,8 +21,8 @@ pub fn run(script: &[u8], out: &mut [u8]) -> u64 {
     if oversize(script) {
         return UNREADABLE * REFUSAL_UNIT;
     }
-    if out.len() < script::count_lines(script) * OUTPUT_BYTES_A_LINE {
-        return OUTPUT_SHORT * REFUSAL_UNIT;
+    if out.len() < script::count_lines(script) * OUTPUT_BYTES_PER_LINE {
+        return BUFFER_TOO_SHORT * REFUSAL_UNIT;
     }
     let answers = answer_script(script);
     out[..answers.len()].copy_from_slice(&answers);
@@ -41,7 +41,7 @@ pub fn answers(script: &[u8]) -> Result<Vec<u8>, u64> {
 
 /// Script and host: more bytes, or more lines, than a script may have.
 fn oversize(script: &[u8]) -> bool {
-    script.len() > MOST_SCRIPT_BYTES || script::count_lines(script) > MOST_SCRIPT_LINES
+    script.len() > MAX_SCRIPT_BYTES || script::count_lines(script) > MAX_SCRIPT_LINES
 }
 
 /// The book group first; if it is refused the run stops. Then group by group.

@@ -16,21 +16,21 @@ pub const MONTHS: usize = 3;
 pub const TIERS: usize = 9;
 
 /// Most hours a load may speak of.
-pub const MOST_HOURS: u64 = 2_208;
+pub const MAX_HOURS: u64 = 2_208;
 /// Most blocks one load takes.
-pub const MOST_BLOCKS: usize = 2_208;
+pub const MAX_BLOCKS: usize = 2_208;
 /// Most class lines one migration takes.
-pub const MOST_CLASS_LINES: usize = 64;
+pub const MAX_CLASS_LINES: usize = 64;
 /// The largest kW any field takes.
-pub const MOST_KW: u64 = 99_999_999;
+pub const MAX_KW: u64 = 99_999_999;
 /// The largest number of customers, and of average watts, in a class line.
-pub const MOST_PER_CLASS: u64 = 9_999_999;
+pub const MAX_PER_CLASS: u64 = 9_999_999;
 /// The whole of a plant, as ownership rights count it.
-pub const WHOLE_RIGHT: u64 = 10_000;
+pub const WHOLE_PLANT: u64 = 10_000;
 
 /// Most bytes of a script.
-pub const MOST_SCRIPT_BYTES: usize = 65_536;
+pub const MAX_SCRIPT_BYTES: usize = 65_536;
 /// Most lines of a script.
-pub const MOST_SCRIPT_LINES: usize = 4_096;
+pub const MAX_SCRIPT_LINES: usize = 4_096;
 /// Output bytes the host lends for each line of the script.
-pub const OUTPUT_BYTES_A_LINE: usize = 16;
+pub const OUTPUT_BYTES_PER_LINE: usize = 16;

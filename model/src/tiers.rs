@@ -6,17 +6,17 @@ use crate::calls::OnPath;
 use crate::evidence::verified;
 use crate::limit::limit;
 use crate::refusals::{
-    refuse_if, ABOVE_LIMIT, ABOVE_NOMINATED, ABOVE_PRIOR, ABOVE_VERIFIED, NOT_IN_BOOK, NOT_NOW,
-    OUT_OF_RANGE, SINK_NOT_FOR_HOLDER,
+    refuse_if, ABOVE_LIMIT, ABOVE_NOMINATED, ABOVE_PRIOR, ABOVE_VERIFIED, NOT_AT_THIS_TIME,
+    NOT_IN_BOOK, OUT_OF_RANGE, SINK_INELIGIBLE,
 };
-use crate::sizes::{MOST_KW, TIERS};
+use crate::sizes::{MAX_KW, TIERS};
 
 /// Open: a tier there is, else 3; the one after the last closed, while none is
 /// open, else 4.
 pub(crate) fn open(book: &mut Book, tier: u64) -> Result<(), u64> {
     refuse_if(!(1..=TIERS as u64).contains(&tier), OUT_OF_RANGE)?;
     let next = book.open_tier.is_none() && tier == book.last_closed + 1;
-    refuse_if(!next, NOT_NOW)?;
+    refuse_if(!next, NOT_AT_THIS_TIME)?;
     book.open_tier = Some(tier);
     Ok(())
 }
@@ -26,13 +26,13 @@ pub(crate) fn open(book: &mut Book, tier: u64) -> Result<(), u64> {
 pub(crate) fn nominate(book: &mut Book, nominate: &OnPath) -> Result<(), u64> {
     refuse_if(!known(book, nominate), NOT_IN_BOOK)?;
     refuse_if(!in_range(nominate), OUT_OF_RANGE)?;
-    let tier = book.open_tier.ok_or(NOT_NOW)?;
+    let tier = book.open_tier.ok_or(NOT_AT_THIS_TIME)?;
     let (holder, path) = (nominate.holder as usize, nominate.path as usize);
     let kw = nominate.kw;
     let sink = book.path_sink[path];
     let too_early = tier == 1 && book.is_sub_lap(sink);
-    let not_for_it = book.sink_not_for(holder, sink) || too_early;
-    refuse_if(not_for_it, SINK_NOT_FOR_HOLDER)?;
+    let not_for_it = book.sink_ineligible(holder, sink) || too_early;
+    refuse_if(not_for_it, SINK_INELIGIBLE)?;
     refuse_if(kw > verified_room(book, holder, path, tier), ABOVE_VERIFIED)?;
     refuse_if(kw > prior_room(book, holder, path, tier), ABOVE_PRIOR)?;
     refuse_if(kw > limit_room(book, holder, path, tier), ABOVE_LIMIT)?;
@@ -46,7 +46,7 @@ pub(crate) fn nominate(book: &mut Book, nominate: &OnPath) -> Result<(), u64> {
 pub(crate) fn award(book: &mut Book, award: &OnPath) -> Result<(), u64> {
     refuse_if(!known(book, award), NOT_IN_BOOK)?;
     refuse_if(!in_range(award), OUT_OF_RANGE)?;
-    let tier = book.open_tier.ok_or(NOT_NOW)?;
+    let tier = book.open_tier.ok_or(NOT_AT_THIS_TIME)?;
     let (holder, path) = (award.holder as usize, award.path as usize);
     let unawarded = nominated_in(book, holder, path, tier) - awarded_in(book, holder, path, tier);
     refuse_if(award.kw > unawarded, ABOVE_NOMINATED)?;
@@ -62,7 +62,7 @@ pub(crate) fn award(book: &mut Book, award: &OnPath) -> Result<(), u64> {
 
 /// Close: cause 4; then nominations go down to the awarded kW.
 pub(crate) fn close(book: &mut Book) -> Result<(), u64> {
-    let tier = book.open_tier.ok_or(NOT_NOW)?;
+    let tier = book.open_tier.ok_or(NOT_AT_THIS_TIME)?;
     let index = tier as usize - 1;
     for holder in 0..book.holders {
         for path in 0..book.paths {
@@ -82,7 +82,7 @@ fn known(book: &Book, on_path: &OnPath) -> bool {
 
 /// Cause 3 of nominate and award.
 fn in_range(on_path: &OnPath) -> bool {
-    (1..=MOST_KW).contains(&on_path.kw)
+    (1..=MAX_KW).contains(&on_path.kw)
 }
 
 fn nominated_in(book: &Book, holder: usize, path: usize, tier: u64) -> u64 {
@@ -98,7 +98,7 @@ fn awarded_in(book: &Book, holder: usize, path: usize, tier: u64) -> u64 {
 /// from there in the earlier tiers that serve the term. Other holders have
 /// nothing to show.
 pub(crate) fn verified_room(book: &Book, holder: usize, path: usize, tier: u64) -> u64 {
-    if !book.is_outside(holder) {
+    if !book.is_obaalse(holder) {
         return u64::MAX;
     }
     let source = book.path_source[path];

@@ -19,11 +19,11 @@
 //! stands before the first vector belongs to none.
 
 /// Bytes of the text that are read.
-const MOST_TEXT_BYTES: usize = 262_144;
+const MAX_TEXT_BYTES: usize = 262_144;
 /// Room for a script: enough for one that is too long.
 const SCRIPT_ROOM: usize = 65_600;
 /// The most output that is lent: enough for every script.
-const MOST_LENT: usize = 65_536;
+const MAX_LENT: usize = 65_536;
 
 /// A stored script, and how much output is lent to its run.
 #[derive(Clone, Debug, PartialEq, Eq)]
@@ -37,7 +37,7 @@ pub struct Vector {
 
 /// The vectors of a text, in their order.
 pub fn vectors(text: &[u8]) -> Vec<Vector> {
-    let text = &text[..text.len().min(MOST_TEXT_BYTES)];
+    let text = &text[..text.len().min(MAX_TEXT_BYTES)];
     let mut vectors = Vec::new();
     for line in text.split_inclusive(|&byte| byte == b'\n') {
         if let Some(name) = line.strip_prefix(b"# ") {
@@ -56,7 +56,7 @@ impl Vector {
         Vector {
             name: String::from_utf8_lossy(name).into_owned(),
             script: Vec::new(),
-            lent: MOST_LENT,
+            lent: MAX_LENT,
         }
     }
 
@@ -72,7 +72,7 @@ impl Vector {
             let (cut, _) = number_and_rest(told);
             self.script.truncate(self.script.len().saturating_sub(cut));
         } else if let Some(told) = line.strip_prefix(b"#lend ") {
-            self.lent = number_and_rest(told).0.min(MOST_LENT);
+            self.lent = number_and_rest(told).0.min(MAX_LENT);
         } else if !line.starts_with(b"#") {
             self.add(line);
         }
@@ -114,8 +114,8 @@ mod tests {
         let text = b"#: note\nlost\n# one\na\r\n#: note\n\n\xff\n# two: 2\n";
         let names: Vec<String> = vectors(text).into_iter().map(|one| one.name).collect();
         assert_eq!(names, ["one", "two: 2"]);
-        let whole = (b"a\r\n\n\xff\n".to_vec(), MOST_LENT);
-        assert_eq!(scripts(text), [whole, (vec![], MOST_LENT)]);
+        let whole = (b"a\r\n\n\xff\n".to_vec(), MAX_LENT);
+        assert_eq!(scripts(text), [whole, (vec![], MAX_LENT)]);
     }
 
     /// Vectors: copies, cuts and what is lent, for the vector at hand alone.
@@ -123,8 +123,8 @@ mod tests {
     fn times_cut_and_lend_are_followed() {
         let text = b"# one\n#times 3 ab\n#times 2 \n#cut 1\n#lend 16\n# two\nx\n#cut 9\n";
         let first = (b"ab\nab\nab\n\n".to_vec(), 16);
-        assert_eq!(scripts(text), [first, (vec![], MOST_LENT)]);
-        assert_eq!(scripts(b"# one\n#lend 65537\n")[0].1, MOST_LENT);
+        assert_eq!(scripts(text), [first, (vec![], MAX_LENT)]);
+        assert_eq!(scripts(b"# one\n#lend 65537\n")[0].1, MAX_LENT);
     }
 
     /// Vectors: a script ends where its room ends.

@@ -3,7 +3,7 @@
 use super::table::{file, line, Table};
 use model::figures;
 use model::generate::Random;
-use model::sizes::{MOST_KW, WHOLE_RIGHT};
+use model::sizes::{MAX_KW, WHOLE_PLANT};
 use model::Verify;
 
 /// Kind, capacity, right, first and last month.
@@ -14,20 +14,20 @@ fn rows() -> Vec<(&'static str, Row)> {
     for kind in 0..=3 {
         rows.push(("whole", [kind, 1_000, 1_000, 1, 3]));
     }
-    for capacity in [0, 1, 2, MOST_KW, MOST_KW + 1, u64::MAX] {
+    for capacity in [0, 1, 2, MAX_KW, MAX_KW + 1, u64::MAX] {
         rows.push(("capacity", [1, capacity, 1, 1, 3]));
-        rows.push(("capacity", [1, capacity, WHOLE_RIGHT, 1, 3]));
+        rows.push(("capacity", [1, capacity, WHOLE_PLANT, 1, 3]));
         rows.push(("capacity", [2, capacity, 1, 1, 3]));
         rows.push(("capacity", [2, capacity, capacity, 1, 3]));
     }
-    for right in [0, 1, 9_999, WHOLE_RIGHT, WHOLE_RIGHT + 1, 65_537, u64::MAX] {
+    for right in [0, 1, 9_999, WHOLE_PLANT, WHOLE_PLANT + 1, 65_537, u64::MAX] {
         rows.push(("right", [1, 20_000, right, 1, 3]));
         rows.push(("right", [2, 20_000, right, 1, 3]));
     }
     for (capacity, right) in [(1_000, 3_333), (1_000, 3_339), (3, 3_333), (10_001, 9_999)] {
         rows.push(("rounded down", [1, capacity, right, 1, 3]));
     }
-    for (capacity, right) in [(7, 7), (7, 8), (MOST_KW, MOST_KW), (MOST_KW, MOST_KW + 1)] {
+    for (capacity, right) in [(7, 7), (7, 8), (MAX_KW, MAX_KW), (MAX_KW, MAX_KW + 1)] {
         rows.push(("contract by its capacity", [2, capacity, right, 1, 3]));
     }
     for first in 0..=4 {
@@ -46,9 +46,9 @@ fn rows() -> Vec<(&'static str, Row)> {
 
 fn drawn(random: &mut Random) -> Row {
     let kind = random.between(1, 2);
-    let capacity = random.up_to(MOST_KW);
+    let capacity = random.up_to(MAX_KW);
     let right = match kind {
-        1 => random.up_to(WHOLE_RIGHT + 2_000),
+        1 => random.up_to(WHOLE_PLANT + 2_000),
         _ => random.up_to(capacity + capacity / 8),
     };
     let first = random.between(1, 3);

@@ -3,7 +3,7 @@
 use super::table::{file, line, Table};
 use model::figures::{self, Sums};
 use model::generate::Random;
-use model::sizes::{MOST_KW, TIERS};
+use model::sizes::{MAX_KW, TIERS};
 
 /// A load so large that not much more than 3 times it fits 64 bits.
 const HUGE: u64 = 1 << 62;
@@ -30,11 +30,11 @@ fn loads() -> Vec<u64> {
         1_000,
         1_001,
         1_002,
-        MOST_KW - 1,
-        MOST_KW,
-        MOST_KW + 1,
+        MAX_KW - 1,
+        MAX_KW,
+        MAX_KW + 1,
     ]);
-    loads.extend([8 * MOST_KW, HUGE - 3, HUGE - 2, HUGE - 1, HUGE]);
+    loads.extend([8 * MAX_KW, HUGE - 3, HUGE - 2, HUGE - 1, HUGE]);
     loads
 }
 
@@ -61,7 +61,7 @@ fn edges(tier: u64) -> Vec<Row> {
         season,
         before,
     };
-    let plenty = MOST_KW;
+    let plenty = MAX_KW;
     let mut rows = vec![row("all 0", tier, Sums::default())];
     rows.extend((1..=10).map(|a| row("A alone", tier, sums(a, 0, plenty, [0; 3], 0))));
     let at = |about, carried, prior, season, before| {
@@ -101,7 +101,7 @@ fn marked() -> Vec<Row> {
 }
 
 fn drawn(random: &mut Random) -> Sums {
-    let most = random.pick(&[20, 5_000, MOST_KW]);
+    let most = random.pick(&[20, 5_000, MAX_KW]);
     let load = random.up_to(most);
     let part = load / 4 + 1;
     Sums {

@@ -2,7 +2,7 @@
 
 use super::table::{file, line, Table};
 use model::generate::Random;
-use model::sizes::{MOST_HOURS, MOST_KW};
+use model::sizes::{MAX_HOURS, MAX_KW};
 use model::{figures, Block};
 
 struct Row {
@@ -103,12 +103,12 @@ fn rows() -> Vec<Row> {
 fn sizes() -> Vec<Row> {
     vec![
         Row::new("no block, n = 1", 1, &[]),
-        Row::new("no block, n = 2,208", MOST_HOURS, &[]),
+        Row::new("no block, n = 2,208", MAX_HOURS, &[]),
         Row::run("one hour, n = 1", 1, &[(1, 7)]),
         Row::run("one hour, n = 2", 2, &[(1, 7)]),
         Row::run("one hour of 50", 50, &[(1, 7)]),
-        Row::run("one block, n = 2,208", MOST_HOURS, &[(MOST_HOURS, 7)]),
-        Row::run("the largest kW", MOST_HOURS, &[(MOST_HOURS, MOST_KW)]),
+        Row::run("one block, n = 2,208", MAX_HOURS, &[(MAX_HOURS, 7)]),
+        Row::run("the largest kW", MAX_HOURS, &[(MAX_HOURS, MAX_KW)]),
         Row::run("three blocks of one hour", 3, &[(1, 5), (1, 9), (1, 7)]),
         Row::run("marked case 1", 400, &[(398, 1_000), (2, 5_000)]),
         Row::run("marked case 2", 400, &[(397, 1_000), (3, 5_000)]),
@@ -119,7 +119,7 @@ fn sizes() -> Vec<Row> {
 /// last, first, and in blocks of one hour.
 fn half_percent_edges() -> Vec<Row> {
     let mut rows = Vec::new();
-    for present in [199, 200, 201, 399, 400, 401, 2_199, 2_200, MOST_HOURS] {
+    for present in [199, 200, 201, 399, 400, 401, 2_199, 2_200, MAX_HOURS] {
         for above in [present / 200, present / 200 + 1] {
             let low = (present - above, 1_000);
             let about = format!("{above} of {present} hours above");
@@ -130,12 +130,12 @@ fn half_percent_edges() -> Vec<Row> {
     }
     for above in [11, 12] {
         let about = format!("{above} of 2,208 hours above, first");
-        let blocks = [(above, 5_000), (MOST_HOURS - above, 1_000)];
-        rows.push(Row::run(about, MOST_HOURS, &blocks));
+        let blocks = [(above, 5_000), (MAX_HOURS - above, 1_000)];
+        rows.push(Row::run(about, MAX_HOURS, &blocks));
         let steps: Vec<_> = (0..above).map(|k| (1, 9_000 - 100 * k)).collect();
-        let rest = [(MOST_HOURS - above, 1_000)];
+        let rest = [(MAX_HOURS - above, 1_000)];
         let about = format!("{above} of 2,208 hours above, each at a kW of its own");
-        rows.push(Row::run(about, MOST_HOURS, &[&steps[..], &rest].concat()));
+        rows.push(Row::run(about, MAX_HOURS, &[&steps[..], &rest].concat()));
     }
     rows.push(Row::run(
         "one hour above a middle kW",
@@ -154,10 +154,7 @@ fn half_percent_edges() -> Vec<Row> {
 fn missing_edges() -> Vec<Row> {
     let mut rows = Vec::new();
     let edges = [(49, 1), (50, 1), (50, 2), (100, 2), (100, 3)];
-    for (n, missing) in edges
-        .into_iter()
-        .chain([(MOST_HOURS, 44), (MOST_HOURS, 45)])
-    {
+    for (n, missing) in edges.into_iter().chain([(MAX_HOURS, 44), (MAX_HOURS, 45)]) {
         let about = |place: &str| format!("{missing} of {n} hours missing {place}");
         let present = n - missing;
         rows.push(Row::new(about("last"), n, &[(0, present, 70)]));
@@ -213,10 +210,10 @@ fn contracts() -> Vec<Row> {
         day("contract 1,001").less(1_001),
         day("marked case 4").less(1_200),
         two("contract between the two kW").less(3_000),
-        two("the largest contract in range").less(MOST_KW),
+        two("the largest contract in range").less(MAX_KW),
         day("the largest contract").less(u64::MAX),
-        Row::run("all comes off", 1, &[(1, MOST_KW)]).less(MOST_KW),
-        Row::run("all but 1 comes off", 1, &[(1, MOST_KW)]).less(MOST_KW - 1),
+        Row::run("all comes off", 1, &[(1, MAX_KW)]).less(MAX_KW),
+        Row::run("all but 1 comes off", 1, &[(1, MAX_KW)]).less(MAX_KW - 1),
         Row::new("contract and no block", 1, &[]).less(5),
         Row::new("contract and hours missing", 10, &[(0, 5, 9)]).less(5),
     ]
@@ -250,7 +247,7 @@ fn huge() -> Vec<Row> {
             wide,
             &[(wide / 50 + 1, wide - wide / 50 - 1, 3)],
         ),
-        Row::new("n above 2,208", 2_209, &[(0, 2_209, MOST_KW + 1)]),
+        Row::new("n above 2,208", 2_209, &[(0, 2_209, MAX_KW + 1)]),
     ]
 }
 
@@ -270,9 +267,9 @@ fn unequal() -> Vec<Row> {
 /// Blocks in order with gaps here and there, few different kW, now and then
 /// a fault.
 fn drawn(random: &mut Random) -> Row {
-    let hours = random.pick(&[200, 300, 700, 744, MOST_HOURS]);
+    let hours = random.pick(&[200, 300, 700, 744, MAX_HOURS]);
     let count = random.between(1, 9);
-    let ceiling = random.pick(&[3, 50, MOST_KW]);
+    let ceiling = random.pick(&[3, 50, MAX_KW]);
     let mut blocks = Vec::new();
     let mut from = random.up_to(2);
     for k in 0..count {

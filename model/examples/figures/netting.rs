@@ -2,7 +2,7 @@
 
 use super::table::{file, line, LineTables, Table};
 use model::generate::Random;
-use model::sizes::{HOLDERS, MOST_CLASS_LINES, MOST_PER_CLASS};
+use model::sizes::{HOLDERS, MAX_CLASS_LINES, MAX_PER_CLASS};
 use model::{figures, ClassLine};
 
 /// What a row shows, and its class lines.
@@ -93,7 +93,7 @@ fn few_lines() -> Vec<Row> {
 fn ranges() -> Vec<Row> {
     let good = moved(0, 1, 1, 1_000);
     let class = |class| ClassLine { class, ..good };
-    let (most, huge) = (MOST_PER_CLASS, u64::MAX);
+    let (most, huge) = (MAX_PER_CLASS, u64::MAX);
     vec![
         ("holder 8 loses", vec![moved(8, 1, 1, 1_000)]),
         ("holder 8 gains", vec![moved(0, 8, 1, 1_000)]),
@@ -117,11 +117,11 @@ fn ranges() -> Vec<Row> {
 }
 
 fn many_lines() -> Vec<Row> {
-    let most = moved(0, 1, MOST_PER_CLASS, MOST_PER_CLASS);
+    let most = moved(0, 1, MAX_PER_CLASS, MAX_PER_CLASS);
     let (from, to) = (|k: u64| k % 8, |k: u64| (k + 1 + k / 8 % 7) % 8);
     let pairs = |k: u64| moved(from(k), to(k), 10 + k, 1_000 + 7 * k);
     vec![
-        ("64 of the largest lines", vec![most; MOST_CLASS_LINES]),
+        ("64 of the largest lines", vec![most; MAX_CLASS_LINES]),
         ("65 lines", (0..65).map(pairs).collect()),
         ("64 lines", (0..64).map(pairs).collect()),
     ]

@@ -3,7 +3,7 @@
 use super::netting::moved;
 use super::table::{file, line, LineTables, Table};
 use model::generate::Random;
-use model::sizes::{HOLDERS, MOST_KW};
+use model::sizes::{HOLDERS, MAX_KW};
 use model::{figures, ClassLine};
 
 type Column = [u64; HOLDERS];
@@ -27,7 +27,7 @@ fn rows() -> Vec<Row> {
     rows.extend((0..24).map(|_| drawn(&mut random)));
     for row in &rows {
         let moves = figures::netted(&row.lines).expect("lines that are fit");
-        assert!(moves.iter().all(|&(_, _, m)| m <= MOST_KW));
+        assert!(moves.iter().all(|&(_, _, m)| m <= MAX_KW));
     }
     rows
 }
@@ -41,7 +41,7 @@ fn edges() -> Vec<Row> {
     };
     let held = [100, 0, 0, 0, 0, 0, 0, 0];
     let kilo = [1_000; HOLDERS];
-    let most = [MOST_KW; HOLDERS];
+    let most = [MAX_KW; HOLDERS];
     let steps = [10, 20, 30, 40, 50, 60, 70, 80];
     let ring = [(0, 1, 100), (1, 2, 200), (2, 0, 300)];
     let to_all: Vec<_> = (1..8).map(|to| (0, to, 142)).collect();
@@ -127,7 +127,7 @@ fn drawn(random: &mut Random) -> Row {
             random.up_to(2_000)
         };
     }
-    let ceiling = random.pick(&[9, 4_000, MOST_KW]);
+    let ceiling = random.pick(&[9, 4_000, MAX_KW]);
     Row {
         about: "drawn",
         column: std::array::from_fn(|_| random.up_to(ceiling)),

@@ -146,7 +146,7 @@ fn wrong_sink(writer: &mut Writer) -> Option<Draft> {
     for holder in 0..book.holders {
         for path in 0..book.paths {
             let sink = book.path_sink[path];
-            if book.sink_not_for(holder, sink) || book.is_sub_lap(sink) {
+            if book.sink_ineligible(holder, sink) || book.is_sub_lap(sink) {
                 wrong.push([holder as u64, path as u64, sink as u64]);
             }
         }

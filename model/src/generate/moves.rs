@@ -3,7 +3,7 @@
 use super::draft::Draft;
 use super::random::Random;
 use super::writer::Writer;
-use crate::sizes::MOST_CLASS_LINES;
+use crate::sizes::MAX_CLASS_LINES;
 
 /// Migrations that may run before a tier opens, and a few that come too late.
 pub(crate) fn before_tier(writer: &mut Writer, tier: u64) {
@@ -53,7 +53,7 @@ pub(crate) fn migration(writer: &mut Writer, term: u64) {
         }
     }
     writer.random.shuffle(&mut rows);
-    rows.truncate(MOST_CLASS_LINES);
+    rows.truncate(MAX_CLASS_LINES);
     writer.say(&Draft::migrate(term, sink as u64, rows));
 }
 
@@ -62,7 +62,7 @@ pub(crate) fn migration(writer: &mut Writer, term: u64) {
 fn losers(writer: &Writer, term: u64) -> Vec<(usize, usize)> {
     let book = &writer.book;
     let mut list = Vec::new();
-    for holder in (0..book.holders).filter(|&holder| !book.is_outside(holder)) {
+    for holder in (0..book.holders).filter(|&holder| !book.is_obaalse(holder)) {
         for sink in 0..book.sinks {
             if book.load[holder][sink][term as usize] == 0 {
                 continue;
@@ -83,7 +83,7 @@ fn lose(writer: &mut Writer, loser: usize, sink: usize, term: u64, rows: &mut Ve
     let book = &writer.book;
     let load = book.load[loser][sink][term as usize];
     let mut gainers: Vec<usize> = (0..book.holders)
-        .filter(|&holder| holder != loser && !book.is_outside(holder))
+        .filter(|&holder| holder != loser && !book.is_obaalse(holder))
         .collect();
     let random = &mut writer.random;
     random.shuffle(&mut gainers);

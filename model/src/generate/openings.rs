@@ -2,9 +2,7 @@
 
 use super::draft::write_line;
 use super::random::Random;
-use crate::opening::{
-    Opening, CUSTOM_LAP, DEFAULT_LAP, LOAD_SERVING, OUTSIDE, SCHEDULING_POINT, SUB_LAP,
-};
+use crate::opening::{Opening, CUSTOM_LAP, DEFAULT_LAP, LSE, OBAALSE, SCHEDULING_POINT, SUB_LAP};
 
 /// The four counts, by the size of the book.
 fn counts(random: &mut Random) -> [u64; 4] {
@@ -43,8 +41,8 @@ pub(crate) fn opening(random: &mut Random) -> Opening {
     for holder in 0..holders {
         // Mostly two holders at least that customers can move between.
         let likely = if holder < 2 { 95 } else { 65 };
-        let load_serving = random.percent(likely);
-        let kind = if load_serving { LOAD_SERVING } else { OUTSIDE };
+        let lse = random.percent(likely);
+        let kind = if lse { LSE } else { OBAALSE };
         opening.holder_kinds.push(kind);
     }
     random.shuffle(&mut opening.holder_kinds);

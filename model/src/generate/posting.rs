@@ -5,7 +5,7 @@ use super::random::Random;
 use super::writer::Writer;
 use super::{faults, moves, tiers};
 use crate::calendar::first_tier_of;
-use crate::sizes::MOST_KW;
+use crate::sizes::MAX_KW;
 
 /// A posting and the tier before which it is to be posted.
 pub(crate) type Later = Vec<(u64, Draft)>;
@@ -74,7 +74,7 @@ fn plan_rights(writer: &mut Writer, later: &mut Later) {
 /// Evidence: mostly of kind 2 holders, at sources of paths for them.
 fn plan_evidence(writer: &mut Writer, later: &mut Later) {
     for (holder, path) in writer.fitting_paths() {
-        let outside = writer.book.is_outside(holder);
+        let outside = writer.book.is_obaalse(holder);
         let source = writer.book.path_source[path] as u64;
         for kind in 1..=2 {
             let wanted = if outside { 60 } else { 2 };
@@ -123,7 +123,7 @@ pub(crate) fn load(writer: &mut Writer, holder: u64, sink: u64, term: u64) -> Dr
         1 | 2 => writer.kw(4),
         _ => 0,
     };
-    let contract = contract.min(MOST_KW);
+    let contract = contract.min(MAX_KW);
     let rows = match writer.random.one_in(400) {
         true => hourly(&mut writer.random, hours, usual),
         false => blocks(&mut writer.random, hours, usual),
@@ -178,7 +178,7 @@ fn hourly(random: &mut Random, hours: u64, usual: u64) -> Vec<Vec<u64>> {
 
 fn block_kw(random: &mut Random, usual: u64, peak: bool) -> u64 {
     match peak {
-        true => (usual * 2).min(MOST_KW),
+        true => (usual * 2).min(MAX_KW),
         false if random.one_in(12) => random.up_to(usual),
         false => usual,
     }

@@ -3,7 +3,7 @@
 use super::draft::Draft;
 use super::faults;
 use super::writer::Writer;
-use crate::sizes::MOST_KW;
+use crate::sizes::MAX_KW;
 use crate::tiers::{limit_room, prior_room, verified_room};
 
 /// Opens a tier, nominates, awards, asks and closes it.
@@ -50,7 +50,7 @@ fn nominate(writer: &mut Writer, holder: usize, path: usize, tier: u64) -> bool 
         6 => writer.random.pick(&rooms),
         _ => writer.random.up_to(room),
     };
-    let fields = [holder as u64, path as u64, kw.clamp(1, MOST_KW)];
+    let fields = [holder as u64, path as u64, kw.clamp(1, MAX_KW)];
     writer.say(&Draft::line("nominate", &fields))
 }
 
@@ -67,7 +67,7 @@ fn award(writer: &mut Writer, holder: usize, path: usize, tier: u64) {
         5 => left + 1,
         _ => writer.random.up_to(left),
     };
-    let fields = [holder as u64, path as u64, kw.clamp(1, MOST_KW)];
+    let fields = [holder as u64, path as u64, kw.clamp(1, MAX_KW)];
     writer.say(&Draft::line("award", &fields));
 }
 

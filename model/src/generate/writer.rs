@@ -5,12 +5,12 @@ use super::random::Random;
 use crate::book::Book;
 use crate::run::answer_groups;
 use crate::script;
-use crate::sizes::MOST_KW;
+use crate::sizes::MAX_KW;
 
 /// Room is left below the script's limits, so that tiers can still be opened
 /// and closed once nothing else is written.
-const MOST_BYTES: usize = 60_000;
-const MOST_LINES: usize = 3_800;
+const MAX_BYTES: usize = 60_000;
+const MAX_LINES: usize = 3_800;
 
 pub(crate) struct Writer {
     pub(crate) random: Random,
@@ -25,7 +25,7 @@ pub(crate) struct Writer {
 
 impl Writer {
     pub(crate) fn new(mut random: Random, book: Book, text: String) -> Writer {
-        let scale = random.pick(&[4, 60, 1_000, 1_000, 50_000, 3_000_000, MOST_KW]);
+        let scale = random.pick(&[4, 60, 1_000, 1_000, 50_000, 3_000_000, MAX_KW]);
         Writer {
             lines: script::count_lines(text.as_bytes()),
             random,
@@ -39,8 +39,8 @@ impl Writer {
     /// Writes whole lines and runs them, if there is still room.
     pub(crate) fn say_text(&mut self, text: &str) -> bool {
         let lines = script::lines(text.as_bytes());
-        let full = self.text.len() + text.len() > MOST_BYTES;
-        if full || self.lines + lines.len() > MOST_LINES {
+        let full = self.text.len() + text.len() > MAX_BYTES;
+        if full || self.lines + lines.len() > MAX_LINES {
             return false;
         }
         self.write(text)
@@ -77,7 +77,7 @@ impl Writer {
 
     /// Holders that may hold rights to a sink, or load there.
     pub(crate) fn fits(&self, holder: usize, sink: usize) -> bool {
-        !self.book.sink_not_for(holder, sink)
+        !self.book.sink_ineligible(holder, sink)
     }
 
     /// Pairs of a holder and a path whose sink is for it, in any order.
