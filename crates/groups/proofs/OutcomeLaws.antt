@@ -36,11 +36,11 @@ use Rattle.groups.proofs.HeadLaws.{by-nothing}
 use Rattle.groups.proofs.RowLists.{blocks-of-rows, blocks-even, class-lines-of-rows, class-lines-even}
 
 -- counted lines are at most those that are left, and at most as many as are counted
-pub rows-few : (n : ℕ) (s : List ℕ) → length (rowsCounted n s) ≤ length (rowsOf s)
+rows-few : (n : ℕ) (s : List ℕ) → length (rowsCounted n s) ≤ length (rowsOf s)
 unfolding rowsCounted
 rows-few n s = let len = length-take n (rowsOf s) in omega arith
 
-pub rows-counted : (n : ℕ) (s : List ℕ) → length (rowsCounted n s) ≤ n
+rows-counted : (n : ℕ) (s : List ℕ) → length (rowsCounted n s) ≤ n
 unfolding rowsCounted
 rows-counted n s = let len = length-take n (rowsOf s) in omega arith
 
@@ -48,11 +48,11 @@ module _ (kind n : ℕ) (s : List ℕ) (x : Counted) (read : x ≡ countedOf kin
   abbrev rows : List Row
   rows = rowsCounted n s
 
-  pub whole-is : x .whole ≡ counted kind n rows
+  whole-is : x .whole ≡ counted kind n rows
   unfolding countedOf
   whole-is = ap (λ y. y .whole) read
 
-  pub used-is : x .used ≡ bytesOfLines n s
+  used-is : x .used ≡ bytesOfLines n s
   unfolding countedOf
   used-is = ap (λ y. y .used) read
 

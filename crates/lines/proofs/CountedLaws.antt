@@ -17,13 +17,13 @@ use Rattle.lines.specs.declared.lines.NextRow.{NextRow}
 use Rattle.lines.specs.Text.{linesOf}
 use Rattle.lines.specs.Rows.{rowsOf, allOfKind, counted}
 use Rattle.lines.specs.Reading.{firstBytes, nextRow}
-use Rattle.lines.specs.Counted.{bytesOfLines, rowsCounted, countedOf, columnLength, columnStores, roomWith}
+use Rattle.lines.specs.Counted.{bytesOfLines, rowsCounted, countedOf, keptFields, columnLength, columnsPut, roomWith}
 use Rattle.lines.proofs.RowSteps.{first-row, used-within}
 use Rattle.lines.proofs.RoomLaws.{row-kept, room-long}
 use Rattle.lines.proofs.KeptFields.{take-more, drop-more, in-list, kinds-more}
 
 -- one line more takes the bytes of the line that comes next
-pub bytes-more : (k : ℕ) (s : List ℕ) → bytesOfLines (suc k) s ≡ bytesOfLines k s + nextRow (drop (bytesOfLines k s) s) .used
+bytes-more : (k : ℕ) (s : List ℕ) → bytesOfLines (suc k) s ≡ bytesOfLines k s + nextRow (drop (bytesOfLines k s) s) .used
 unfolding bytesOfLines
 bytes-more zero s = omega arith
 bytes-more (suc k) s =
@@ -38,7 +38,7 @@ unfolding bytesOfLines nextRow linesOf firstBytes
 nothing-left zero = refl
 nothing-left (suc k) = let later = nothing-left k in omega arith
 
-pub bytes-all : (m n : ℕ) (s : List ℕ) → length s ≤ bytesOfLines m s → m ≤ n → bytesOfLines m s ≡ bytesOfLines n s
+bytes-all : (m n : ℕ) (s : List ℕ) → length s ≤ bytesOfLines m s → m ≤ n → bytesOfLines m s ≡ bytesOfLines n s
 unfolding bytesOfLines
 bytes-all zero n [] a b = sym (nothing-left n)
 bytes-all zero n (x ∷ s) a b = absurd (let z : ⊥ = omega arith in z)
@@ -76,7 +76,7 @@ module _ (s : List ℕ) (kind count k used : ℕ) (whole : Bool) (f : SoFar s ki
     here : drop k (rowsOf s) ≡ (next ∷ rowsOf (drop (nextRow rest .used) rest))
     here = sym (f .left) ∙ first-row rest left-some
 
-    pub row-below : k < length (rowsOf s)
+    row-below : k < length (rowsOf s)
     row-below = in-list k (rowsOf s) next (rowsOf (drop (nextRow rest .used) rest)) here
 
     -- a line that is counted finds room in columns that have it for all of these
@@ -84,13 +84,13 @@ module _ (s : List ℕ) (kind count k used : ℕ) (whole : Bool) (f : SoFar s ki
     unfolding rowsCounted
     line-fits n fits l = let all = length-take count (rowsOf s) in let below = row-below in omega arith
 
-    pub next-within : used + nextRow rest .used ≤ length s
+    next-within : used + nextRow rest .used ≤ length s
     next-within = let u = used-within rest in let len = length-drop used s in omega arith
 
     one-more : take (suc k) (rowsOf s) ≡ take k (rowsOf s) ++ (next ∷ [])
     one-more = take-more k (rowsOf s) next (rowsOf (drop (nextRow rest .used) rest)) here
 
-    pub read-more : k < count → SoFar s kind count (k + 1) (used + nextRow rest .used) (whole && eqb (next .kind) kind)
+    read-more : k < count → SoFar s kind count (k + 1) (used + nextRow rest .used) (whole && eqb (next .kind) kind)
     read-more l =
         record {
           upTo = omega arith;
@@ -114,12 +114,12 @@ module _ (s : List ℕ) (kind count k used : ℕ) (whole : Bool) (f : SoFar s ki
       turn-rows = ap (λ n. take n (rowsOf s)) (add-one k) ∙ one-more ∙ ap (λ y. take k (rowsOf s) ++ (y .row ∷ [])) (sym e)
 
       -- its fields are kept behind those before it
-      pub turn-kept : (room old new : List ℕ) → length (rowsCounted count s) ≤ columnLength room → k < count → old ≡ roomWith (take k (rowsOf s)) room → new ≡ columnStores (columnLength room) k (x .row) old → new ≡ roomWith (take (k + 1) (rowsOf s)) room
+      pub turn-kept : (room old new : List ℕ) → length (rowsCounted count s) ≤ columnLength room → k < count → old ≡ roomWith (take k (rowsOf s)) room → new ≡ columnsPut keptFields 0 (columnLength room) k (x .row) old → new ≡ roomWith (take (k + 1) (rowsOf s)) room
       turn-kept room old new fits l kept stored =
           let many = length-take-le k (rowsOf s) (f .inRows) in
           let below = line-fits (columnLength room) fits l in
           stored
-          ∙ (λ i. columnStores (columnLength room) (sym many i) (x .row) (kept i))
+          ∙ (λ i. columnsPut keptFields 0 (columnLength room) (sym many i) (x .row) (kept i))
           ∙ row-kept (take k (rowsOf s)) (x .row) room (omega arith)
           ∙ ap (λ rows. roomWith rows room) (sym turn-rows)
 

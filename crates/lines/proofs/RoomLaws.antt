@@ -5,10 +5,10 @@ use mathlib.Core.List.{List, [], _∷_, _++_, map}
 use native.Mathlib.Nat.{add-zero, zero-add, zero-mul, suc-mul, mul-le-mul-right}
 use native.Mathlib.Omega.{arith}
 use lib.ListN.{length, take, drop, set, length-append, length-map, length-drop, length-set, take-append-drop}
-use lib.Seq.{set-append-left, drop-append-add, take-append-le, length-take-le}
+use lib.Seq.{set-append-left, drop-append-add, take-append-le, length-take-le, take-at, drop-at}
 use Rattle.lines.specs.declared.rows.Row.{Row}
 use Rattle.lines.specs.Rows.{field}
-use Rattle.lines.specs.Counted.{withField, keptFields, columnLength, columnsWith, roomWith, columnStores, columnOf}
+use Rattle.lines.specs.Counted.{withField, keptFields, columnLength, columnsWith, columnsPut, roomWith, columnOf}
 use Rattle.lines.proofs.KeptFields.{field-more, fields-kept}
 
 -- before any line is read the room is as it was
@@ -38,7 +38,7 @@ one-less more n room fits = let left = length-drop n room in let all = suc-mul m
 first-fits : (more n : ℕ) (room : List ℕ) → suc more * n ≤ length room → n ≤ length room
 first-fits more n room fits = let all = suc-mul more n in omega arith
 
-pub columns-long : (more j n : ℕ) (rows : List Row) (room : List ℕ) → length rows ≤ n → more * n ≤ length room → length (columnsWith more j n rows room) ≡ length room
+columns-long : (more j n : ℕ) (rows : List Row) (room : List ℕ) → length rows ≤ n → more * n ≤ length room → length (columnsWith more j n rows room) ≡ length room
 unfolding columnsWith
 columns-long zero j n rows room few fits = refl
 columns-long (suc more) j n rows room few fits =
@@ -86,8 +86,7 @@ module _ (a b c d e rest : List ℕ) (n k : ℕ) (r : Row) (la : length a ≡ n)
   abbrev put : ℕ → List ℕ → List ℕ
   put j w = set w k (field j r)
 
-  stores-are : columnStores n k r (a ++ (b ++ (c ++ (d ++ (e ++ rest))))) ≡ put 0 a ++ (put 1 b ++ (put 2 c ++ (put 3 d ++ (put 4 e ++ rest))))
-  unfolding columnStores
+  stores-are : set (set (set (set (set (a ++ (b ++ (c ++ (d ++ (e ++ rest))))) k (field 0 r)) (n + k) (field 1 r)) (2 * n + k) (field 2 r)) (3 * n + k) (field 3 r)) (4 * n + k) (field 4 r) ≡ put 0 a ++ (put 1 b ++ (put 2 c ++ (put 3 d ++ (put 4 e ++ rest))))
   stores-are =
       let sa = length-set a k (field 0 r) in
       let sb = length-set b k (field 1 r) in
@@ -104,40 +103,38 @@ module _ (a b c d e rest : List ℕ) (n k : ℕ) (r : Row) (la : length a ≡ n)
       ∙ ap (λ x. set x (4 * n + k) (field 4 r)) fourth
       ∙ fifth
 
--- line k stored behind those before it
-module _ (rows : List Row) (r : Row) (room : List ℕ) (l : length rows < columnLength room) where
-  abbrev n : ℕ
-  n = columnLength room
+-- the five stores of a line put its fields into the columns
+pub line-stored : (n k : ℕ) (r : Row) (room : List ℕ) → keptFields * n ≤ length room → k < n → set (set (set (set (set room k (field 0 r)) (n + k) (field 1 r)) (2 * n + k) (field 2 r)) (3 * n + k) (field 3 r)) (4 * n + k) (field 4 r) ≡ columnsPut keptFields 0 n k r room
+unfolding columnsPut columnsWith withField
+line-stored n k r room fits l =
+    let b = drop n room in
+    let c = drop n b in
+    let d = drop n c in
+    let e = drop n d in
+    let lb = length-drop n room in
+    let lc = length-drop n b in
+    let ld = length-drop n c in
+    let le = length-drop n d in
+    ap (λ x. set (set (set (set (set x k (field 0 r)) (n + k) (field 1 r)) (2 * n + k) (field 2 r)) (3 * n + k) (field 3 r)) (4 * n + k) (field 4 r)) (no-column-changed keptFields 0 n room)
+    ∙ stores-are (take n room) (take n b) (take n c) (take n d) (take n e) (drop n e) n k r
+      (length-take-le n room (omega arith)) (length-take-le n b (omega arith)) (length-take-le n c (omega arith)) (length-take-le n d (omega arith)) (length-take-le n e (omega arith)) l
 
-  abbrev more : List Row
-  more = rows ++ (r ∷ [])
+-- a row put behind those that the columns have
+put-more : (more j n : ℕ) (rows : List Row) (r : Row) (room : List ℕ) → length rows < n → more * n ≤ length room → columnsPut more j n (length rows) r (columnsWith more j n rows room) ≡ columnsWith more j n (rows ++ (r ∷ [])) room
+unfolding columnsPut columnsWith
+put-more zero j n rows r room l fits = refl
+put-more (suc more) j n rows r room l fits =
+    let w = withField j rows (take n room) in
+    let later = columnsWith more (suc j) n rows (drop n room) in
+    let one = first-fits more n room fits in
+    let long = with-field-long j n rows room (omega arith) one in
+    let column = length-take-le n room one in
+    (λ i. set (take-at w later n long i) (length rows) (field j r) ++ columnsPut more (suc j) n (length rows) r (drop-at w later n long i))
+    ∙ (λ i. field-more j rows r (take n room) (omega arith) i ++ put-more more (suc j) n rows r (drop n room) l (one-less more n room fits) i)
 
-  -- what is left of the room behind so many columns
-  behindColumns : ℕ → List ℕ
-  behindColumns zero = room
-  behindColumns (suc j) = drop n (behindColumns j)
-
-  column : ℕ → List ℕ
-  column j = take n (behindColumns j)
-
-  left-long : (j : ℕ) → length (behindColumns j) ≡ length room - j * n
-  unfolding behindColumns
-  left-long zero = let none = zero-mul n in omega arith
-  left-long (suc j) = let one = length-drop n (behindColumns j) in let before = left-long j in let all = suc-mul j n in omega arith
-
-  column-long : (j : ℕ) → j < keptFields → length (withField j rows (column j)) ≡ n
-  unfolding column
-  column-long j few = with-field-long j n rows (behindColumns j) (omega arith) (let fits = room-fits room in let long = left-long j in let most = mul-le-mul-right {m = j} {n = 4} n (omega arith) in omega arith)
-
-  stored : (j : ℕ) → j < keptFields → set (withField j rows (column j)) (length rows) (field j r) ≡ withField j more (column j)
-  unfolding column
-  stored j few = field-more j rows r (column j) (let long = length-take-le n (behindColumns j) (let fits = room-fits room in let left = left-long j in let most = mul-le-mul-right {m = j} {n = 4} n (omega arith) in omega arith) in omega arith)
-
-  pub row-kept : columnStores n (length rows) r (roomWith rows room) ≡ roomWith more room
-  unfolding roomWith columnsWith column behindColumns
-  row-kept =
-      stores-are (withField 0 rows (column 0)) (withField 1 rows (column 1)) (withField 2 rows (column 2)) (withField 3 rows (column 3)) (withField 4 rows (column 4)) (behindColumns 5) n (length rows) r (column-long 0 (omega arith)) (column-long 1 (omega arith)) (column-long 2 (omega arith)) (column-long 3 (omega arith)) (column-long 4 (omega arith)) l
-      ∙ (λ i. stored 0 (omega arith) i ++ (stored 1 (omega arith) i ++ (stored 2 (omega arith) i ++ (stored 3 (omega arith) i ++ (stored 4 (omega arith) i ++ behindColumns 5)))))
+pub row-kept : (rows : List Row) (r : Row) (room : List ℕ) → length rows < columnLength room → columnsPut keptFields 0 (columnLength room) (length rows) r (roomWith rows room) ≡ roomWith (rows ++ (r ∷ [])) room
+unfolding roomWith
+row-kept rows r room l = put-more keptFields 0 (columnLength room) rows r room l (room-fits room)
 
 -- a column has a field of each row
 columns-kept : (more i j n : ℕ) (rows : List Row) (room : List ℕ) → i < more → length rows ≤ n → more * n ≤ length room → take (length rows) (drop (i * n) (columnsWith more j n rows room)) ≡ map (field (j + i)) rows

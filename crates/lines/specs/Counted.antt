@@ -40,9 +40,10 @@ columnsWith (suc more) j n rows room = withField j rows (take n room) ++ columns
 unfoldable pub roomWith : List Row → List ℕ → List ℕ
 roomWith rows room = columnsWith keptFields 0 (columnLength room) rows room
 
--- what storing the fields of line k does
-unfoldable pub columnStores : ℕ → ℕ → Row → List ℕ → List ℕ
-columnStores n k r room = set (set (set (set (set room k (field 0 r)) (n + k) (field 1 r)) (2 * n + k) (field 2 r)) (3 * n + k) (field 3 r)) (4 * n + k) (field 4 r)
+-- so many columns of a room, from that of field j on, with the fields of one row at place k of each
+unfoldable pub columnsPut : ℕ → ℕ → ℕ → ℕ → Row → List ℕ → List ℕ
+columnsPut zero j n k r room = room
+columnsPut (suc more) j n k r room = set (take n room) k (field j r) ++ columnsPut more (suc j) n k r (drop n room)
 
 -- a column of a room, as far as lines are kept in it
 unfoldable pub columnOf : ℕ → ℕ → List ℕ → List ℕ

@@ -4,7 +4,7 @@ use crate::rows::Row;
 ghost use mathlib.Core.Path.{_≡_};
 ghost use Prim.Native.Nat.{_*_, _≤_, _<_};
 ghost use lib.ListN.{length};
-ghost use Rattle.lines.specs.Counted.{rowsCounted, countedOf, keptFields, columnLength, columnStores, columnOf, roomWith};
+ghost use Rattle.lines.specs.Counted.{rowsCounted, countedOf, keptFields, columnLength, columnsPut, columnOf, roomWith};
 
 // Whether there are as many lines as counted, all of one kind, and how many bytes they take.
 pub struct Counted {
@@ -19,7 +19,7 @@ pub const KEPT_FIELDS: usize = 5;
 fn keep_row(room: &mut [u64], column: usize, k: usize, row: Row)
     requires room { ⌜ keptFields * column ≤ length (now room) ⌝ }
     requires line { ⌜ k < column ⌝ }
-    ensures { λ _. ⌜ now (room .exit) ≡ columnStores column k row (now (room .entry)) ⌝ }
+    ensures { λ _. ⌜ now (room .exit) ≡ columnsPut keptFields 0 column k row (now (room .entry)) ⌝ }
 {
     let fields = row.fields;
     room[k] = fields[0];

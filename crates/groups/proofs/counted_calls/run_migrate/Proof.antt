@@ -1,5 +1,4 @@
 -- `groups::counted_calls::run_migrate` meets its contract: the room has a place for each line that is counted. Assumes nothing.
-use native.Mathlib.Nat.{le-trans, le-of-eq}
 use Rattle.lines.specs.Rows.{field}
 use Rattle.groups.proofs.OutcomeLaws.{few-fit, all-fit, migrate-counts}
 use borrow.Author.Needs.{needs}

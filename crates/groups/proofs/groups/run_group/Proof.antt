@@ -1,5 +1,4 @@
 -- `groups::groups::run_group` meets its contract: the head's line, and the lines that it counts behind it. Assumes nothing.
-use native.Mathlib.Omega.{arith}
 use Rattle.groups.proofs.OutcomeLaws.{head-fits, behind-few, group-answers, group-bytes, group-fits}
 use borrow.Author.Needs.{needs}
 use Rattle.groups.proofs.groups.run_group.Statement.{statement}

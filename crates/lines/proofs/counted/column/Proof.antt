@@ -1,5 +1,4 @@
 -- `lines::counted::column` meets its contract. Assumes nothing.
-use native.Mathlib.Omega.{arith}
 use Rattle.lines.proofs.RoomLaws.{column-fits, column-part}
 use borrow.Author.Needs.{needs}
 use Rattle.lines.proofs.counted.column.Statement.{statement}

@@ -1,9 +1,8 @@
 -- `lines::counted::keep_row` meets its contract. Assumes nothing.
-use mathlib.Core.Path.{refl}
 use native.Mathlib.Omega.{arith}
 use lib.ListN.{length-set}
 use Rattle.lines.specs.Rows.{field}
-use Rattle.lines.specs.Counted.{columnStores}
+use Rattle.lines.proofs.RoomLaws.{line-stored}
 use borrow.Author.Needs.{needs}
 use Rattle.lines.proofs.counted.keep_row.Statement.{statement}
 use Rattle.lines.proofs.counted.keep_row.Tie as tie
@@ -78,8 +77,8 @@ same-length : tie.Need-same-length
 same-length c = simp length-set
 
 returns : tie.Need-returns
-unfolding columnStores field
-returns c = refl
+unfolding field
+returns c = line-stored _ _ _ _ (c .before .pre .0) (c .before .pre .1)
 
 pub keep-row-spec : {M : Type 1} → statement M
 keep-row-spec =

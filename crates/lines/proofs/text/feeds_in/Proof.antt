@@ -1,7 +1,6 @@
 -- `lines::text::feeds_in` meets its contract: what is counted are the LFs of the bytes passed so far. Assumes nothing.
 use Prim.Native.Nat.{_≤_, _-_, zero-le}
 use mathlib.Core.Logic.{⊎-elim}
-use native.Mathlib.Nat.{le-refl}
 use native.Mathlib.Omega.{arith}
 use lib.ListN.{length}
 use Rattle.lines.proofs.FeedLaws.{Counted, feed-more, other-byte, all-counted}
