@@ -10,13 +10,14 @@ use lib.Seq.{ext-getD, getD-take, length-take-le}
 use lib.Dec.{leb, ltb}
 use borrow.Author.Tests.{leb-true, leb-false, le-leb, lt-leb, ltb-true, ltb-false, lt-ltb, le-ltb}
 use Rattle.tariff.specs.Sizes.{maxClassLines}
+use Rattle.tariff.specs.Placed.{placed}
 use Rattle.migration.specs.declared.netting.ClassLine.{ClassLine}
 use Rattle.tariff.specs.Sum.{anyOf, anyBelow, listTo}
 use Rattle.tariff.specs.Ranges.{wrongTerm}
 use Rattle.migration.specs.ClassRanges.{wrongClassLine}
 use Rattle.migration.specs.Netting.{classLineAt, classLinesOf, sameCounts, SameLengths}
 use Rattle.tariff.proofs.Tests.{decided, or-left-true, any-at}
-use Rattle.tariff.proofs.Lists.{length-list-to, at-list-to, any-list-to, Filled, filled-none, filled-more}
+use Rattle.tariff.proofs.Lists.{length-list-to, at-list-to, any-list-to, Filled, filled-none, filled-more, placed-in}
 use Rattle.migration.proofs.FitLines.{counted}
 use Rattle.ledger.specs.Numbers.{unreadable, notInBook, outOfRange}
 use Rattle.ledger.specs.Opening.{Opening}
@@ -30,7 +31,7 @@ use Rattle.book.specs.declared.class_lines.Columns.{Columns}
 use Rattle.book.specs.Reading.{ledgerOf, openedWith, bookIn}
 use Rattle.book.specs.Handed.{handed, refusedWith, handedLines}
 use Rattle.book.specs.Reachable.{Reachable}
-use Rattle.book.specs.ClassLines.{placed, noLine, noColumns, withLine, columnsTo, FullColumns, handedColumns}
+use Rattle.book.specs.ClassLines.{noLine, noColumns, withLine, columnsTo, FullColumns, handedColumns}
 use Rattle.slots.proofs.StepLaws.{steps-refused}
 use Rattle.book.proofs.HandedBooks.{handed-book}
 
@@ -43,16 +44,8 @@ pub columns-more : (lines : List ClassLine) (k : ℕ) → withLine (columnsTo li
 unfolding columnsTo
 columns-more lines k = ap (columnsTo lines) (let e : suc k ≡ k + 1 = omega arith in e)
 
--- a number put into a column
-pub placed-in : (xs : List ℕ) (k v : ℕ) → k < maxClassLines → set xs k v ≡ placed xs k v
-unfolding placed
-placed-in xs k v l = sym (ap (λ t. cond t (set xs k v) xs) (lt-ltb k maxClassLines l))
-
-pub placed-out : (xs : List ℕ) (k v : ℕ) → maxClassLines ≤ k → xs ≡ placed xs k v
-unfolding placed
-placed-out xs k v l = sym (ap (λ t. cond t (set xs k v) xs) (le-ltb k maxClassLines l))
-
-placed-long : (xs : List ℕ) (k v : ℕ) → length (placed xs k v) ≡ length xs
+-- a number put into a column leaves it as long as it was
+placed-long : (xs : List ℕ) (k v : ℕ) → length (placed maxClassLines xs k v) ≡ length xs
 unfolding placed
 placed-long xs k v = go (ltb k maxClassLines)
   where
@@ -65,7 +58,7 @@ pub first-long : (n : ℕ) (xs : List ℕ) → n ≤ maxClassLines → length xs
 first-long n xs few full = sym (length-take-le n xs (omega arith))
 
 -- one column: the field f of each line
-module _ (lines : List ClassLine) (f : ClassLine → ℕ) (column : Columns → List ℕ) (starts : column noColumns ≡ replicate maxClassLines 0) (puts : (c : Columns) (k : ℕ) (l : ClassLine) → column (withLine c k l) ≡ placed (column c) k (f l)) where
+module _ (lines : List ClassLine) (f : ClassLine → ℕ) (column : Columns → List ℕ) (starts : column noColumns ≡ replicate maxClassLines 0) (puts : (c : Columns) (k : ℕ) (l : ClassLine) → column (withLine c k l) ≡ placed maxClassLines (column c) k (f l)) where
   abbrev fieldAt : ℕ → ℕ
   fieldAt j = f (getD lines j noLine)
 
@@ -80,7 +73,7 @@ module _ (lines : List ClassLine) (f : ClassLine → ℕ) (column : Columns → 
   column-filled (suc k) l =
       let old = column (columnsTo lines k) in
       let full = column-long k in
-      subst (Filled fieldAt (suc k)) (placed-in old k (fieldAt k) l ∙ sym (puts (columnsTo lines k) k (getD lines k noLine)))
+      subst (Filled fieldAt (suc k)) (placed-in maxClassLines old k (fieldAt k) l ∙ sym (puts (columnsTo lines k) k (getD lines k noLine)))
       (λ q b. filled-more fieldAt k old (fieldAt k) (omega arith) refl (column-filled k (omega arith)) q (omega arith))
 
   module _ (n : ℕ) (few : n ≤ maxClassLines) where

@@ -3,10 +3,11 @@ use Prim.Native.Nat.{ℕ, zero, suc, max}
 use mathlib.Core.Path.{_≡_}
 use mathlib.Core.Bool.{cond, _||_}
 use mathlib.Core.List.{List}
-use lib.ListN.{length, getD, set, replicate, take}
+use lib.ListN.{length, getD, replicate, take}
 use lib.Dec.{ltb}
 use Rattle.migration.specs.declared.netting.ClassLine.{ClassLine}
 use Rattle.tariff.specs.Sizes.{maxClassLines}
+use Rattle.tariff.specs.Placed.{placed}
 use Rattle.ledger.specs.Numbers.{notInBook, outOfRange}
 use Rattle.ledger.specs.Ranges.{noHolder, noSink}
 use Rattle.book.specs.declared.book.Book.{Book}
@@ -14,10 +15,6 @@ use Rattle.book.specs.declared.book.Answered.{Answered}
 use Rattle.book.specs.declared.class_lines.Columns.{Columns}
 use Rattle.book.specs.Reading.{openedWith}
 use Rattle.book.specs.Handed.{refusedWith, handedLines}
-
--- a number put into a column, which has no room past its end
-unfoldable pub placed : List ℕ → ℕ → ℕ → List ℕ
-placed column k v = cond (ltb k maxClassLines) (set column k v) column
 
 unfoldable pub noColumns : Columns
 noColumns =
@@ -34,11 +31,11 @@ noColumns =
 unfoldable pub withLine : Columns → ℕ → ClassLine → Columns
 withLine c k l =
     record {
-      froms = placed (c .froms) k (l .from);
-      tos = placed (c .tos) k (l .to);
-      classes = placed (c .classes) k (l .class);
-      customers = placed (c .customers) k (l .customers);
-      watts = placed (c .watts) k (l .watts);
+      froms = placed maxClassLines (c .froms) k (l .from);
+      tos = placed maxClassLines (c .tos) k (l .to);
+      classes = placed maxClassLines (c .classes) k (l .class);
+      customers = placed maxClassLines (c .customers) k (l .customers);
+      watts = placed maxClassLines (c .watts) k (l .watts);
       top = max (c .top) (max (l .from) (l .to));
     }
 

@@ -11,10 +11,12 @@ use records::setup::no_sink;
 use tariff::load::larger;
 use tariff::sizes::MAX_CLASS_LINES;
 ghost use mathlib.Core.Path.{_≡_};
+ghost use Rattle.tariff.specs.Sizes.{maxClassLines};
+ghost use Rattle.tariff.specs.Placed.{placed};
 ghost use Rattle.ledger.specs.Call.{migrate};
 ghost use Rattle.book.specs.Handed.{handed};
 ghost use Rattle.book.specs.Reachable.{Reachable};
-ghost use Rattle.book.specs.ClassLines.{placed, noColumns, withLine, FullColumns, handedColumns};
+ghost use Rattle.book.specs.ClassLines.{noColumns, withLine, FullColumns, handedColumns};
 
 // The fields of the first 64 lines, a column to a field, and the largest holder number in any line.
 struct Columns {
@@ -42,7 +44,7 @@ fn no_columns() -> Columns
 
 // A number put into a column. Past its end there is no room, and none is needed: more lines than 64 are refused.
 fn place(column: [u64; MAX_CLASS_LINES], k: usize, v: u64) -> [u64; MAX_CLASS_LINES]
-    ensures { λ r. ⌜ r ≡ placed column k v ⌝ }
+    ensures { λ r. ⌜ r ≡ placed maxClassLines column k v ⌝ }
 {
     let mut next = column;
     if k < MAX_CLASS_LINES {

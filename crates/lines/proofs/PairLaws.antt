@@ -1,7 +1,7 @@
 -- Lines of two fields, read one after another, of which the first 16 are kept. Assumes nothing.
 use Prim.Native.Nat.{ℕ, zero, suc, _+_, _-_, _≤_, _<_}
 use mathlib.Core.Path.{_≡_, refl, sym, ap, _∙_}
-use mathlib.Core.Bool.{Bool, true, false, cond, _&&_}
+use mathlib.Core.Bool.{Bool, true, false, _&&_}
 use mathlib.Core.List.{List, [], _∷_, _++_, map, map-append}
 use mathlib.Core.Logic.{_⊎_, inl, inr}
 use native.Mathlib.Nat.{le-trans, le-of-eq}
@@ -9,10 +9,11 @@ use native.Mathlib.Omega.{arith}
 use lib.ListN.{length, take, drop, set, getD, replicate, length-map, length-drop, length-set}
 use lib.Seq.{length-take-le, take-all, getD-append-seam, getD-set-same, getD-set-other}
 use lib.Dec.{eqb, ltb}
-use borrow.Author.Tests.{eqb-true, eqb-false, lt-ltb, le-ltb, ltb-true, ltb-false}
+use borrow.Author.Tests.{eqb-true, eqb-false, ltb-true, ltb-false}
 use Rattle.tariff.specs.Sizes.{maxPlaces}
 use Rattle.tariff.specs.Sum.{listTo}
-use Rattle.tariff.proofs.Lists.{length-list-to, at-list-to, list-ext, list-is}
+use Rattle.tariff.specs.Placed.{placed}
+use Rattle.tariff.proofs.Lists.{length-list-to, at-list-to, list-ext, list-is, placed-in, placed-out}
 use Rattle.tariff.proofs.Tests.{decided}
 use Rattle.lines.specs.declared.rows.Row.{Row}
 use Rattle.lines.specs.declared.lines.NextRow.{NextRow}
@@ -21,18 +22,9 @@ use Rattle.lines.specs.declared.counted.Counted.{Counted}
 use Rattle.lines.specs.Rows.{rowsOf, field}
 use Rattle.lines.specs.Reading.{nextRow}
 use Rattle.lines.specs.Counted.{bytesOfLines, rowsCounted, countedOf}
-use Rattle.lines.specs.BookLines.{placed, firstPlaces, firstFields, pairsOf}
+use Rattle.lines.specs.BookLines.{firstPlaces, firstFields, pairsOf}
 use Rattle.lines.proofs.LineBytes.{bytes-within, rows-after}
 use Rattle.lines.proofs.CountedLaws.{SoFar, none-read, turn, turn-rows, turn-within, rows-cut, cut-short, rows-read, all-read}
-
--- a number put into a list
-pub placed-in : (xs : List ℕ) (k v : ℕ) → k < maxPlaces → set xs k v ≡ placed xs k v
-unfolding placed
-placed-in xs k v l = sym (ap (λ t. cond t (set xs k v) xs) (lt-ltb k maxPlaces l))
-
-pub placed-out : (xs : List ℕ) (k v : ℕ) → maxPlaces ≤ k → xs ≡ placed xs k v
-unfolding placed
-placed-out xs k v l = sym (ap (λ t. cond t (set xs k v) xs) (le-ltb k maxPlaces l))
 
 -- a number more leaves the others where they are
 others-stay : (xs : List ℕ) (v i : ℕ) → (i ≡ length xs → ⊥) → getD xs i 0 ≡ getD (xs ++ (v ∷ [])) i 0
@@ -68,18 +60,18 @@ module _ (xs : List ℕ) (v : ℕ) where
   unfolding firstPlaces
   put-past l = list-ext maxPlaces (λ k. getD xs k 0) (λ k. getD more k 0) (λ k b. others-stay xs v k (λ e. omega (arith, e)))
 
-  put-more : placed (firstPlaces xs) (length xs) v ≡ firstPlaces more
+  put-more : placed maxPlaces (firstPlaces xs) (length xs) v ≡ firstPlaces more
   put-more = go (decided (ltb (length xs) maxPlaces))
     where
-      go : (ltb (length xs) maxPlaces ≡ true) ⊎ (ltb (length xs) maxPlaces ≡ false) → placed (firstPlaces xs) (length xs) v ≡ firstPlaces more
-      go (inl t) = let l = ltb-true (length xs) maxPlaces t in sym (placed-in (firstPlaces xs) (length xs) v l) ∙ put-within l
-      go (inr t) = let l = ltb-false (length xs) maxPlaces t in sym (placed-out (firstPlaces xs) (length xs) v l) ∙ put-past l
+      go : (ltb (length xs) maxPlaces ≡ true) ⊎ (ltb (length xs) maxPlaces ≡ false) → placed maxPlaces (firstPlaces xs) (length xs) v ≡ firstPlaces more
+      go (inl t) = let l = ltb-true (length xs) maxPlaces t in sym (placed-in maxPlaces (firstPlaces xs) (length xs) v l) ∙ put-within l
+      go (inr t) = let l = ltb-false (length xs) maxPlaces t in sym (placed-out maxPlaces (firstPlaces xs) (length xs) v l) ∙ put-past l
 
 -- the next row's field put behind those of the rows before it
-field-put : (j : ℕ) (rows : List Row) (r : Row) → placed (firstFields j rows) (length rows) (field j r) ≡ firstFields j (rows ++ (r ∷ []))
+field-put : (j : ℕ) (rows : List Row) (r : Row) → placed maxPlaces (firstFields j rows) (length rows) (field j r) ≡ firstFields j (rows ++ (r ∷ []))
 unfolding firstFields
 field-put j rows r =
-    ap (λ n. placed (firstPlaces (map (field j) rows)) n (field j r)) (sym (length-map rows (field j)))
+    ap (λ n. placed maxPlaces (firstPlaces (map (field j) rows)) n (field j r)) (sym (length-map rows (field j)))
     ∙ put-more (map (field j) rows) (field j r)
     ∙ ap firstPlaces (sym (map-append (field j) rows (r ∷ [])))
 
@@ -110,15 +102,15 @@ module _ (s : List ℕ) (kind count k consumed : ℕ) (complete : Bool) (firsts 
     pub pair-within : consumed + x .used ≤ length s
     pair-within = turn-within s kind count k consumed complete (f .lines) some x read
 
-    field-more : (j : ℕ) (old new : List ℕ) → old ≡ firstFields j (take k (rowsOf s)) → new ≡ placed old k (getD (x .row .fields) j 0) → new ≡ firstFields j (take (k + 1) (rowsOf s))
+    field-more : (j : ℕ) (old new : List ℕ) → old ≡ firstFields j (take k (rowsOf s)) → new ≡ placed maxPlaces old k (getD (x .row .fields) j 0) → new ≡ firstFields j (take (k + 1) (rowsOf s))
     unfolding field
     field-more j old new e put =
         put
-        ∙ (λ i. placed (e i) (sym (length-take-le k (rowsOf s) (f .lines .inRows)) i) (field j (x .row)))
+        ∙ (λ i. placed maxPlaces (e i) (sym (length-take-le k (rowsOf s) (f .lines .inRows)) i) (field j (x .row)))
         ∙ field-put j (take k (rowsOf s)) (x .row)
         ∙ ap (firstFields j) (sym (turn-rows s kind count k consumed complete (f .lines) some x read))
 
-    pub one-pair-more : k < count → (firsts₁ seconds₁ : List ℕ) → firsts₁ ≡ placed firsts k (getD (x .row .fields) 0 0) → seconds₁ ≡ placed seconds k (getD (x .row .fields) 1 0) → ReadTo s kind count (k + 1) (consumed + x .used) (complete && eqb (x .row .kind) kind) firsts₁ seconds₁
+    pub one-pair-more : k < count → (firsts₁ seconds₁ : List ℕ) → firsts₁ ≡ placed maxPlaces firsts k (getD (x .row .fields) 0 0) → seconds₁ ≡ placed maxPlaces seconds k (getD (x .row .fields) 1 0) → ReadTo s kind count (k + 1) (consumed + x .used) (complete && eqb (x .row .kind) kind) firsts₁ seconds₁
     one-pair-more l firsts₁ seconds₁ p q =
         record {
           lines = turn s kind count k consumed complete (f .lines) some x read l;

@@ -117,7 +117,7 @@ line-stored n k r room fits l =
     let le = length-drop n d in
     ap (λ x. set (set (set (set (set x k (field 0 r)) (n + k) (field 1 r)) (2 * n + k) (field 2 r)) (3 * n + k) (field 3 r)) (4 * n + k) (field 4 r)) (no-column-changed keptFields 0 n room)
     ∙ stores-are (take n room) (take n b) (take n c) (take n d) (take n e) (drop n e) n k r
-      (length-take-le n room (omega arith)) (length-take-le n b (omega arith)) (length-take-le n c (omega arith)) (length-take-le n d (omega arith)) (length-take-le n e (omega arith)) l
+    (length-take-le n room (omega arith)) (length-take-le n b (omega arith)) (length-take-le n c (omega arith)) (length-take-le n d (omega arith)) (length-take-le n e (omega arith)) l
 
 -- a row put behind those that the columns have
 put-more : (more j n : ℕ) (rows : List Row) (r : Row) (room : List ℕ) → length rows < n → more * n ≤ length room → columnsPut more j n (length rows) r (columnsWith more j n rows room) ≡ columnsWith more j n (rows ++ (r ∷ [])) room

@@ -1,9 +1,8 @@
 -- The lines that a book head counts, read one kind after another (01, Script and host).
 use Prim.Native.Nat.{ℕ, _+_}
-use mathlib.Core.Bool.{Bool, cond, _&&_}
+use mathlib.Core.Bool.{Bool, _&&_}
 use mathlib.Core.List.{List, map}
-use lib.ListN.{getD, set}
-use lib.Dec.{ltb}
+use lib.ListN.{getD}
 use Rattle.tariff.specs.Sizes.{maxPlaces}
 use Rattle.tariff.specs.Sum.{listTo}
 use Rattle.lines.specs.declared.rows.Row.{Row}
@@ -11,10 +10,6 @@ use Rattle.lines.specs.declared.book_lines.Pairs.{Pairs}
 use Rattle.lines.specs.declared.book_lines.BookLists.{BookLists}
 use Rattle.lines.specs.Rows.{holderLine, sinkLine, pathLine, rowsOf, field, counted, holderRows, sinkRows, pathRows}
 use Rattle.lines.specs.Counted.{bytesOfLines, rowsCounted}
-
--- a number put into a list, which has no room past its end
-unfoldable pub placed : List ℕ → ℕ → ℕ → List ℕ
-placed numbers k v = cond (ltb k maxPlaces) (set numbers k v) numbers
 
 -- the first 16 of some numbers, 0 past the last
 unfoldable pub firstPlaces : List ℕ → List ℕ

@@ -6,7 +6,9 @@ use crate::rows::Row;
 use crate::rows::SINK;
 use tariff::sizes::MAX_PLACES;
 ghost use mathlib.Core.Path.{_≡_};
-ghost use Rattle.lines.specs.BookLines.{placed, pairsOf, bookListsOf};
+ghost use Rattle.tariff.specs.Sizes.{maxPlaces};
+ghost use Rattle.tariff.specs.Placed.{placed};
+ghost use Rattle.lines.specs.BookLines.{pairsOf, bookListsOf};
 
 // Lines of at most two fields: whether there are as many as counted, all of one kind, how many bytes they take, and the fields of the first 16.
 pub struct Pairs {
@@ -29,7 +31,7 @@ pub struct BookLists {
 
 // A number put into a list. Past its end there is no room, and none is needed: a book with more than 16 of anything is refused.
 fn place(list: [u64; MAX_PLACES], k: usize, v: u64) -> [u64; MAX_PLACES]
-    ensures { λ r. ⌜ r ≡ placed list k v ⌝ }
+    ensures { λ r. ⌜ r ≡ placed maxPlaces list k v ⌝ }
 {
     let mut next = list;
     if k < MAX_PLACES {

@@ -1,14 +1,16 @@
 -- Laws of lists given by their entries: what stands where, sums and tests over them, and one stored entry. Assumes nothing.
 use Prim.Native.Nat.{ℕ, zero, suc, _+_, _-_, _≤_, _<_}
 use mathlib.Core.Path.{_≡_, refl, sym, ap, ap₂, _∙_}
-use mathlib.Core.Bool.{Bool, _||_, or-false, or-assoc}
+use mathlib.Core.Bool.{Bool, cond, _||_, or-false, or-assoc}
 use mathlib.Core.List.{List, [], _∷_, _++_}
 use mathlib.Core.Logic.{_⊎_, inl, inr}
 use native.Mathlib.Nat.{le-refl, not-suc-le-zero}
 use native.Mathlib.Omega.{arith}
 use lib.ListN.{length, getD, set, length-append, List·getD-append}
+use borrow.Author.Tests.{lt-ltb, le-ltb}
 use lib.Seq.{getD-append-add, ext-getD, getD-set-same, getD-set-other}
 use Rattle.tariff.specs.Sum.{sumTo, anyBelow, sumOver, anyOf, listTo}
+use Rattle.tariff.specs.Placed.{placed}
 use Rattle.tariff.proofs.Sums.{below-suc}
 
 module _ {A : Type 0} where
@@ -76,3 +78,12 @@ filled-more f k xs v l e old q b = go (below-suc (let s : q < suc k = omega arit
 
 pub filled-all : (f : ℕ → ℕ) (n k : ℕ) (xs : List ℕ) → length xs ≡ n → n ≤ k → Filled f k xs → xs ≡ listTo n f
 filled-all f n k xs len above old = list-is n f xs len (λ q l. old q (omega arith))
+
+-- a number put into a list, where there is room and where there is none
+pub placed-in : (most : ℕ) (xs : List ℕ) (k v : ℕ) → k < most → set xs k v ≡ placed most xs k v
+unfolding placed
+placed-in most xs k v l = sym (ap (λ t. cond t (set xs k v) xs) (lt-ltb k most l))
+
+pub placed-out : (most : ℕ) (xs : List ℕ) (k v : ℕ) → most ≤ k → xs ≡ placed most xs k v
+unfolding placed
+placed-out most xs k v l = sym (ap (λ t. cond t (set xs k v) xs) (le-ltb k most l))

@@ -11,3 +11,4 @@ pub mod Limit
 pub mod Evidence
 pub mod Ranges
 pub mod Filing
+pub mod Placed
