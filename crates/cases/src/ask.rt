@@ -3,6 +3,12 @@ use crate::write::answer;
 use book::book::Answered;
 use book::book::Book;
 use book::opened::open_book;
+use migration::netting::ClassLine;
+ghost use mathlib.Core.Path.{_≡_};
+ghost use Prim.Native.Nat.{_≤_};
+ghost use lib.ListN.{take};
+ghost use Rattle.ledger.specs.Call.{migrate};
+ghost use Rattle.book.specs.Handed.{handed};
 ghost use Rattle.book.specs.Reachable.{Reachable};
 
 // The answer written, and the book to go on with.
@@ -83,20 +89,19 @@ pub fn verify(
     told(b.verify(h, s, kind, capacity, right, first, last))
 }
 
-pub fn migrate(
-    b: Book,
-    term: u64,
-    sink: u64,
-    froms: &[u64],
-    tos: &[u64],
-    classes: &[u64],
-    customers: &[u64],
-    watts: &[u64],
-) -> Book
-    requires { ⌜ Reachable b ⌝ }
+// The first so many of two class lines, lent to the book as one slice. It does nothing else, since whatever lends a slice of structs is proved by hand.
+fn lend_lines(b: Book, term: u64, sink: u64, lines: [ClassLine; 2], count: usize) -> Answered
+    requires { ⌜ Reachable b × (count ≤ 2) ⌝ }
+    ensures { λ r. ⌜ r ≡ handed b (migrate term sink (take count lines)) ⌝ }
+{
+    b.migrate_lines(term, sink, &lines[..count])
+}
+
+pub fn migrate(b: Book, term: u64, sink: u64, lines: [ClassLine; 2], count: usize) -> Book
+    requires { ⌜ Reachable b × (count ≤ 2) ⌝ }
     ensures { λ r. ⌜ Reachable r ⌝ }
 {
-    told(b.migrate(term, sink, froms, tos, classes, customers, watts))
+    told(lend_lines(b, term, sink, lines, count))
 }
 
 pub fn open_tier(b: Book, tier: u64) -> Book

@@ -14,6 +14,7 @@ use crate::ask::prior;
 use crate::ask::verify;
 use crate::write::case;
 use book::book::Book;
+use migration::netting::ClassLine;
 ghost use Rattle.book.specs.Reachable.{Reachable};
 
 // Load-serving entities at a Default LAP that no path ends at.
@@ -174,19 +175,26 @@ pub fn case_7() {
     limit(b, 0, 0);
 }
 
+// Customers of class 1 who move from one holder to another.
+fn class_line(from: u64, to: u64, customers: u64, watts: u64) -> ClassLine {
+    ClassLine {
+        from: from,
+        to: to,
+        class: 1,
+        customers: customers,
+        watts: watts,
+    }
+}
+
 // Held 100, L 1,000, 500 to each of two: keeps 0.
 pub fn case_8() {
     case(8);
     let kinds = [1u64; 3];
-    let froms = [0u64, 0];
-    let tos = [1u64, 2];
-    let classes = [1u64; 2];
-    let customers = [500u64; 2];
-    let watts = [1000u64; 2];
+    let lines = [class_line(0, 1, 500, 1000), class_line(0, 2, 500, 1000)];
     let b = with_path(&kinds, 1);
     let b = steady_load(b, 0, 0, 1000);
     let b = carry(b, 0, 0, 100);
-    let b = migrate(b, 0, 0, &froms, &tos, &classes, &customers, &watts);
+    let b = migrate(b, 0, 0, lines, 2);
     held(b, 0, 0, 1);
     held(b, 1, 0, 1);
     held(b, 2, 0, 1);
@@ -196,15 +204,12 @@ pub fn case_8() {
 pub fn case_9() {
     case(9);
     let kinds = [1u64; 2];
-    let froms = [0u64];
-    let tos = [1u64];
-    let classes = [1u64];
-    let customers = [999u64];
-    let watts = [1000u64];
+    // One line is lent: the second is there only because the array has two.
+    let lines = [class_line(0, 1, 999, 1000); 2];
     let b = with_path(&kinds, 1);
     let b = steady_load(b, 0, 0, 1000);
     let b = carry(b, 0, 0, 1);
-    let b = migrate(b, 0, 0, &froms, &tos, &classes, &customers, &watts);
+    let b = migrate(b, 0, 0, lines, 1);
     held(b, 0, 0, 1);
     held(b, 1, 0, 1);
 }
@@ -213,15 +218,11 @@ pub fn case_9() {
 pub fn case_10() {
     case(10);
     let kinds = [1u64; 2];
-    let froms = [0u64, 1];
-    let tos = [1u64, 0];
-    let classes = [1u64; 2];
-    let customers = [1u64; 2];
-    let watts = [1500u64, 501];
+    let lines = [class_line(0, 1, 1, 1500), class_line(1, 0, 1, 501)];
     let b = with_path(&kinds, 1);
     let b = steady_load(b, 0, 0, 1000);
     let b = carry(b, 0, 0, 1000);
-    let b = migrate(b, 0, 0, &froms, &tos, &classes, &customers, &watts);
+    let b = migrate(b, 0, 0, lines, 2);
     held(b, 0, 0, 1);
 }
 
