@@ -58,14 +58,14 @@ pub fn answer(number: usize, head: &[u8], answer: &Answer) -> String {
         Answer::Accepted(values) => match values[..] {
             [] if number == 1 => "accepted: the book is open".to_string(),
             [] => "accepted".to_string(),
-            [kw] => format!("{kw} kW: {}", figure(head)),
-            _ => format!("{values:?}: {}", figure(head)),
+            [kw] => format!("{kw} kW: {}", query_value(head)),
+            _ => format!("{values:?}: {}", query_value(head)),
         },
     }
 }
 
 /// What the figure of an answered query is.
-fn figure(head: &[u8]) -> String {
+fn query_value(head: &[u8]) -> String {
     let head = String::from_utf8_lossy(head);
     let fields: Vec<&str> = head.split(',').collect();
     match fields[..] {

@@ -35,7 +35,7 @@ fn printed(command: &mut Command) -> String {
 
 #[test]
 fn the_c_program_is_answered() {
-    let (source, program) = (temporary("ask.c"), temporary("ask-c"));
+    let (source, program) = (temporary("client.c"), temporary("client-c"));
     write(&source, &block("c"));
     let mut cc = Command::new("cc");
     cc.args(["-Wall", "-Wextra", "-Werror", "-I"]);
@@ -73,10 +73,10 @@ fn rename() {
 #[test]
 fn the_rust_program_is_answered() {
     let wanted = "line 1: []\nline 5: []\nline 6: [25]\nline 7: not at this time\n";
-    assert_eq!(rust_answers("ask-rust", "", ""), wanted);
+    assert_eq!(rust_answers("client-rust", "", ""), wanted);
 
     rename();
     let own_run = "\n#[no_mangle]\npub extern \"C\" fn run() -> i32 {\n    1\n}\n";
     let end = ", features = [\"renamed\"]";
-    assert_eq!(rust_answers("ask-rust-renamed", own_run, end), wanted);
+    assert_eq!(rust_answers("client-rust-renamed", own_run, end), wanted);
 }

@@ -47,7 +47,7 @@ fn too_short_an_output_is_refused() {
 
 /// Bytes behind the answers stay as they were.
 #[test]
-fn bytes_behind_the_answers_stay() {
+fn bytes_after_the_answers_stay() {
     let script = script("net,0,1\n");
     let mut out = vec![b'#'; output_bytes(&script) + 9];
     assert_eq!(answers_into(&script, &mut out), Ok(8));

@@ -1,6 +1,6 @@
 //! The book itself: its figures, opening, and read access to every figure.
 
-use crate::evidence::Filed;
+use crate::evidence::Entry;
 use crate::opening::{Opening, OBAALSE, SCHEDULING_POINT, SUB_LAP};
 use crate::sizes::{HOLDERS, MONTHS, PATHS, SINKS, SOURCES, TERMS, TIERS};
 
@@ -36,7 +36,7 @@ pub struct Book {
     pub(crate) prior_rest: [[u64; PATHS]; HOLDERS],
     pub(crate) prior_posted: [[bool; PATHS]; HOLDERS],
     /// Evidence by holder, source and kind (ownership, contract).
-    pub(crate) evidence: [[[Filed; 2]; SOURCES]; HOLDERS],
+    pub(crate) evidence: [[[Entry; 2]; SOURCES]; HOLDERS],
     /// kW nominated in each tier; down to the awarded once it is closed.
     pub(crate) nominated: ByTier,
     /// kW awarded in each tier; these stay where they were awarded.
@@ -86,7 +86,7 @@ impl Book {
             prior_allocated: [[0; PATHS]; HOLDERS],
             prior_rest: [[0; PATHS]; HOLDERS],
             prior_posted: [[false; PATHS]; HOLDERS],
-            evidence: [[[Filed::EMPTY; 2]; SOURCES]; HOLDERS],
+            evidence: [[[Entry::EMPTY; 2]; SOURCES]; HOLDERS],
             nominated: [[[0; TIERS]; PATHS]; HOLDERS],
             tier_awards: [[[0; TIERS]; PATHS]; HOLDERS],
             last_closed: 0,
@@ -223,7 +223,7 @@ impl Book {
     }
 
     /// The evidence entry of a holder, source and kind 1 or 2.
-    pub fn evidence(&self, holder: usize, source: usize, kind: usize) -> Filed {
+    pub fn evidence(&self, holder: usize, source: usize, kind: usize) -> Entry {
         self.evidence[holder][source][kind - 1]
     }
 

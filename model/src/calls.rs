@@ -1,7 +1,7 @@
 //! The nine calls and three queries as values, and where each one is run.
 
 use crate::book::Book;
-use crate::{evidence, load, migration, queries, rights, tiers};
+use crate::{evidence, load, migrate, queries, rights, tiers};
 
 /// A block of a load: consecutive hours with the same kW.
 #[derive(Clone, Copy, Debug, Default, PartialEq, Eq)]
@@ -107,7 +107,7 @@ pub enum Answer {
     /// A query was answered.
     Value(u64),
     /// A refusal, by its number.
-    No(u64),
+    Refused(u64),
 }
 
 impl Book {
@@ -118,7 +118,7 @@ impl Book {
             Call::Carry(carry) => rights::carry(self, carry),
             Call::Prior(prior) => rights::prior(self, prior),
             Call::Verify(verify) => evidence::verify(self, verify),
-            Call::Migrate(migrate) => migration::migrate(self, migrate),
+            Call::Migrate(migrate) => migrate::migrate(self, migrate),
             Call::Open { tier } => tiers::open(self, *tier),
             Call::Nominate(nominate) => tiers::nominate(self, nominate),
             Call::Award(award) => tiers::award(self, award),

@@ -23,7 +23,7 @@ pub enum Evidence {
 
 /// An entry of evidence beside its first and last month.
 #[derive(Clone, Copy, Debug, PartialEq, Eq)]
-pub struct Filed {
+pub struct Entry {
     pub evidence: Evidence,
     pub first_month: u64,
     pub last_month: u64,
@@ -41,8 +41,8 @@ impl Evidence {
     }
 }
 
-impl Filed {
-    pub(crate) const EMPTY: Filed = Filed {
+impl Entry {
+    pub(crate) const EMPTY: Entry = Entry {
         evidence: Evidence::Empty,
         first_month: 0,
         last_month: 0,
@@ -70,7 +70,7 @@ pub(crate) fn verify(book: &mut Book, verify: &Verify) -> Result<(), u64> {
     refuse_if(entry.evidence != Evidence::Empty, POSTED_BEFORE)?;
 
     let (capacity, right) = (verify.capacity, verify.right);
-    *entry = Filed {
+    *entry = Entry {
         evidence: match verify.kind {
             1 => Evidence::Ownership { capacity, right },
             _ => Evidence::Contract { capacity, right },
@@ -128,7 +128,7 @@ mod tests {
     fn evidence_counts_for_its_months_and_for_the_season_only_if_whole() {
         for first_month in 1..=3 {
             for last_month in first_month..=3 {
-                let entry = Filed {
+                let entry = Entry {
                     evidence: Evidence::Empty,
                     first_month,
                     last_month,
@@ -141,7 +141,7 @@ mod tests {
             }
         }
         for term in 0..=3 {
-            assert!(!Filed::EMPTY.counts_for(term));
+            assert!(!Entry::EMPTY.counts_for(term));
         }
     }
 }

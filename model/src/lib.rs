@@ -9,7 +9,7 @@
 //! - [`refusals`]: the sixteen causes, looked for in ascending number;
 //! - [`run`] and [`answers`]: scripts, groups, answers, and the host's number;
 //! - [`generate`]: whole seasons, and damaged ones, from a seed;
-//! - [`figures`]: single rules on plain numbers;
+//! - [`rules`]: single rules on plain numbers;
 //! - [`vectors`]: stored scripts.
 //!
 //! Numbers are `u64`. Every field is held to its range before it is reckoned
@@ -19,15 +19,15 @@ mod book;
 mod calendar;
 mod calls;
 mod evidence;
-pub mod figures;
 pub mod generate;
 mod limit;
 mod load;
-mod migration;
+mod migrate;
 pub mod opening;
 mod queries;
 pub mod refusals;
 mod rights;
+pub mod rules;
 mod run;
 mod script;
 pub mod sizes;
@@ -36,6 +36,6 @@ pub mod vectors;
 
 pub use book::Book;
 pub use calls::{Answer, Block, Call, ClassLine, Load, Migrate, OnPath, Prior, Query, Verify};
-pub use evidence::{Evidence, Filed};
+pub use evidence::{Entry, Evidence};
 pub use opening::Opening;
 pub use run::{answers, run};

@@ -52,10 +52,10 @@ fn answer_script(script: &[u8]) -> Vec<u8> {
         return out;
     }
     match open_group(&lines) {
-        Err(refusal) => Answer::No(refusal).write(&mut out),
-        Ok((mut book, used)) => {
+        Err(refusal) => Answer::Refused(refusal).write(&mut out),
+        Ok((mut book, consumed)) => {
             Answer::Done.write(&mut out);
-            answer_groups(&mut book, &lines[used..], &mut out);
+            answer_groups(&mut book, &lines[consumed..], &mut out);
         }
     }
     out
@@ -65,17 +65,17 @@ fn answer_script(script: &[u8]) -> Vec<u8> {
 pub(crate) fn answer_groups(book: &mut Book, lines: &[&[u8]], out: &mut Vec<u8>) {
     let mut rest = lines;
     while !rest.is_empty() {
-        let (answer, used) = answer_group(book, rest);
+        let (answer, consumed) = answer_group(book, rest);
         answer.write(out);
-        rest = &rest[used..];
+        rest = &rest[consumed..];
     }
 }
 
 /// The book group: a readable head and the lines it counts, else 1; then the
 /// opening, which can only be 16.
 fn open_group(lines: &[&[u8]]) -> Result<(Book, usize), u64> {
-    let (opening, used) = read_opening(lines).ok_or(UNREADABLE)?;
-    Ok((Book::open(&opening)?, used))
+    let (opening, consumed) = read_opening(lines).ok_or(UNREADABLE)?;
+    Ok((Book::open(&opening)?, consumed))
 }
 
 /// Reads the opening, and how many lines it is written on. Sources have no
@@ -107,14 +107,14 @@ fn read_opening(lines: &[&[u8]]) -> Option<(Opening, usize)> {
 /// lines it counts whatever they say; an unreadable head takes none but itself.
 fn answer_group(book: &mut Book, lines: &[&[u8]]) -> (Answer, usize) {
     let rest = &lines[1..];
-    let used = |count: u64| 1 + count.min(rest.len() as u64) as usize;
+    let consumed = |count: u64| 1 + count.min(rest.len() as u64) as usize;
     match script::head(lines[0]) {
-        None => (Answer::No(UNREADABLE), 1),
+        None => (Answer::Refused(UNREADABLE), 1),
         Some(Head::Query(query)) => (Answer::from_query(book.query(&query)), 1),
         Some(Head::Call(call)) => (Answer::from_call(book.call(&call)), 1),
         Some(Head::Load(load, count)) => {
             let done = post_load(book, load, script::counted(rest, count, script::block_line));
-            (Answer::from_call(done), used(count))
+            (Answer::from_call(done), consumed(count))
         }
         Some(Head::Migrate(migrate, count)) => {
             let done = post_migrate(
@@ -122,7 +122,7 @@ fn answer_group(book: &mut Book, lines: &[&[u8]]) -> (Answer, usize) {
                 migrate,
                 script::counted(rest, count, script::class_line),
             );
-            (Answer::from_call(done), used(count))
+            (Answer::from_call(done), consumed(count))
         }
     }
 }
@@ -148,7 +148,7 @@ impl Answer {
     pub fn from_call(done: Result<(), u64>) -> Answer {
         match done {
             Ok(()) => Answer::Done,
-            Err(refusal) => Answer::No(refusal),
+            Err(refusal) => Answer::Refused(refusal),
         }
     }
 
@@ -156,7 +156,7 @@ impl Answer {
     pub fn from_query(value: Result<u64, u64>) -> Answer {
         match value {
             Ok(value) => Answer::Value(value),
-            Err(refusal) => Answer::No(refusal),
+            Err(refusal) => Answer::Refused(refusal),
         }
     }
 
@@ -166,7 +166,7 @@ impl Answer {
         let written = match self {
             Answer::Done => out.write_all(b"ok\n"),
             Answer::Value(value) => writeln!(out, "ok,{value}"),
-            Answer::No(refusal) => writeln!(out, "no,{refusal:02}"),
+            Answer::Refused(refusal) => writeln!(out, "no,{refusal:02}"),
         };
         written.expect("a vector takes every byte");
     }

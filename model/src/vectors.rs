@@ -62,17 +62,17 @@ impl Vector {
 
     /// Takes a line, with its LF, that begins no vector.
     fn take(&mut self, line: &[u8]) {
-        if let Some(told) = line.strip_prefix(b"#times ") {
-            let (copies, copied) = number_and_rest(told);
+        if let Some(directive) = line.strip_prefix(b"#times ") {
+            let (copies, copied) = number_and_rest(directive);
             // A line has a byte or more, so no more copies than this have room.
             for _ in 0..copies.min(SCRIPT_ROOM) {
                 self.add(copied);
             }
-        } else if let Some(told) = line.strip_prefix(b"#cut ") {
-            let (cut, _) = number_and_rest(told);
+        } else if let Some(directive) = line.strip_prefix(b"#cut ") {
+            let (cut, _) = number_and_rest(directive);
             self.script.truncate(self.script.len().saturating_sub(cut));
-        } else if let Some(told) = line.strip_prefix(b"#lend ") {
-            self.lent = number_and_rest(told).0.min(MAX_LENT);
+        } else if let Some(directive) = line.strip_prefix(b"#lend ") {
+            self.lent = number_and_rest(directive).0.min(MAX_LENT);
         } else if !line.starts_with(b"#") {
             self.add(line);
         }
@@ -87,9 +87,12 @@ impl Vector {
 
 /// A decimal number, and what stands after the blank that ends it. A number
 /// too large to be kept is as good as the largest.
-fn number_and_rest(told: &[u8]) -> (usize, &[u8]) {
-    let digits = told.iter().take_while(|byte| byte.is_ascii_digit()).count();
-    let (number, rest) = told.split_at(digits);
+fn number_and_rest(directive: &[u8]) -> (usize, &[u8]) {
+    let digits = directive
+        .iter()
+        .take_while(|byte| byte.is_ascii_digit())
+        .count();
+    let (number, rest) = directive.split_at(digits);
     let digit = |sum: usize, byte: &u8| {
         let sum = sum.saturating_mul(10);
         sum.saturating_add(usize::from(byte - b'0'))
@@ -114,8 +117,8 @@ mod tests {
         let text = b"#: note\nlost\n# one\na\r\n#: note\n\n\xff\n# two: 2\n";
         let names: Vec<String> = vectors(text).into_iter().map(|one| one.name).collect();
         assert_eq!(names, ["one", "two: 2"]);
-        let whole = (b"a\r\n\n\xff\n".to_vec(), MAX_LENT);
-        assert_eq!(scripts(text), [whole, (vec![], MAX_LENT)]);
+        let lent_in_full = (b"a\r\n\n\xff\n".to_vec(), MAX_LENT);
+        assert_eq!(scripts(text), [lent_in_full, (vec![], MAX_LENT)]);
     }
 
     /// Vectors: copies, cuts and what is lent, for the vector at hand alone.

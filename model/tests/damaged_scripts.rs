@@ -86,7 +86,7 @@ fn scripts_of_shuffled_words_never_panic() {
     for seed in 0..5_000 {
         let mut script = b"book,1,1,1,1\nholder,1\nsink,1,0\npath,0,0\n".to_vec();
         for _ in 0..random.below(40) {
-            script.extend_from_slice(random.pick(&words).as_bytes());
+            script.extend_from_slice(random.select(&words).as_bytes());
             for _ in 0..random.below(8) {
                 let number = random.up_to(3);
                 script.extend_from_slice(format!(",{number}").as_bytes());

@@ -1,7 +1,7 @@
 //! Seasons from seeds, replayed beside a tally of their own.
 
 mod replay;
-use replay::{replay, Drawn};
+use replay::{replay, Coverage};
 
 /// The plain ledger's sums over 20,000 seasons: holdings are what was carried
 /// in and awarded, loads what was posted, no migration takes more than there
@@ -9,45 +9,51 @@ use replay::{replay, Drawn};
 /// within nominations. The answers are the script's own.
 #[test]
 fn generated_seasons_keep_the_sums() {
-    let mut drawn = Drawn::default();
+    let mut coverage = Coverage::default();
     for seed in 0..20_000 {
-        let kept = std::panic::AssertUnwindSafe(|| replay(seed, &mut drawn));
+        let kept = std::panic::AssertUnwindSafe(|| replay(seed, &mut coverage));
         if let Err(broken) = std::panic::catch_unwind(kept) {
             eprintln!("the sums break at seed {seed}");
             std::panic::resume_unwind(broken);
         }
     }
-    assert_eq!(drawn.seasons, 20_000);
+    assert_eq!(coverage.seasons, 20_000);
 }
 
 /// The generator draws each number, reaches tier 9 in most seasons, and moves
 /// load and rights in the season and in each month.
 #[test]
 fn generated_seasons_draw_every_number() {
-    let mut drawn = Drawn::default();
+    let mut coverage = Coverage::default();
     for seed in 50_000..54_000 {
-        replay(seed, &mut drawn);
+        replay(seed, &mut coverage);
         // 15 is the host's: a buffer one byte short.
         let script = model::generate::season(seed);
         let lines = script.iter().filter(|&&byte| byte == b'\n').count();
         let mut short = vec![0; 16 * lines - 1];
         let number = model::run(&script, &mut short);
         assert_eq!(number, 15_000_000, "seed {seed}");
-        drawn.numbers[15] += 1;
+        coverage.numbers[15] += 1;
     }
-    println!("{drawn:?}");
+    println!("{coverage:?}");
     for number in 1..=16 {
-        assert!(drawn.numbers[number] > 0, "{number} is never drawn");
+        assert!(coverage.numbers[number] > 0, "{number} is never drawn");
     }
-    assert!(drawn.whole * 10 > drawn.seasons * 8, "{drawn:?}");
+    assert!(
+        coverage.complete * 10 > coverage.seasons * 8,
+        "{coverage:?}"
+    );
     for term in 0..4 {
-        assert!(drawn.load_moved[term] * 2 > drawn.seasons, "{drawn:?}");
         assert!(
-            drawn.rights_moved[term] * 5 > drawn.seasons * 2,
-            "{drawn:?}"
+            coverage.load_moved[term] * 2 > coverage.seasons,
+            "{coverage:?}"
+        );
+        assert!(
+            coverage.rights_moved[term] * 5 > coverage.seasons * 2,
+            "{coverage:?}"
         );
     }
-    assert!(drawn.at_the_limit > drawn.seasons, "{drawn:?}");
+    assert!(coverage.at_the_limit > coverage.seasons, "{coverage:?}");
 }
 
 /// A season comes from its seed alone.

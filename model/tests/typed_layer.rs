@@ -49,7 +49,7 @@ const NUMBERS: [u64; 24] = [
 /// Mostly small numbers, so that many calls are accepted.
 fn any(random: &mut Random) -> u64 {
     match random.up_to(7) {
-        0 => random.pick(&NUMBERS),
+        0 => random.select(&NUMBERS),
         1 => random.between(1, 1_000),
         _ => random.up_to(3),
     }

@@ -43,7 +43,7 @@ fn every_vector_is_answered_as_stored() {
 /// Vectors: a run writes its answers and no byte behind them; one that is
 /// refused whole writes none.
 #[test]
-fn bytes_beyond_the_answers_stay() {
+fn bytes_after_the_answers_stay() {
     for vector in all() {
         let (number, out) = run_marked(&vector);
         let (answers, rest) = out.split_at(written(number));
@@ -66,9 +66,9 @@ fn names_differ() {
 #[test]
 fn every_refusal_is_drawn() {
     let text = String::from_utf8(of_the_crate("stdout")).expect("answers are ASCII");
-    let drawn: BTreeSet<&str> = text.lines().filter_map(|l| l.strip_prefix("no,")).collect();
+    let printed: BTreeSet<&str> = text.lines().filter_map(|l| l.strip_prefix("no,")).collect();
     let wanted: Vec<String> = (1..=14).chain([16]).map(|n| format!("{n:02}")).collect();
-    assert!(drawn.into_iter().eq(wanted.iter()));
+    assert!(printed.into_iter().eq(wanted.iter()));
     let numbers: BTreeSet<u64> = all().iter().map(|one| run_marked(one).0).collect();
     let refused_whole = numbers.range(1_000_000..).copied();
     assert!(refused_whole.eq([1_000_000, 15_000_000]));
@@ -77,11 +77,11 @@ fn every_refusal_is_drawn() {
 /// The number of a line that speaks to the reader has 1 to 9 digits and no
 /// leading zero; lines without one are as good.
 fn number_is_plain(line: &str) -> bool {
-    let told = ["#times ", "#cut ", "#lend "].map(|way| line.strip_prefix(way));
-    let Some(told) = told.into_iter().flatten().next() else {
+    let directive = ["#times ", "#cut ", "#lend "].map(|way| line.strip_prefix(way));
+    let Some(directive) = directive.into_iter().flatten().next() else {
         return true;
     };
-    let number = told.split(' ').next().unwrap_or("");
+    let number = directive.split(' ').next().unwrap_or("");
     let value: Option<u32> = number.parse().ok();
     value.is_some_and(|value| value < 1_000_000_000 && value.to_string() == number)
 }
@@ -119,8 +119,8 @@ fn the_hosts_limits_are_there_on_both_sides() {
     for count in [4_096, 4_097] {
         assert!(vectors.iter().any(|one| lines(one) == count));
     }
-    for lent_beyond in [-1, 0, 1] {
-        let beyond = |one: &Vector| one.lent as i64 - 16 * lines(one) as i64;
-        assert!(vectors.iter().any(|one| beyond(one) == lent_beyond));
+    for lent_above in [-1, 0, 1] {
+        let above = |one: &Vector| one.lent as i64 - 16 * lines(one) as i64;
+        assert!(vectors.iter().any(|one| above(one) == lent_above));
     }
 }

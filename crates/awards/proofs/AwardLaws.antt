@@ -1,4 +1,4 @@
--- Cause 14 as code finds it, what an accepted award asks of the figures, and what it leaves in them. Assumes nothing.
+-- Cause 14 as code finds it, what an accepted award needs of the figures, and what it leaves in them. Assumes nothing.
 use Prim.Native.Nat.{ℕ, _+_, _^_, _≤_, _<_}
 use mathlib.Core.Path.{_≡_, refl, sym, ap, _∙_}
 use mathlib.Core.Bool.{Bool, cond}
@@ -9,13 +9,13 @@ use lib.ListN.{length, take, drop}
 use lib.Dec.{ltb}
 use borrow.Author.Tests.{eq-eqb}
 use Rattle.tariff.specs.declared.evidence.Entry.{Entry}
-use Rattle.tariff.specs.Sum.{countIf}
+use Rattle.tariff.specs.Sum.{whenTrue}
 use Rattle.tariff.specs.Sizes.{lastMonth, lastTier}
 use Rattle.tariff.specs.Terms.{termOf}
 use Rattle.ledger.specs.Opening.{Opening}
 use Rattle.ledger.specs.Ledger.{Ledger, withRights, withTiers}
 use Rattle.ledger.specs.Call.{award}
-use Rattle.ledger.specs.Causes.{beyondNominated, refusal}
+use Rattle.ledger.specs.Causes.{exceedsNominated, refusal}
 use Rattle.ledger.specs.Effects.{same3, plusAt3, awardsAfter, holdingsAfter, effect}
 use Rattle.ledger.proofs.TierFacts.{AwardFacts, award-facts}
 use Rattle.records.specs.declared.answers.Answer.the-variants.{Done}
@@ -40,8 +40,8 @@ unfolding ledgerIn
 nominated-now f m x h p = ap (λ t. cond t (figureIn f nominatedSlot 1 0 h p 0) (figureIn f awardsSlot tierSlots 0 h p (currentTierIn f))) (eq-eqb (currentTierIn f) (currentTierIn f) refl)
 
 -- cause 14
-pub nominated-test : (f : List ℕ) (m : List Bool) (x : List Entry) (h p kw tier nominated awards : ℕ) → tier ≡ currentTierIn f → tier ≤ lastTier → HasRoom f h p nominatedSlot ownershipSlot kw → nominated ≡ readAt figureSlots 0 f h p nominatedSlot → awards ≡ readAt figureSlots 0 f h p (awardsSlot + tier) → ltb nominated (awards + kw) ≡ beyondNominated (ledgerIn f m x) (currentTierIn f) h p kw
-unfolding beyondNominated ledgerIn
+pub nominated-test : (f : List ℕ) (m : List Bool) (x : List Entry) (h p kw tier nominated awards : ℕ) → tier ≡ currentTierIn f → tier ≤ lastTier → HasRoom f h p nominatedSlot ownershipSlot kw → nominated ≡ readAt figureSlots 0 f h p nominatedSlot → awards ≡ readAt figureSlots 0 f h p (awardsSlot + tier) → ltb nominated (awards + kw) ≡ exceedsNominated (ledgerIn f m x) (currentTierIn f) h p kw
+unfolding exceedsNominated ledgerIn
 nominated-test f m x h p kw tier nominated awards now last k n a = λ i. ltb (nominations i) (granted i + kw)
   where
     nominations : nominated ≡ ledgerIn f m x .tiers .nominated h p (currentTierIn f)
@@ -84,15 +84,15 @@ module _ (o f : List ℕ) (m : List Bool) (x : List Entry) (h p kw number : ℕ)
 
   -- the awarded rights and the tier's awards are new, and nothing else
   abbrev months : Ledger
-  months = withRights L (holdingsAfter (L .rights) (L .tiers .openNow) h p kw)
+  months = withRights L (holdingsAfter (L .rights) (L .tiers .currentTier) h p kw)
 
-  awarded : addedAt figureSlots (addedInTerm f h p awardedSlot (termOf (L .tiers .openNow)) kw) h p (awardsSlot + L .tiers .openNow) kw ≡ figuresOf (effect O L (award h p kw))
+  awarded : addedAt figureSlots (addedInTerm f h p awardedSlot (termOf (L .tiers .currentTier)) kw) h p (awardsSlot + L .tiers .currentTier) kw ≡ figuresOf (effect O L (award h p kw))
   unfolding figuresOf figureGroups calendarOf slotsOf effect withRights withTiers holdingsAfter awardsAfter plusAt3
   awarded =
-      shown-is figureSlots 0 _ (addedAt figureSlots (addedInTerm f h p awardedSlot (termOf (L .tiers .openNow)) kw) h p (awardsSlot + L .tiers .openNow) kw) (calendarOf L) (omega arith)
-      (slot-added figureSlots awardsSlot tierSlots 0 (take 6 (figureGroups months)) (drop 7 (figureGroups months)) refl (omega arith) (L .tiers .awards) (plusAt3 h p (L .tiers .openNow) kw (L .tiers .awards)) _ (calendarOf L) h p (L .tiers .openNow) kw holder path (let last = sound o f m x r .openLast in omega arith)
-      (λ i j n low high. ap (λ k. L .tiers .awards i j n + countIf (same3 h p k i j n) kw) (sym (add-zero (L .tiers .openNow))))
-      (term-added (take 4 (figureGroups L)) (drop 5 (figureGroups L)) awardedSlot (L .rights .awarded) f (calendarOf L) h p (termOf (L .tiers .openNow)) kw refl (omega arith) holder path (figures-shown o f m x r)))
+      shown-is figureSlots 0 _ (addedAt figureSlots (addedInTerm f h p awardedSlot (termOf (L .tiers .currentTier)) kw) h p (awardsSlot + L .tiers .currentTier) kw) (calendarOf L) (omega arith)
+      (slot-added figureSlots awardsSlot tierSlots 0 (take 6 (figureGroups months)) (drop 7 (figureGroups months)) refl (omega arith) (L .tiers .awards) (plusAt3 h p (L .tiers .currentTier) kw (L .tiers .awards)) _ (calendarOf L) h p (L .tiers .currentTier) kw holder path (let last = sound o f m x r .openLast in omega arith)
+      (λ i j n low high. ap (λ k. L .tiers .awards i j n + whenTrue (same3 h p k i j n) kw) (sym (add-zero (L .tiers .currentTier))))
+      (term-added (take 4 (figureGroups L)) (drop 5 (figureGroups L)) awardedSlot (L .rights .awarded) f (calendarOf L) h p (termOf (L .tiers .currentTier)) kw refl (omega arith) holder path (figures-shown o f m x r)))
 
   noted : m ≡ postedOf (effect O L (award h p kw))
   unfolding postedOf postedGroups effect withRights withTiers holdingsAfter

@@ -1,4 +1,4 @@
--- Arrays that show groups of slots, after a group of one slot was put to 0 or a number behind the cells was stored. Assumes nothing.
+-- Arrays that show groups of slots, after a group of one slot was put to 0 or a number after the cells was stored. Assumes nothing.
 use Prim.Native.Nat.{ℕ, _+_, _-_, _*_, _≤_, _<_}
 use mathlib.Core.Path.{_≡_, sym, ap, _∙_}
 use mathlib.Core.Bool.{true, false, cond}
@@ -15,7 +15,7 @@ use Rattle.slots.specs.Groups.{Group, group, slotsOf, inSlot}
 use Rattle.slots.proofs.CellLaws.{cell-below, shows-agree}
 use Rattle.slots.proofs.ClearLaws.{shows-cleared}
 
--- a slot's test, behind so many others
+-- a slot's test, after so many others
 later-slot : (slot c n : ℕ) → c ≤ slot → eqb slot (c + n) ≡ eqb (slot - c) n
 later-slot slot c n past = go (decided (eqb (slot - c) n))
   where
@@ -64,14 +64,14 @@ module _ (after : List (Group ℕ)) (low : ℕ) (old new : ℕ → ℕ → ℕ �
       (shows-cleared width from (inSlot 0 (before ++ (group 1 low old ∷ after))) xs rest inRow s)
       (λ h p slot c. ap (λ n. cond (eqb slot n) 0 (inSlot 0 (before ++ (group 1 low old ∷ after)) h p slot)) (sym at) ∙ group-cleared before h p slot)
 
--- a number stored behind the cells
-pub shows-behind : {A : Type 0} (width : ℕ) (none v : A) (f : ℕ → ℕ → ℕ → A) (xs rest : List A) (k : ℕ) → k < length rest → Shows width none xs f rest → Shows width none (set xs (rows * width + k) v) f (set rest k v)
+-- a number stored after the cells
+pub shows-past : {A : Type 0} (width : ℕ) (none v : A) (f : ℕ → ℕ → ℕ → A) (xs rest : List A) (k : ℕ) → k < length rest → Shows width none xs f rest → Shows width none (set xs (rows * width + k) v) f (set rest k v)
 unfolding readAt
-shows-behind width none v f xs rest k there s =
+shows-past width none v f xs rest k there s =
     record {
       sized = length-set xs (rows * width + k) v ∙ s .sized ∙ ap (λ n. rows * width + n) (sym (length-set rest k v));
       each = λ h p slot c. getD-set-other xs (rows * width + k) (cellOf width h p slot) v none (λ e. let l = cell-below width h p slot c in omega (arith, e)) ∙ s .each h p slot c;
-      behind = λ j. go j (decided (eqb j k));
+      tail = λ j. go j (decided (eqb j k));
     }
   where
     go : (j : ℕ) → (eqb j k ≡ true) ⊎ (eqb j k ≡ false) → getD (set xs (rows * width + k) v) (rows * width + j) none ≡ getD (set rest k v) j none
@@ -84,5 +84,5 @@ shows-behind width none v f xs rest k there s =
     go j (inr e) =
         let other = eqb-false j k e in
         getD-set-other xs (rows * width + k) (rows * width + j) v none (λ q. other (omega (arith, q)))
-        ∙ s .behind j
+        ∙ s .tail j
         ∙ sym (getD-set-other rest k j v none other)

@@ -7,7 +7,7 @@ use native.Mathlib.Nat.{le-trans, le-of-eq}
 use native.Mathlib.Omega.{arith}
 use borrow.Author.Tests.{leb-false}
 use Rattle.tariff.specs.declared.evidence.Entry.{Entry}
-use Rattle.tariff.specs.Ranges.{wrongMonth, within}
+use Rattle.tariff.specs.Ranges.{monthOutOfRange, within}
 use Rattle.tariff.specs.Terms.{isMonth}
 use Rattle.tariff.specs.Sum.{sumTo}
 use Rattle.tariff.specs.Sizes.{lastMonth}
@@ -15,11 +15,11 @@ use Rattle.tariff.proofs.Sums.{sum-add, sum-part-le}
 use Rattle.tariff.proofs.Tests.{or-unmet}
 use Rattle.ledger.specs.Opening.{Opening}
 use Rattle.ledger.specs.Ledger.{Ledger, emptyLedger}
-use Rattle.ledger.specs.Ranges.{noHolder, noPath}
+use Rattle.ledger.specs.Ranges.{unknownHolder, unknownPath}
 use Rattle.ledger.specs.Call.{heldOn, netOn}
 use Rattle.ledger.specs.Causes.{heldCauses, netCauses, queryCauses, queryRefusal}
 use Rattle.ledger.specs.Season.{held}
-use Rattle.ledger.proofs.Bounds.{mostTogether}
+use Rattle.ledger.proofs.Bounds.{maxTogether}
 use Rattle.ledger.proofs.Conserved.{carriedSum, awardedSum}
 use Rattle.ledger.proofs.Unmet.{unmet, is-within}
 use Rattle.records.specs.Opening.{openingIn}
@@ -31,12 +31,12 @@ use Rattle.slots.proofs.Reachable.{counts, fits, figures-long}
 use Rattle.slots.proofs.Figures.{by-number, figure-fits}
 use Rattle.awards.specs.Holdings.{HasHolding}
 
-month-within : (month : ℕ) → wrongMonth month ≡ false → (1 ≤ month) × (month ≤ 3)
-unfolding wrongMonth within isMonth
+month-within : (month : ℕ) → monthOutOfRange month ≡ false → (1 ≤ month) × (month ≤ 3)
+unfolding monthOutOfRange within isMonth
 month-within month e = is-within 1 3 month e
 
 pub held-names : (O : Opening) (h p month number : ℕ) → ((L : Ledger) → number ≡ queryRefusal O L (heldOn h p month)) → number ≡ 0 → (h < O .holders) × (p < O .paths) × (1 ≤ month) × (month ≤ 3)
-unfolding queryRefusal queryCauses heldCauses noHolder noPath
+unfolding queryRefusal queryCauses heldCauses unknownHolder unknownPath
 held-names O h p month number found zero =
     let first = unmet 1 _ _ (sym (found emptyLedger) ∙ zero) in
     let inBook = or-unmet _ _ (first .0) in
@@ -44,7 +44,7 @@ held-names O h p month number found zero =
     (leb-false _ _ (inBook .0), leb-false _ _ (inBook .1), range .0, range .1)
 
 pub net-names : (O : Opening) (p month number : ℕ) → ((L : Ledger) → number ≡ queryRefusal O L (netOn p month)) → number ≡ 0 → (p < O .paths) × (1 ≤ month) × (month ≤ 3)
-unfolding queryRefusal queryCauses netCauses noPath
+unfolding queryRefusal queryCauses netCauses unknownPath
 net-names O p month number found zero =
     let first = unmet 1 _ _ (sym (found emptyLedger) ∙ zero) in
     let range = month-within month (unmet 2 _ _ (first .1) .0) in
@@ -75,7 +75,7 @@ module _ (o f : List ℕ) (m : List Bool) (x : List Entry) (r : Reachable o f m 
       }
 
   -- all holdings on a path in a month together: one carry a holder, and an award a tier at most
-  net-fits : sumTo (openingIn o .holders) (λ h. held (ledgerIn f m x) h p month) ≤ 11 * mostTogether
+  net-fits : sumTo (openingIn o .holders) (λ h. held (ledgerIn f m x) h p month) ≤ 11 * maxTogether
   unfolding held carriedSum awardedSum
   net-fits =
       let carried = fits o f m x r .carriedFit p month in
@@ -86,5 +86,5 @@ module _ (o f : List ℕ) (m : List Bool) (x : List Entry) (r : Reachable o f m 
   pub net-room : (h sum v : ℕ) → h < openingIn o .holders → sum ≡ sumTo h (λ h. held (ledgerIn f m x) h p month) → v ≡ held (ledgerIn f m x) h p month → sum + v < 2 ^ 64
   net-room h sum v l e y =
       let part = sum-part-le (λ h. held (ledgerIn f m x) h p month) (openingIn o .holders) h l in
-      let whole = net-fits in
+      let all-of-it = net-fits in
       omega arith

@@ -1,4 +1,4 @@
--- The figures after a tier opens or closes: no nominations, and the tiers behind the figures anew. Assumes nothing.
+-- The figures after a tier opens or closes: no nominations, and the tiers after the figures anew. Assumes nothing.
 use Prim.Native.Nat.{ℕ, suc}
 use mathlib.Core.Path.{_≡_, refl, ap, _∙_}
 use mathlib.Core.Bool.{Bool, cond, not, _&&_}
@@ -23,11 +23,11 @@ use Rattle.slots.specs.Steps.{Reachable, Steps}
 use Rattle.slots.proofs.CellLaws.{shown-is}
 use Rattle.slots.proofs.Reachable.{sound, figures-shown, posted-known, evidence-known}
 use Rattle.slots.proofs.StepLaws.{accepted-test, steps-accepted}
-use Rattle.awards.proofs.ClearedGroups.{slot-cleared, shows-behind}
+use Rattle.awards.proofs.ClearedGroups.{slot-cleared, shows-past}
 
 -- another tier is open, or the tier is not the one after the last closed, as code finds it
-pub turn-test : (tier last current closed opened : ℕ) (next : Bool) → next ≡ (not (not (eqb current 0)) && eqb tier (suc last)) → last ≡ closed → current ≡ opened → not next ≡ not (not (not (eqb opened 0)) && eqb tier (suc closed))
-turn-test tier last current closed opened next e l c = ap not (e ∙ (λ i. not (not (eqb (c i) 0)) && eqb tier (suc (l i))))
+pub next-tier-test : (tier last current closed opened : ℕ) (next : Bool) → next ≡ (not (not (eqb current 0)) && eqb tier (suc last)) → last ≡ closed → current ≡ opened → not next ≡ not (not (not (eqb opened 0)) && eqb tier (suc closed))
+next-tier-test tier last current closed opened next e l c = ap not (e ∙ (λ i. not (not (eqb (c i) 0)) && eqb tier (suc (l i))))
 
 module _ (o f f′ : List ℕ) (m : List Bool) (x : List Entry) (number : ℕ) (r : Reachable o f m x) (zero : number ≡ 0) (clear : f′ ≡ clearedTo figureSlots nominatedSlot f rows) where
   abbrev O : Opening
@@ -39,7 +39,7 @@ module _ (o f f′ : List ℕ) (m : List Bool) (x : List Entry) (number : ℕ) (
   -- with no nominations in the open tier
   cleared : (new : ℕ → ℕ → ℕ → ℕ) → ((h p k : ℕ) → new h p k ≡ 0) → Shows figureSlots 0 (clearedTo figureSlots nominatedSlot f rows) (inSlot 0 (take 5 (figureGroups L) ++ (group 1 0 new ∷ drop 6 (figureGroups L)))) (calendarOf L)
   unfolding figureGroups slotsOf
-  cleared new none = slot-cleared (drop 6 (figureGroups L)) 0 (λ h p k. L .tiers .nominated h p (L .tiers .openNow)) new none figureSlots nominatedSlot (take 5 (figureGroups L)) f (calendarOf L) refl (omega arith) (figures-shown o f m x r)
+  cleared new none = slot-cleared (drop 6 (figureGroups L)) 0 (λ h p k. L .tiers .nominated h p (L .tiers .currentTier)) new none figureSlots nominatedSlot (take 5 (figureGroups L)) f (calendarOf L) refl (omega arith) (figures-shown o f m x r)
 
   module _ (tier : ℕ) (found : number ≡ refusal O L (openTier tier)) where
     -- a tier that opens has none: it was neither open nor closed
@@ -52,7 +52,7 @@ module _ (o f f′ : List ℕ) (m : List Bool) (x : List Entry) (number : ℕ) (
     unfolding figuresOf figureGroups calendarOf effect withTiers afterOpen
     opened =
         shown-is figureSlots 0 _ (set (clearedTo figureSlots nominatedSlot f rows) currentTierAt tier) _ (omega arith)
-        (shows-behind figureSlots 0 tier _ (clearedTo figureSlots nominatedSlot f rows) (calendarOf L) 1 (omega arith) (cleared (λ h p k. L .tiers .nominated h p tier) (λ h p k. fresh h p)))
+        (shows-past figureSlots 0 tier _ (clearedTo figureSlots nominatedSlot f rows) (calendarOf L) 1 (omega arith) (cleared (λ h p k. L .tiers .nominated h p tier) (λ h p k. fresh h p)))
 
     noted : m ≡ postedOf (effect O L (openTier tier))
     unfolding postedOf postedGroups effect withTiers
@@ -67,17 +67,17 @@ module _ (o f f′ : List ℕ) (m : List Bool) (x : List Entry) (number : ℕ) (
 
   module _ (found : number ≡ refusal O L closeTier) where
     -- once the tier is closed no tier is open, and 0 has no nominations
-    idle : (h p : ℕ) → cond (eqb 0 (L .tiers .openNow)) (L .tiers .awards h p 0) (L .tiers .nominated h p 0) ≡ 0
+    idle : (h p : ℕ) → cond (eqb 0 (L .tiers .currentTier)) (L .tiers .awards h p 0) (L .tiers .nominated h p 0) ≡ 0
     idle h p =
         let isOpen = close-fact O L (accepted-test O L closeTier number found zero) in
-        ap (λ t. cond t (L .tiers .awards h p 0) (L .tiers .nominated h p 0)) (ne-eqb 0 (L .tiers .openNow) (λ e. omega (arith, e))) ∙ sound o f m x r .noTierZero h p
+        ap (λ t. cond t (L .tiers .awards h p 0) (L .tiers .nominated h p 0)) (ne-eqb 0 (L .tiers .currentTier) (λ e. omega (arith, e))) ∙ sound o f m x r .noTierZero h p
 
-    closed : set (set (clearedTo figureSlots nominatedSlot f rows) lastClosedAt (L .tiers .openNow)) currentTierAt 0 ≡ figuresOf (effect O L closeTier)
+    closed : set (set (clearedTo figureSlots nominatedSlot f rows) lastClosedAt (L .tiers .currentTier)) currentTierAt 0 ≡ figuresOf (effect O L closeTier)
     unfolding figuresOf figureGroups calendarOf effect withTiers afterClose
     closed =
-        shown-is figureSlots 0 _ (set (set (clearedTo figureSlots nominatedSlot f rows) lastClosedAt (L .tiers .openNow)) currentTierAt 0) _ (omega arith)
-        (shows-behind figureSlots 0 0 _ (set (clearedTo figureSlots nominatedSlot f rows) lastClosedAt (L .tiers .openNow)) _ 1 (omega arith)
-        (shows-behind figureSlots 0 (L .tiers .openNow) _ (clearedTo figureSlots nominatedSlot f rows) (calendarOf L) 0 (omega arith) (cleared (λ h p k. cond (eqb 0 (L .tiers .openNow)) (L .tiers .awards h p 0) (L .tiers .nominated h p 0)) (λ h p k. idle h p))))
+        shown-is figureSlots 0 _ (set (set (clearedTo figureSlots nominatedSlot f rows) lastClosedAt (L .tiers .currentTier)) currentTierAt 0) _ (omega arith)
+        (shows-past figureSlots 0 0 _ (set (clearedTo figureSlots nominatedSlot f rows) lastClosedAt (L .tiers .currentTier)) _ 1 (omega arith)
+        (shows-past figureSlots 0 (L .tiers .currentTier) _ (clearedTo figureSlots nominatedSlot f rows) (calendarOf L) 0 (omega arith) (cleared (λ h p k. cond (eqb 0 (L .tiers .currentTier)) (L .tiers .awards h p 0) (L .tiers .nominated h p 0)) (λ h p k. idle h p))))
 
     pub close-steps : (tier : ℕ) → tier ≡ currentTierIn f → Steps O L closeTier Done (set (set f′ lastClosedAt tier) currentTierAt 0) m x
     unfolding ledgerIn postedOf postedGroups evidenceOf evidenceGroups effect withTiers

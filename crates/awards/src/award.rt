@@ -5,10 +5,10 @@ use records::numbers::ABOVE_NOMINATED;
 use records::numbers::NOT_AT_THIS_TIME;
 use records::numbers::NOT_IN_BOOK;
 use records::numbers::OUT_OF_RANGE;
+use records::refusals::kw_out_of_range;
 use records::refusals::refuse;
-use records::refusals::wrong_kw;
-use records::setup::no_holder;
-use records::setup::no_path;
+use records::setup::unknown_holder;
+use records::setup::unknown_path;
 use slots::calendar::current_tier;
 use slots::cells::add;
 use slots::cells::read;
@@ -24,7 +24,7 @@ ghost use Prim.Native.Nat.{_≤_};
 ghost use Rattle.tariff.specs.declared.evidence.Entry.{Entry};
 ghost use Rattle.tariff.specs.Sizes.{lastTier};
 ghost use Rattle.ledger.specs.Call.{award};
-ghost use Rattle.ledger.specs.Causes.{beyondNominated, refusal};
+ghost use Rattle.ledger.specs.Causes.{exceedsNominated, refusal};
 ghost use Rattle.slots.specs.Layout.{currentTierIn, ledgerIn, nominatedSlot, ownershipSlot};
 ghost use Rattle.slots.specs.Months.{HasRoom};
 ghost use Rattle.slots.specs.Steps.{ReachableFigures, InFigures, FiguresStep};
@@ -32,7 +32,7 @@ ghost use Rattle.slots.specs.Steps.{ReachableFigures, InFigures, FiguresStep};
 // Cause 14: with kw more, a holder's awards on a path exceed its nominations in the open tier.
 fn exceeds_nominated(f: &[u64], tier: u64, h: u64, p: u64, kw: u64) -> bool
     requires { ⌜ (tier ≡ currentTierIn (now f)) × (tier ≤ lastTier) × HasRoom (now f) h p nominatedSlot ownershipSlot kw ⌝ }
-    ensures { λ r. ⌜ ((m : List Bool) (x : List Entry) → r ≡ beyondNominated (ledgerIn (now (f .entry)) m x) (currentTierIn (now (f .entry))) h p kw) ⌝ }
+    ensures { λ r. ⌜ ((m : List Bool) (x : List Entry) → r ≡ exceedsNominated (ledgerIn (now (f .entry)) m x) (currentTierIn (now (f .entry))) h p kw) ⌝ }
 {
     let nominated = read(f, h, p, NOMINATED);
     let wanted = read(f, h, p, AWARDS + tier) + kw;
@@ -44,11 +44,11 @@ fn award_refusal(o: &[u64], f: &[u64], h: u64, p: u64, kw: u64) -> u64
     requires { ⌜ ReachableFigures (now o) (now f) ⌝ }
     ensures { λ r. ⌜ InFigures (now (o .entry)) (now (f .entry)) (λ O L. r ≡ refusal O L (award h p kw)) ⌝ }
 {
-    let unknown = no_holder(o, h) | no_path(o, p);
+    let unknown = unknown_holder(o, h) | unknown_path(o, p);
     if unknown {
         return NOT_IN_BOOK;
     }
-    if wrong_kw(kw) {
+    if kw_out_of_range(kw) {
         return OUT_OF_RANGE;
     }
     let tier = current_tier(f);

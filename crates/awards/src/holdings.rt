@@ -2,11 +2,11 @@
 use records::answers::Answer;
 use records::numbers::NOT_IN_BOOK;
 use records::numbers::OUT_OF_RANGE;
+use records::refusals::month_out_of_range;
 use records::refusals::refuse;
-use records::refusals::wrong_month;
 use records::setup::holders;
-use records::setup::no_holder;
-use records::setup::no_path;
+use records::setup::unknown_holder;
+use records::setup::unknown_path;
 use slots::cells::read;
 use slots::layout::AWARDED;
 use slots::layout::CARRIED;
@@ -52,8 +52,8 @@ fn net_holding(o: &[u64], f: &[u64], p: u64, month: u64) -> u64
 fn held_refusal(o: &[u64], h: u64, p: u64, month: u64) -> u64
     ensures { λ r. ⌜ ((L : Ledger) → r ≡ queryRefusal (openingOf (o .entry)) L (heldOn h p month)) ⌝ }
 {
-    let unknown = no_holder(o, h) | no_path(o, p);
-    let range = wrong_month(month);
+    let unknown = unknown_holder(o, h) | unknown_path(o, p);
+    let range = month_out_of_range(month);
     refuse(NOT_IN_BOOK, unknown, refuse(OUT_OF_RANGE, range, 0))
 }
 
@@ -61,8 +61,8 @@ fn held_refusal(o: &[u64], h: u64, p: u64, month: u64) -> u64
 fn net_refusal(o: &[u64], p: u64, month: u64) -> u64
     ensures { λ r. ⌜ ((L : Ledger) → r ≡ queryRefusal (openingOf (o .entry)) L (netOn p month)) ⌝ }
 {
-    let unknown = no_path(o, p);
-    let range = wrong_month(month);
+    let unknown = unknown_path(o, p);
+    let range = month_out_of_range(month);
     refuse(NOT_IN_BOOK, unknown, refuse(OUT_OF_RANGE, range, 0))
 }
 

@@ -1,11 +1,11 @@
 // Opening and closing a tier (01, Tiers).
 use records::answers::Answer;
-use records::calendar::in_turn;
+use records::calendar::is_next_tier;
 use records::calendar::is_open;
 use records::numbers::NOT_AT_THIS_TIME;
 use records::numbers::OUT_OF_RANGE;
 use records::refusals::refuse;
-use records::refusals::wrong_tier;
+use records::refusals::tier_out_of_range;
 use slots::calendar::current_tier;
 use slots::calendar::last_closed;
 use slots::cells::clear;
@@ -26,8 +26,8 @@ ghost use Rattle.slots.specs.Steps.{ReachableTier, TierStep};
 fn open_refusal(f: &[u64], tier: u64) -> u64
     ensures { λ r. ⌜ ((O : Opening) (m : List Bool) (x : List Entry) → r ≡ refusal O (ledgerIn (now (f .entry)) m x) (openTier tier)) ⌝ }
 {
-    let range = wrong_tier(tier);
-    let late = !in_turn(tier, last_closed(f), current_tier(f));
+    let range = tier_out_of_range(tier);
+    let late = !is_next_tier(tier, last_closed(f), current_tier(f));
     refuse(OUT_OF_RANGE, range, refuse(NOT_AT_THIS_TIME, late, 0))
 }
 

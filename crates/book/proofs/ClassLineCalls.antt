@@ -1,4 +1,4 @@
--- The three calls of `Book::migrate_lines`, for the walk of its code: what each is passed, what it asks, and what is known of its result. What they are passed is plain data, which owns nothing but facts, so nothing is needed for a call but those. Assumes nothing.
+-- The three calls of `Book::migrate_lines`, for the walk of its code: what each is passed, what it requires, and what is known of its result. What they are passed is plain data, which owns nothing but facts, so nothing is needed for a call but those. Assumes nothing.
 use mathlib.Core.Path.{_≡_, refl}
 use Prim.Native.Nat.{ℕ, _<_, _^_}
 use mathlib.Core.List.{[], _∷_}
@@ -21,14 +21,14 @@ use denote.Triple.Statement.{Contract}
 use denote.Triple.Spec.{tripleOf}
 use denote.Triple.Walked.{says}
 use denote.Triple.Clauses.{ensured, lasts}
-use Rattle.migration.specs.declared.netting.ClassLine.{ClassLine}
-use Rattle.migration.proofs.netting.ClassLine as L
-use Rattle.migration.proofs.netting.ClassLine.Laws as L′
+use Rattle.netting.specs.declared.netting.ClassLine.{ClassLine}
+use Rattle.netting.proofs.netting.ClassLine as L
+use Rattle.netting.proofs.netting.ClassLine.Laws as L′
 use Rattle.book.specs.declared.book.Book.{Book}
-use Rattle.book.specs.declared.book.Answered.{Answered}
+use Rattle.book.specs.declared.book.Outcome.{Outcome}
 use Rattle.book.specs.declared.class_lines.Columns.{Columns}
 use Rattle.book.specs.Reachable.{Reachable}
-use Rattle.book.specs.ClassLines.{noColumns, withLine, FullColumns, handedColumns}
+use Rattle.book.specs.ClassLines.{noColumns, withLine, FullColumns, outcomeOfColumns}
 use Rattle.book.proofs.book.Book as B
 use Rattle.book.proofs.book.Book.Laws as B′
 use Rattle.book.proofs.class_lines.Columns as K
@@ -49,7 +49,7 @@ module _ {M : Type 1} (𝓤 : URA M) (H : Heap 𝓤) (A : Atoms 𝓤) (mem : Mem
   Last = tripleOf 𝓤 H A last.signature (last.spec 𝓤 H A mem run)
 
 module _ {M : Type 1} (𝓤 : URA M) (H : Heap 𝓤) (A : Atoms 𝓤) (W : Given 𝓤 H A) (mem : Memory → SProp 𝓤) (run : Routine → Fun 𝓤) where
-  -- a call of each: what it is passed, what it asks, and what is known of its result
+  -- a call of each: what it is passed, what it requires, and what is known of its result
   abbrev pub to-none : None 𝓤 H A mem run .Ghost
   to-none = ((tt, tt, tt, tt, tt), tt)
 
@@ -77,12 +77,12 @@ module _ {M : Type 1} (𝓤 : URA M) (H : Heap 𝓤) (A : Atoms 𝓤) (W : Given
     to-last = ((tt, tt, tt, (b, (term, (sink, (k, (c, tt))))), (u ∷ [], (vint w64 term ∷ [], (vint w64 sink ∷ [], (vint w64 k ∷ [], (w ∷ [], tt)))))), tt)
 
     pub asks-last : Reachable b × FullColumns c → Is B.the-row b (u ∷ []) → term < 2 ^ 64 → sink < 2 ^ 64 → k < 2 ^ 64 → Is K.the-row c (w ∷ []) → ent 𝓤 (emp 𝓤) (Last 𝓤 H A mem run .pre to-last)
-    asks-last reached ib gt gs gk ic =
-        qed W [] ∵ says ! reached $ nothing ! $ owned ! K.the-row (Is K.the-row) (LL.makes K.the-type K′.the-plain 𝓤 H A) c (w ∷ []) ic $ fjoin ! $
+    asks-last reachable ib gt gs gk ic =
+        qed W [] ∵ says ! reachable $ nothing ! $ owned ! K.the-row (Is K.the-row) (LL.makes K.the-type K′.the-plain 𝓤 H A) c (w ∷ []) ic $ fjoin ! $
         owned ! usize (Is usize) (uint-makes 𝓤 H A W w64) k (vint w64 k ∷ []) (refl, gk) $ fjoin ! $
         owned ! u64 (Is u64) (uint-makes 𝓤 H A W w64) sink (vint w64 sink ∷ []) (refl, gs) $ fjoin ! $
         owned ! u64 (Is u64) (uint-makes 𝓤 H A W w64) term (vint w64 term ∷ []) (refl, gt) $ fjoin ! $
         owned ! B.the-row (Is B.the-row) (LL.makes B.the-type B′.the-plain 𝓤 H A) b (u ∷ []) ib $ fjoin ! $ nothing ! $ done !
 
-    pub last-said : (r : Answered) → ent 𝓤 (ensured 𝓤 H A last.ended (last.clauses 𝓤 H A mem run) tt (b, (term, (sink, (k, (c, tt))))) tt r) (fact 𝓤 (r ≡ handedColumns b term sink k c))
-    last-said r = exE 𝓤 _ (λ ws. snd∗ 𝓤 (sem 𝓤 H A (lasts last.ended tt (b, (term, (sink, (k, (c, tt))))) ws)) (fact 𝓤 (r ≡ handedColumns b term sink k c)))
+    pub last-said : (r : Outcome) → ent 𝓤 (ensured 𝓤 H A last.ended (last.clauses 𝓤 H A mem run) tt (b, (term, (sink, (k, (c, tt))))) tt r) (fact 𝓤 (r ≡ outcomeOfColumns b term sink k c))
+    last-said r = exE 𝓤 _ (λ ws. snd∗ 𝓤 (sem 𝓤 H A (lasts last.ended tt (b, (term, (sink, (k, (c, tt))))) ws)) (fact 𝓤 (r ≡ outcomeOfColumns b term sink k c)))

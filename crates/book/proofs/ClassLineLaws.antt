@@ -1,4 +1,4 @@
--- Class lines taken apart into columns: what stands in the columns, what the largest holder number tells, and what a migration of the columns hands back. Assumes nothing.
+-- Class lines taken apart into columns: what stands in the columns, what the largest holder number says, and what a migration of the columns returns. Assumes nothing.
 use Prim.Native.Nat.{ℕ, zero, suc, max, _+_, _≤_, _<_}
 use mathlib.Core.Path.{_≡_, refl, sym, ap, ap₂, _∙_, subst}
 use mathlib.Core.Bool.{Bool, true, false, cond, _||_, or-true, or-false, or-assoc}
@@ -11,29 +11,29 @@ use lib.Dec.{leb, ltb}
 use borrow.Author.Tests.{leb-true, leb-false, le-leb, lt-leb, ltb-true, ltb-false, lt-ltb, le-ltb}
 use Rattle.tariff.specs.Sizes.{maxClassLines}
 use Rattle.tariff.specs.Placed.{placed}
-use Rattle.migration.specs.declared.netting.ClassLine.{ClassLine}
-use Rattle.tariff.specs.Sum.{anyOf, anyBelow, listTo}
-use Rattle.tariff.specs.Ranges.{wrongTerm}
-use Rattle.migration.specs.ClassRanges.{wrongClassLine}
-use Rattle.migration.specs.Netting.{classLineAt, classLinesOf, sameCounts, SameLengths}
+use Rattle.netting.specs.declared.netting.ClassLine.{ClassLine}
+use Rattle.tariff.specs.Sum.{anyOf, anyBelow, tabulate}
+use Rattle.tariff.specs.Ranges.{termOutOfRange}
+use Rattle.netting.specs.ClassRanges.{classLineOutOfRange}
+use Rattle.netting.specs.Netting.{classLineAt, classLinesOf, sameCounts, SameLengths}
 use Rattle.tariff.proofs.Tests.{decided, or-left-true, any-at}
-use Rattle.tariff.proofs.Lists.{length-list-to, at-list-to, any-list-to, Filled, filled-none, filled-more, placed-in}
-use Rattle.migration.proofs.FitLines.{counted}
+use Rattle.tariff.proofs.Lists.{length-tabulate, at-tabulate, any-tabulate, Filled, filled-none, filled-more, placed-in}
+use Rattle.netting.proofs.FitLines.{counted}
 use Rattle.ledger.specs.Numbers.{unreadable, notInBook, outOfRange}
 use Rattle.ledger.specs.Opening.{Opening}
-use Rattle.ledger.specs.Ranges.{noHolder, noSink, strangerIn, wrongMigration}
+use Rattle.ledger.specs.Ranges.{unknownHolder, unknownSink, unknownHolderIn, migrationOutOfRange}
 use Rattle.ledger.specs.Call.{migrate}
 use Rattle.ledger.specs.Causes.{migrateCauses, callCauses, refusal}
 use Rattle.records.proofs.CauseLaws.{link}
 use Rattle.book.specs.declared.book.Book.{Book}
-use Rattle.book.specs.declared.book.Answered.{Answered}
+use Rattle.book.specs.declared.book.Outcome.{Outcome}
 use Rattle.book.specs.declared.class_lines.Columns.{Columns}
-use Rattle.book.specs.Reading.{ledgerOf, openedWith, bookIn}
-use Rattle.book.specs.Handed.{handed, refusedWith, handedLines}
+use Rattle.book.specs.Reading.{ledgerOf, openingOfBook, bookIn}
+use Rattle.book.specs.Outcomes.{outcomeOf, refusedWith, outcomeOfLines}
 use Rattle.book.specs.Reachable.{Reachable}
-use Rattle.book.specs.ClassLines.{noLine, noColumns, withLine, columnsTo, FullColumns, handedColumns}
+use Rattle.book.specs.ClassLines.{noLine, noColumns, withLine, columnsTo, FullColumns, outcomeOfColumns}
 use Rattle.slots.proofs.StepLaws.{steps-refused}
-use Rattle.book.proofs.HandedBooks.{handed-book}
+use Rattle.book.proofs.OutcomeBooks.{outcome-book}
 
 -- no line as yet, and one more
 pub columns-none : (lines : List ClassLine) → noColumns ≡ columnsTo lines 0
@@ -93,10 +93,10 @@ columns-full lines k =
     }
 
 -- the lines, by their places
-listed : (lines : List ClassLine) → listTo (length lines) (λ j. getD lines j noLine) ≡ lines
+listed : (lines : List ClassLine) → tabulate (length lines) (λ j. getD lines j noLine) ≡ lines
 listed lines =
-    let long = length-list-to (length lines) (λ j. getD lines j noLine) in
-    ext-getD noLine (listTo (length lines) (λ j. getD lines j noLine)) lines long (λ j l. at-list-to (length lines) (λ j. getD lines j noLine) noLine j (omega arith))
+    let long = length-tabulate (length lines) (λ j. getD lines j noLine) in
+    ext-getD noLine (tabulate (length lines) (λ j. getD lines j noLine)) lines long (λ j l. at-tabulate (length lines) (λ j. getD lines j noLine) noLine j (omega arith))
 
 -- a number is at most the larger of two where it is at most one of them
 reaches-larger : (h x y : ℕ) → leb h (max x y) ≡ (leb h x || leb h y)
@@ -107,7 +107,7 @@ reaches-larger h x y = go (decided (leb h x)) (decided (leb h y))
     go (inr a) (inl b) = rw (a, b) (le-leb h (max x y) (let l = leb-true h y b in omega arith))
     go (inr a) (inr b) = rw (a, b) (lt-leb h (max x y) (let l = leb-false h x a in let k = leb-false h y b in omega arith))
 
--- whether the largest holder number is a stranger tells whether any is
+-- some holder is unknown exactly if the one with the largest number is
 module _ (lines : List ClassLine) (h : ℕ) where
   abbrev named : ℕ → Bool
   named j = leb h (getD lines j noLine .from) || leb h (getD lines j noLine .to)
@@ -128,28 +128,28 @@ module _ (lines : List ClassLine) (h : ℕ) where
       go (inl e) = or-left-true (anyBelow k named) e ∙ sym (any-at k named 0 pos (or-left-true _ (let z = leb-true h 0 e in le-leb h (getD lines 0 noLine .from) (omega arith))))
       go (inr e) = ap (λ t. t || anyBelow k named) e
 
-strangers : (o : Opening) (lines : List ClassLine) → 0 < length lines → noHolder o (columnsTo lines (length lines) .top) ≡ strangerIn o lines
-unfolding noHolder strangerIn
-strangers o lines pos =
+unknown-holders : (o : Opening) (lines : List ClassLine) → 0 < length lines → unknownHolder o (columnsTo lines (length lines) .top) ≡ unknownHolderIn o lines
+unfolding unknownHolder unknownHolderIn
+unknown-holders o lines pos =
     let test : ClassLine → Bool = λ l. leb (o .holders) (l .from) || leb (o .holders) (l .to) in
     top-reaches lines (o .holders) (length lines) ∙ some-named lines (o .holders) (length lines) pos
-    ∙ sym (any-list-to (length lines) (λ j. getD lines j noLine) test)
+    ∙ sym (any-tabulate (length lines) (λ j. getD lines j noLine) test)
     ∙ ap (λ xs. anyOf xs test) (listed lines)
 
--- what n lines in columns hand back, past 64 and up to 64
+-- what n lines in columns return, past 64 and up to 64
 module _ (b : Book) (term sink n : ℕ) (c : Columns) where
-  abbrev answered : Bool → Answered
+  abbrev answered : Bool → Outcome
   answered t =
-      cond t (refusedWith b (cond (noSink (openedWith b) sink || noHolder (openedWith b) (c .top)) notInBook outOfRange))
-      (handedLines b term sink (take n (c .froms)) (take n (c .tos)) (take n (c .classes)) (take n (c .customers)) (take n (c .watts)))
+      cond t (refusedWith b (cond (unknownSink (openingOfBook b) sink || unknownHolder (openingOfBook b) (c .top)) notInBook outOfRange))
+      (outcomeOfLines b term sink (take n (c .froms)) (take n (c .tos)) (take n (c .classes)) (take n (c .customers)) (take n (c .watts)))
 
-  pub many-handed : maxClassLines < n → answered true ≡ handedColumns b term sink n c
-  unfolding handedColumns
-  many-handed l = sym (ap answered (lt-ltb maxClassLines n l))
+  pub many-outcome : maxClassLines < n → answered true ≡ outcomeOfColumns b term sink n c
+  unfolding outcomeOfColumns
+  many-outcome l = sym (ap answered (lt-ltb maxClassLines n l))
 
-  pub few-handed : n ≤ maxClassLines → answered false ≡ handedColumns b term sink n c
-  unfolding handedColumns
-  few-handed l = sym (ap answered (le-ltb maxClassLines n l))
+  pub few-outcome : n ≤ maxClassLines → answered false ≡ outcomeOfColumns b term sink n c
+  unfolding outcomeOfColumns
+  few-outcome l = sym (ap answered (le-ltb maxClassLines n l))
 
 module _ (b : Book) (r : Reachable b) (term sink : ℕ) (lines : List ClassLine) where
   abbrev n : ℕ
@@ -162,21 +162,21 @@ module _ (b : Book) (r : Reachable b) (term sink : ℕ) (lines : List ClassLine)
   firsts xs = take n xs
 
   abbrev number : ℕ
-  number = cond (noSink (openedWith b) sink || noHolder (openedWith b) (c .top)) notInBook outOfRange
+  number = cond (unknownSink (openingOfBook b) sink || unknownHolder (openingOfBook b) (c .top)) notInBook outOfRange
 
-  -- more than 64 lines: 2 for a stranger among all of them, else 3
+  -- more than 64 lines: 2 for an unknown holder among all of them, else 3
   module _ (many : maxClassLines < n) where
-    wrong-count : true ≡ wrongMigration term lines
-    unfolding wrongMigration
-    wrong-count = sym (or-left-true (anyOf lines wrongClassLine) (ap (λ t. wrongTerm term || t) (lt-ltb maxClassLines n many) ∙ or-true (wrongTerm term)))
+    uneven-count : true ≡ migrationOutOfRange term lines
+    unfolding migrationOutOfRange
+    uneven-count = sym (or-left-true (anyOf lines classLineOutOfRange) (ap (λ t. termOutOfRange term || t) (lt-ltb maxClassLines n many) ∙ or-true (termOutOfRange term)))
 
-    number-found : number ≡ refusal (openedWith b) (ledgerOf b) (migrate term sink lines)
+    number-found : number ≡ refusal (openingOfBook b) (ledgerOf b) (migrate term sink lines)
     unfolding refusal callCauses migrateCauses
-    number-found = link notInBook _ _ _ refl (ap (λ t. noSink (openedWith b) sink || t) (strangers (openedWith b) lines (omega arith))) (link outOfRange true _ _ refl wrong-count refl)
+    number-found = link notInBook _ _ _ refl (ap (λ t. unknownSink (openingOfBook b) sink || t) (unknown-holders (openingOfBook b) lines (omega arith))) (link outOfRange true _ _ refl uneven-count refl)
 
-    too-many : refusedWith b number ≡ handed b (migrate term sink lines)
-    unfolding refusedWith bookIn openedWith ledgerOf
-    too-many = handed-book _ _ _ _ _ _ _ _ _ (steps-refused (b .opening) (b .figures) (b .posted) (b .evidence) (migrate term sink lines) number number-found r (some-number (noSink (openedWith b) sink || noHolder (openedWith b) (c .top))))
+    too-many : refusedWith b number ≡ outcomeOf b (migrate term sink lines)
+    unfolding refusedWith bookIn openingOfBook ledgerOf
+    too-many = outcome-book _ _ _ _ _ _ _ _ _ (steps-refused (b .opening) (b .figures) (b .posted) (b .evidence) (migrate term sink lines) number number-found r (some-number (unknownSink (openingOfBook b) sink || unknownHolder (openingOfBook b) (c .top))))
       where
         some-number : (t : Bool) → _≡_ {A = ℕ} (cond t notInBook outOfRange) 0 → ⊥
         some-number true e = omega (arith, e)
@@ -202,10 +202,10 @@ module _ (b : Book) (r : Reachable b) (term sink : ℕ) (lines : List ClassLine)
     lines-back =
         let at = classLineAt (firsts (c .froms)) (firsts (c .tos)) (firsts (c .classes)) (firsts (c .customers)) (firsts (c .watts)) in
         let count = first-long n (c .froms) few (columns-full lines n .ofFroms) in
-        ap (λ m. listTo m at) (sym count)
-        ∙ ext-getD noLine (listTo n at) lines (length-list-to n at) (λ j l.
-        let below : j < n = let long = length-list-to n at in omega arith in
-        at-list-to n at noLine j below
+        ap (λ m. tabulate m at) (sym count)
+        ∙ ext-getD noLine (tabulate n at) lines (length-tabulate n at) (λ j l.
+        let below : j < n = let long = length-tabulate n at in omega arith in
+        at-tabulate n at noLine j below
         ∙ (λ i.
         record {
           from = column-at lines (λ l. l .from) (λ c. c .froms) refl (λ c k l. refl) n few j below i;
@@ -216,18 +216,18 @@ module _ (b : Book) (r : Reachable b) (term sink : ℕ) (lines : List ClassLine)
         }))
 
   -- slices of one length are lines
-  handed-even : (froms tos classes customers watts : List ℕ) → sameCounts froms tos classes customers watts ≡ true → handed b (migrate term sink (classLinesOf froms tos classes customers watts)) ≡ handedLines b term sink froms tos classes customers watts
-  unfolding handedLines
-  handed-even froms tos classes customers watts e = sym (ap (λ t. cond t (handed b (migrate term sink (classLinesOf froms tos classes customers watts))) (refusedWith b unreadable)) e)
+  outcome-even : (froms tos classes customers watts : List ℕ) → sameCounts froms tos classes customers watts ≡ true → outcomeOf b (migrate term sink (classLinesOf froms tos classes customers watts)) ≡ outcomeOfLines b term sink froms tos classes customers watts
+  unfolding outcomeOfLines
+  outcome-even froms tos classes customers watts e = sym (ap (λ t. cond t (outcomeOf b (migrate term sink (classLinesOf froms tos classes customers watts))) (refusedWith b unreadable)) e)
 
   -- so a migration of the columns is one of the lines
-  pub columns-handed : handedColumns b term sink n c ≡ handed b (migrate term sink lines)
-  columns-handed = go (decided (ltb maxClassLines n))
+  pub columns-outcome : outcomeOfColumns b term sink n c ≡ outcomeOf b (migrate term sink lines)
+  columns-outcome = go (decided (ltb maxClassLines n))
     where
-      go : (ltb maxClassLines n ≡ true) ⊎ (ltb maxClassLines n ≡ false) → handedColumns b term sink n c ≡ handed b (migrate term sink lines)
-      go (inl e) = let many = ltb-true maxClassLines n e in sym (many-handed b term sink n c many) ∙ too-many many
+      go : (ltb maxClassLines n ≡ true) ⊎ (ltb maxClassLines n ≡ false) → outcomeOfColumns b term sink n c ≡ outcomeOf b (migrate term sink lines)
+      go (inl e) = let many = ltb-true maxClassLines n e in sym (many-outcome b term sink n c many) ∙ too-many many
       go (inr e) =
           let few = ltb-false maxClassLines n e in
-          sym (few-handed b term sink n c few)
-          ∙ sym (handed-even (firsts (c .froms)) (firsts (c .tos)) (firsts (c .classes)) (firsts (c .customers)) (firsts (c .watts)) (counted (firsts (c .froms)) (firsts (c .tos)) (firsts (c .classes)) (firsts (c .customers)) (firsts (c .watts)) (same few)))
-          ∙ ap (λ ls. handed b (migrate term sink ls)) (lines-back few)
+          sym (few-outcome b term sink n c few)
+          ∙ sym (outcome-even (firsts (c .froms)) (firsts (c .tos)) (firsts (c .classes)) (firsts (c .customers)) (firsts (c .watts)) (counted (firsts (c .froms)) (firsts (c .tos)) (firsts (c .classes)) (firsts (c .customers)) (firsts (c .watts)) (same few)))
+          ∙ ap (λ ls. outcomeOf b (migrate term sink ls)) (lines-back few)

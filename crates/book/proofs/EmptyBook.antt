@@ -9,7 +9,7 @@ use lib.Dec.{ltb}
 use borrow.Author.Tests.{ltb-true, ltb-false}
 use lib.ListN.{getD, replicate, length-replicate, getD-replicate, List·getD-eq-default}
 use Rattle.tariff.specs.Evidence.{noEntry, evidenceKw, entryKw}
-use Rattle.tariff.proofs.Sums.{count-zero}
+use Rattle.tariff.proofs.Sums.{when-zero}
 use Rattle.tariff.proofs.Tests.{decided}
 use Rattle.ledger.specs.Ledger.{emptyLedger}
 use Rattle.slots.specs.Cells.{rows, readAt, Shows}
@@ -40,20 +40,20 @@ module _ {A : Type 0} (none : A) where
       either true e = refl
       either false e = e
 
-  -- a filled array shows such groups, with some of the same behind
+  -- a filled array shows such groups, with some of the same after it
   filled-shows : (width n k : ℕ) (gs : List (Group A)) → n ≡ rows * width + k → AllNone gs → Shows width none (replicate n none) (inSlot none gs) (replicate k none)
   unfolding readAt
   filled-shows width n k gs long all =
       record {
         sized = length-replicate n none ∙ long ∙ ap (λ j. rows * width + j) (sym (length-replicate k none));
         each = λ h p slot c. filled-read n _ ∙ sym (slot-none gs h p slot all);
-        behind = λ j. filled-read n (rows * width + j) ∙ sym (filled-read k j);
+        tail = λ j. filled-read n (rows * width + j) ∙ sym (filled-read k j);
       }
 
 -- evidence that was not filed gives nothing
 nothing-filed : (term : ℕ) → entryKw term noEntry ≡ 0
 unfolding entryKw noEntry evidenceKw
-nothing-filed term = count-zero _
+nothing-filed term = when-zero _
 
 pub empty-figures : replicate figureCount 0 ≡ figuresOf emptyLedger
 unfolding figuresOf figureGroups calendarOf emptyLedger

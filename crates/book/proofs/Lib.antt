@@ -1,9 +1,9 @@
-pub mod HandedBooks
+pub mod OutcomeBooks
 pub mod EmptyBook
 pub mod ReachableSteps
 pub mod OpenedLaws
 pub mod SeasonAnswers
 pub mod SeasonTheorem
-pub mod GoingOn
+pub mod NextBooks
 pub mod ClassLineLaws
 pub mod ClassLineCalls

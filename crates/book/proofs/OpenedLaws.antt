@@ -1,4 +1,4 @@
--- What opening hands back, and that it is a reached book. Assumes nothing.
+-- What opening returns, and that it is a reachable book. Assumes nothing.
 use mathlib.Core.Path.{_≡_, refl}
 use mathlib.Core.Bool.{Bool, true, false, cond}
 use mathlib.Core.List.{[]}
@@ -9,9 +9,9 @@ use Rattle.records.proofs.OpeningLaws.{empty-legal}
 use Rattle.opening.specs.Opened.{openedOpening}
 use Rattle.book.specs.Reading.{bookIn, bookOf}
 use Rattle.book.specs.Reachable.{Reachable}
-use Rattle.book.specs.Opened.{openedAs}
+use Rattle.book.specs.Opened.{openingOutcome}
 
--- the opening that is in force: the one asked for, or the empty one
+-- the opening that is in force: the one given, or the empty one
 in-force-legal : (o : Opening) → legal (openedOpening o) ≡ true
 unfolding openedOpening
 in-force-legal o = go (legal o) refl
@@ -20,7 +20,7 @@ in-force-legal o = go (legal o) refl
     go true e = e
     go false e = empty-legal
 
--- every book that opening hands back is one that opening and no call lead to
-pub opened-reached : (o : Opening) → Reachable (openedAs o .book)
-unfolding openedAs bookOf bookIn after afterFrom
-opened-reached o = record { opening = openedOpening o; calls = []; isLegal = in-force-legal o; ofOpening = refl; ofFigures = refl; ofPosted = refl; ofEvidence = refl }
+-- every book that opening returns is one that opening and no call lead to
+pub opened-reachable : (o : Opening) → Reachable (openingOutcome o .book)
+unfolding openingOutcome bookOf bookIn after afterFrom
+opened-reachable o = record { opening = openedOpening o; calls = []; isLegal = in-force-legal o; ofOpening = refl; ofFigures = refl; ofPosted = refl; ofEvidence = refl }

@@ -1,20 +1,20 @@
--- Class lines taken apart: a column of 64 numbers to a field, and what a migration of the columns hands back.
+-- Class lines taken apart: a column of 64 numbers to a field, and what a migration of the columns returns.
 use Prim.Native.Nat.{ℕ, zero, suc, max}
 use mathlib.Core.Path.{_≡_}
 use mathlib.Core.Bool.{cond, _||_}
 use mathlib.Core.List.{List}
 use lib.ListN.{length, getD, replicate, take}
 use lib.Dec.{ltb}
-use Rattle.migration.specs.declared.netting.ClassLine.{ClassLine}
+use Rattle.netting.specs.declared.netting.ClassLine.{ClassLine}
 use Rattle.tariff.specs.Sizes.{maxClassLines}
 use Rattle.tariff.specs.Placed.{placed}
 use Rattle.ledger.specs.Numbers.{notInBook, outOfRange}
-use Rattle.ledger.specs.Ranges.{noHolder, noSink}
+use Rattle.ledger.specs.Ranges.{unknownHolder, unknownSink}
 use Rattle.book.specs.declared.book.Book.{Book}
-use Rattle.book.specs.declared.book.Answered.{Answered}
+use Rattle.book.specs.declared.book.Outcome.{Outcome}
 use Rattle.book.specs.declared.class_lines.Columns.{Columns}
-use Rattle.book.specs.Reading.{openedWith}
-use Rattle.book.specs.Handed.{refusedWith, handedLines}
+use Rattle.book.specs.Reading.{openingOfBook}
+use Rattle.book.specs.Outcomes.{refusedWith, outcomeOfLines}
 
 unfoldable pub noColumns : Columns
 noColumns =
@@ -56,8 +56,8 @@ pub record FullColumns (c : Columns) : Type 0 where
   pub ofCustomers : length (c .customers) ≡ maxClassLines
   pub ofWatts : length (c .watts) ≡ maxClassLines
 
--- what a migration of n lines in columns hands back: past 64 lines a holder that is not in the book is looked for first
-unfoldable pub handedColumns : Book → ℕ → ℕ → ℕ → Columns → Answered
-handedColumns b term sink n c =
-    cond (ltb maxClassLines n) (refusedWith b (cond (noSink (openedWith b) sink || noHolder (openedWith b) (c .top)) notInBook outOfRange))
-    (handedLines b term sink (take n (c .froms)) (take n (c .tos)) (take n (c .classes)) (take n (c .customers)) (take n (c .watts)))
+-- what a migration of n lines in columns returns: past 64 lines a holder that is not in the book is looked for first
+unfoldable pub outcomeOfColumns : Book → ℕ → ℕ → ℕ → Columns → Outcome
+outcomeOfColumns b term sink n c =
+    cond (ltb maxClassLines n) (refusedWith b (cond (unknownSink (openingOfBook b) sink || unknownHolder (openingOfBook b) (c .top)) notInBook outOfRange))
+    (outcomeOfLines b term sink (take n (c .froms)) (take n (c .tos)) (take n (c .classes)) (take n (c .customers)) (take n (c .watts)))

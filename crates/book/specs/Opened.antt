@@ -1,12 +1,12 @@
--- What opening a book hands back (01, The book, and cause 16).
+-- What opening a book returns (01, The book, and cause 16).
 use Rattle.ledger.specs.Opening.{Opening}
 use Rattle.ledger.specs.Ledger.{emptyLedger}
 use Rattle.records.specs.Opening.{openingArray}
 use Rattle.opening.specs.Opened.{openedAnswer, openedOpening}
-use Rattle.book.specs.declared.book.Answered.{Answered}
+use Rattle.book.specs.declared.book.Outcome.{Outcome}
 use Rattle.book.specs.Reading.{bookOf}
 
 -- the answer, beside the book of the opening, all at 0 or empty; a refused one is answered beside the book of an opening with nothing in it,
--- so that every book handed back is one that opening and calls lead to
-unfoldable pub openedAs : Opening → Answered
-openedAs o = record { answer = openedAnswer o; book = bookOf (openingArray (openedOpening o)) emptyLedger }
+-- so that every book returned is one that opening and calls lead to
+unfoldable pub openingOutcome : Opening → Outcome
+openingOutcome o = record { answer = openedAnswer o; book = bookOf (openingArray (openedOpening o)) emptyLedger }

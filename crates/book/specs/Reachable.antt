@@ -1,4 +1,4 @@
--- A book is only what opening or a call handed back (01, The book).
+-- A book is only what opening or a call returned (01, The book).
 use Rattle.slots.specs.Steps as arrays
 use Rattle.book.specs.declared.book.Book.{Book}
 

@@ -16,8 +16,8 @@ bookIn o f m x = record { opening = o; figures = f; posted = m; evidence = x }
 unfoldable pub ledgerOf : Book → Ledger
 ledgerOf b = ledgerIn (b .figures) (b .posted) (b .evidence)
 
-unfoldable pub openedWith : Book → Opening
-openedWith b = openingIn (b .opening)
+unfoldable pub openingOfBook : Book → Opening
+openingOfBook b = openingIn (b .opening)
 
 -- the book that keeps an opening and has a ledger's figures
 unfoldable pub bookOf : List ℕ → Ledger → Book

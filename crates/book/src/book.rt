@@ -6,7 +6,7 @@ use slots::layout::FIGURES;
 use slots::layout::POSTED;
 use tariff::evidence::Entry;
 ghost use mathlib.Core.Path.{_≡_};
-ghost use Rattle.book.specs.Handed.{refusedWith, besideFigures, besidePostings};
+ghost use Rattle.book.specs.Outcomes.{refusedWith, besideFigures, besidePostings};
 
 pub struct Book {
     pub opening: [u64; OPENING],
@@ -16,21 +16,21 @@ pub struct Book {
 }
 
 // An answer beside the next book.
-pub struct Answered {
+pub struct Outcome {
     pub answer: Answer,
     pub book: Book,
 }
 
 // A refusal: its number alone, beside the book as it was.
-pub fn refused(b: Book, number: u64) -> Answered
+pub fn refused(b: Book, number: u64) -> Outcome
     ensures { λ r. ⌜ r ≡ refusedWith b number ⌝ }
 {
     let answer = Answer::Refused(number);
-    Answered { answer, book: b }
+    Outcome { answer, book: b }
 }
 
 // The book with other figures, beside an answer.
-pub fn with_figures(b: Book, answer: Answer, figures: [u64; FIGURES]) -> Answered
+pub fn with_figures(b: Book, answer: Answer, figures: [u64; FIGURES]) -> Outcome
     ensures { λ r. ⌜ r ≡ besideFigures b answer figures ⌝ }
 {
     let posted = b.posted;
@@ -43,12 +43,12 @@ pub fn with_postings(
     answer: Answer,
     figures: [u64; FIGURES],
     posted: [bool; POSTED],
-) -> Answered
+) -> Outcome
     ensures { λ r. ⌜ r ≡ besidePostings b answer figures posted ⌝ }
 {
     let opening = b.opening;
     let evidence = b.evidence;
-    Answered {
+    Outcome {
         answer,
         book: Book {
             opening,

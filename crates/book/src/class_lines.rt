@@ -1,22 +1,22 @@
 // Migrate over a lent slice of class lines (01, Migration): the lines are taken apart, a column of numbers to a field, and the core migrates the columns.
-use crate::book::Answered;
 use crate::book::Book;
+use crate::book::Outcome;
 use crate::book::refused;
-use migration::netting::ClassLine;
+use netting::netting::ClassLine;
 use records::numbers::NOT_IN_BOOK;
 use records::numbers::OUT_OF_RANGE;
 use records::refusals::refuse;
-use records::setup::no_holder;
-use records::setup::no_sink;
-use tariff::load::larger;
+use records::setup::unknown_holder;
+use records::setup::unknown_sink;
+use tariff::load::max;
 use tariff::sizes::MAX_CLASS_LINES;
 ghost use mathlib.Core.Path.{_≡_};
 ghost use Rattle.tariff.specs.Sizes.{maxClassLines};
 ghost use Rattle.tariff.specs.Placed.{placed};
 ghost use Rattle.ledger.specs.Call.{migrate};
-ghost use Rattle.book.specs.Handed.{handed};
+ghost use Rattle.book.specs.Outcomes.{outcomeOf};
 ghost use Rattle.book.specs.Reachable.{Reachable};
-ghost use Rattle.book.specs.ClassLines.{noColumns, withLine, FullColumns, handedColumns};
+ghost use Rattle.book.specs.ClassLines.{noColumns, withLine, FullColumns, outcomeOfColumns};
 
 // The fields of the first 64 lines, a column to a field, and the largest holder number in any line.
 struct Columns {
@@ -70,18 +70,18 @@ fn with_line(c: Columns, k: usize, line: ClassLine) -> Columns
         classes: place(classes, k, line.class),
         customers: place(customers, k, line.customers),
         watts: place(watts, k, line.watts),
-        top: larger(c.top, larger(from, to)),
+        top: max(c.top, max(from, to)),
     }
 }
 
 // Migrates n lines that stand in columns. Of more than 64 lines all that matters is whether one names a holder that is not in the book.
-fn migrate_columns(b: Book, term: u64, sink: u64, n: usize, c: Columns) -> Answered
+fn migrate_columns(b: Book, term: u64, sink: u64, n: usize, c: Columns) -> Outcome
     requires { ⌜ Reachable b × FullColumns c ⌝ }
-    ensures { λ r. ⌜ r ≡ handedColumns b term sink n c ⌝ }
+    ensures { λ r. ⌜ r ≡ outcomeOfColumns b term sink n c ⌝ }
 {
     if MAX_CLASS_LINES < n {
         let opening = b.opening;
-        let unknown = no_sink(&opening, sink) | no_holder(&opening, c.top);
+        let unknown = unknown_sink(&opening, sink) | unknown_holder(&opening, c.top);
         return refused(b, refuse(NOT_IN_BOOK, unknown, OUT_OF_RANGE));
     }
     let froms = c.froms;
@@ -102,9 +102,9 @@ fn migrate_columns(b: Book, term: u64, sink: u64, n: usize, c: Columns) -> Answe
 
 impl Book {
     // Moves loads, rights and last year's allocations with the customers of the class lines lent.
-    pub fn migrate_lines(self, term: u64, sink: u64, lines: &[ClassLine]) -> Answered
+    pub fn migrate_lines(self, term: u64, sink: u64, lines: &[ClassLine]) -> Outcome
         requires { ⌜ Reachable self ⌝ }
-        ensures { λ r. ⌜ r ≡ handed self (migrate term sink (now (lines .entry))) ⌝ }
+        ensures { λ r. ⌜ r ≡ outcomeOf self (migrate term sink (now (lines .entry))) ⌝ }
     {
         let mut columns = no_columns();
         let mut k = 0;

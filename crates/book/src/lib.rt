@@ -1,4 +1,4 @@
-// The season book. Each call takes the book as it is and hands back the next one.
+// The season book. Each call takes the book as it is and returns the next one.
 
 pub mod book;
 pub mod class_lines;

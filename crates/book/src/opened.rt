@@ -1,6 +1,6 @@
 // Opening a book (01, The book; cause 16).
-use crate::book::Answered;
 use crate::book::Book;
+use crate::book::Outcome;
 use opening::opening::open;
 use records::setup::OPENING;
 use slots::layout::EVIDENCE;
@@ -12,7 +12,7 @@ ghost use mathlib.Core.Path.{_≡_};
 ghost use Rattle.ledger.specs.Ledger.{emptyLedger};
 ghost use Rattle.records.specs.Opening.{openingFrom};
 ghost use Rattle.slots.specs.Layout.{evidenceOf};
-ghost use Rattle.book.specs.Opened.{openedAs};
+ghost use Rattle.book.specs.Opened.{openingOutcome};
 
 // No evidence filed.
 pub fn no_evidence() -> [Entry; EVIDENCE]
@@ -37,8 +37,8 @@ pub fn open_book(
     sink_parents: &[u64],
     path_sources: &[u64],
     path_sinks: &[u64],
-) -> Answered
-    ensures { λ r. ⌜ r ≡ openedAs (openingFrom holders sources sinks paths (now («holder_kinds» .entry)) (now («sink_kinds» .entry)) (now («sink_parents» .entry)) (now («path_sources» .entry)) (now («path_sinks» .entry))) ⌝ }
+) -> Outcome
+    ensures { λ r. ⌜ r ≡ openingOutcome (openingFrom holders sources sinks paths (now («holder_kinds» .entry)) (now («sink_kinds» .entry)) (now («sink_parents» .entry)) (now («path_sources» .entry)) (now («path_sinks» .entry))) ⌝ }
 {
     let mut kept = [0u64; OPENING];
     let answer = open(
@@ -54,7 +54,7 @@ pub fn open_book(
         path_sinks,
     );
     let evidence = no_evidence();
-    Answered {
+    Outcome {
         answer,
         book: Book {
             opening: kept,

@@ -1,6 +1,6 @@
 // The calls that post (01, Posting), and migration (01, Migration): the book's arrays are lent to the call, and the next book is made of them.
-use crate::book::Answered;
 use crate::book::Book;
+use crate::book::Outcome;
 use crate::book::with_figures;
 use crate::book::with_postings;
 use migrate::migrate::migrate;
@@ -10,7 +10,7 @@ use postings::prior::prior;
 use postings::verify::verify_and_file;
 ghost use mathlib.Core.Path.{_≡_};
 ghost use Rattle.ledger.specs.Call.{carry, prior, verify};
-ghost use Rattle.book.specs.Handed.{handed, handedBlocks, handedLines};
+ghost use Rattle.book.specs.Outcomes.{outcomeOf, outcomeOfBlocks, outcomeOfLines};
 ghost use Rattle.book.specs.Reachable.{Reachable};
 
 impl Book {
@@ -25,9 +25,9 @@ impl Book {
         firsts: &[u64],
         hours: &[u64],
         kws: &[u64],
-    ) -> Answered
+    ) -> Outcome
         requires { ⌜ Reachable self ⌝ }
-        ensures { λ r. ⌜ r ≡ handedBlocks self h s term contract n (now (firsts .entry)) (now (hours .entry)) (now (kws .entry)) ⌝ }
+        ensures { λ r. ⌜ r ≡ outcomeOfBlocks self h s term contract n (now (firsts .entry)) (now (hours .entry)) (now (kws .entry)) ⌝ }
     {
         let opening = self.opening;
         let mut figures = self.figures;
@@ -49,9 +49,9 @@ impl Book {
     }
 
     // Carries kw in for a holder on a path.
-    pub fn carry(self, h: u64, p: u64, kw: u64) -> Answered
+    pub fn carry(self, h: u64, p: u64, kw: u64) -> Outcome
         requires { ⌜ Reachable self ⌝ }
-        ensures { λ r. ⌜ r ≡ handed self (carry h p kw) ⌝ }
+        ensures { λ r. ⌜ r ≡ outcomeOf self (carry h p kw) ⌝ }
     {
         let opening = self.opening;
         let mut figures = self.figures;
@@ -61,9 +61,9 @@ impl Book {
     }
 
     // Posts the prior of a holder on a path.
-    pub fn prior(self, h: u64, p: u64, a: u64, l: u64) -> Answered
+    pub fn prior(self, h: u64, p: u64, a: u64, l: u64) -> Outcome
         requires { ⌜ Reachable self ⌝ }
-        ensures { λ r. ⌜ r ≡ handed self (prior h p a l) ⌝ }
+        ensures { λ r. ⌜ r ≡ outcomeOf self (prior h p a l) ⌝ }
     {
         let opening = self.opening;
         let mut figures = self.figures;
@@ -82,9 +82,9 @@ impl Book {
         right: u64,
         first: u64,
         last: u64,
-    ) -> Answered
+    ) -> Outcome
         requires { ⌜ Reachable self ⌝ }
-        ensures { λ r. ⌜ r ≡ handed self (verify h s kind capacity right first last) ⌝ }
+        ensures { λ r. ⌜ r ≡ outcomeOf self (verify h s kind capacity right first last) ⌝ }
     {
         let opening = self.opening;
         let mut figures = self.figures;
@@ -105,7 +105,7 @@ impl Book {
         );
         let answer = outcome.answer;
         let evidence = outcome.evidence;
-        Answered {
+        Outcome {
             answer,
             book: Book {
                 opening,
@@ -126,9 +126,9 @@ impl Book {
         classes: &[u64],
         customers: &[u64],
         watts: &[u64],
-    ) -> Answered
+    ) -> Outcome
         requires { ⌜ Reachable self ⌝ }
-        ensures { λ r. ⌜ r ≡ handedLines self term sink (now (froms .entry)) (now (tos .entry)) (now (classes .entry)) (now (customers .entry)) (now (watts .entry)) ⌝ }
+        ensures { λ r. ⌜ r ≡ outcomeOfLines self term sink (now (froms .entry)) (now (tos .entry)) (now (classes .entry)) (now (customers .entry)) (now (watts .entry)) ⌝ }
     {
         let opening = self.opening;
         let mut figures = self.figures;

@@ -6,14 +6,14 @@ use nominations::limits::limit;
 use records::answers::Answer;
 ghost use mathlib.Core.Path.{_≡_};
 ghost use Rattle.ledger.specs.Call.{limitOf, heldOn, netOn};
-ghost use Rattle.book.specs.Handed.{told};
+ghost use Rattle.book.specs.Outcomes.{queryAnswerIn};
 ghost use Rattle.book.specs.Reachable.{Reachable};
 
 impl Book {
     // A holder's limit at a sink's base in the open tier.
     pub fn limit(self, h: u64, s: u64) -> Answer
         requires { ⌜ Reachable self ⌝ }
-        ensures { λ r. ⌜ r ≡ told self (limitOf h s) ⌝ }
+        ensures { λ r. ⌜ r ≡ queryAnswerIn self (limitOf h s) ⌝ }
     {
         let opening = self.opening;
         let figures = self.figures;
@@ -23,7 +23,7 @@ impl Book {
     // What a holder holds on a path in a month.
     pub fn held(self, h: u64, p: u64, month: u64) -> Answer
         requires { ⌜ Reachable self ⌝ }
-        ensures { λ r. ⌜ r ≡ told self (heldOn h p month) ⌝ }
+        ensures { λ r. ⌜ r ≡ queryAnswerIn self (heldOn h p month) ⌝ }
     {
         let opening = self.opening;
         let figures = self.figures;
@@ -33,7 +33,7 @@ impl Book {
     // What all holders hold on a path in a month.
     pub fn net(self, p: u64, month: u64) -> Answer
         requires { ⌜ Reachable self ⌝ }
-        ensures { λ r. ⌜ r ≡ told self (netOn p month) ⌝ }
+        ensures { λ r. ⌜ r ≡ queryAnswerIn self (netOn p month) ⌝ }
     {
         let opening = self.opening;
         let figures = self.figures;

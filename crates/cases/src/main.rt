@@ -1,11 +1,11 @@
-// Plays the seasons of 01's marked cases through the book's methods and writes every answer, a line to each:
+// Runs the seasons of 01's marked cases through the book's methods and writes every answer, a line to each:
 //
 //   case,N        the case that follows
 //   ok            done
 //   ok,V          done, with a figure
 //   no,NN         refused with 01's number
 
-mod ask;
+mod calls;
 mod seasons;
 mod write;
 

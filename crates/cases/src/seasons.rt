@@ -1,20 +1,20 @@
 // The seasons of the marked cases, as the ledger's `markedCases` has them.
-use crate::ask::award;
-use crate::ask::carry;
-use crate::ask::close_tier;
-use crate::ask::held;
-use crate::ask::limit;
-use crate::ask::load;
-use crate::ask::migrate;
-use crate::ask::net;
-use crate::ask::nominate;
-use crate::ask::open;
-use crate::ask::open_tier;
-use crate::ask::prior;
-use crate::ask::verify;
+use crate::calls::award;
+use crate::calls::carry;
+use crate::calls::close_tier;
+use crate::calls::held;
+use crate::calls::limit;
+use crate::calls::load;
+use crate::calls::migrate;
+use crate::calls::net;
+use crate::calls::nominate;
+use crate::calls::open;
+use crate::calls::open_tier;
+use crate::calls::prior;
+use crate::calls::verify;
 use crate::write::case;
 use book::book::Book;
-use migration::netting::ClassLine;
+use netting::netting::ClassLine;
 ghost use Rattle.book.specs.Reachable.{Reachable};
 
 // Load-serving entities at a Default LAP that no path ends at.

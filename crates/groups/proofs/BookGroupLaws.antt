@@ -18,9 +18,9 @@ use Rattle.records.specs.declared.answers.Answer.{Answer}
 use Rattle.records.specs.declared.answers.Answer.the-variants.{Done, Refused}
 use Rattle.opening.specs.Opened.{openedAnswer, openedOpening}
 use Rattle.book.specs.Reading.{bookOf}
-use Rattle.book.specs.Opened.{openedAs}
+use Rattle.book.specs.Opened.{openingOutcome}
 use Rattle.book.specs.Reachable.{Reachable}
-use Rattle.book.proofs.OpenedLaws.{opened-reached}
+use Rattle.book.proofs.OpenedLaws.{opened-reachable}
 use Rattle.lines.specs.declared.rows.Row.{Row}
 use Rattle.lines.specs.declared.book_lines.BookLists.{BookLists}
 use Rattle.lines.specs.declared.lines.NextRow.{NextRow}
@@ -29,7 +29,7 @@ use Rattle.lines.specs.Reading.{nextRow}
 use Rattle.lines.specs.Counted.{bytesOfLines}
 use Rattle.lines.specs.BookLines.{bookLinesComplete, bookListsOf}
 use Rattle.lines.proofs.FieldLaws.{rest-whole}
-use Rattle.lines.proofs.RowSteps.{used-within}
+use Rattle.lines.proofs.RowSteps.{consumed-within}
 use Rattle.lines.proofs.LineBytes.{bytes-within, rows-after}
 use Rattle.groups.specs.declared.opened.BookGroup.{BookGroup}
 use Rattle.groups.specs.Groups.{bookReadable, openingOfRows, callRows}
@@ -37,9 +37,9 @@ use Rattle.groups.specs.BookGroup.{isDone, openingKept, bookGroupWith, o
 use Rattle.groups.proofs.CutLists.{kept-answer, kept-opening}
 
 -- the head is one line
-pub after-head : (script : List ℕ) (f : NextRow) → f ≡ nextRow script → f .used ≡ bytesOfLines 1 script
+pub after-head : (script : List ℕ) (f : NextRow) → f ≡ nextRow script → f .consumed ≡ bytesOfLines 1 script
 unfolding bytesOfLines
-after-head script f e = ap (λ g. g .used) e ∙ (omega arith)
+after-head script f e = ap (λ g. g .consumed) e ∙ (omega arith)
 
 -- as many lines as counted
 as-counted : (kind n : ℕ) (lines : List Row) → counted kind n lines ≡ true → length lines ≡ n
@@ -70,7 +70,7 @@ module _ (head : Row) (rest : List ℕ) (lists : BookLists) (e : lists ≡ bookL
   rows = rowsOf rest
 
   abbrev group : ℕ → BookGroup
-  group used = bookGroupWith head rows (used + bytesOfLines (field 0 head + field 2 head + field 3 head) rest)
+  group consumed = bookGroupWith head rows (consumed + bytesOfLines (field 0 head + field 2 head + field 3 head) rest)
 
   lists-complete : lists .complete ≡ bookLinesComplete head rows
   unfolding bookListsOf
@@ -96,15 +96,15 @@ module _ (head : Row) (rest : List ℕ) (lists : BookLists) (e : lists ≡ bookL
         let first = and-both _ _ (last .0) in
         (as-counted holderLine (field 0 head) (holderRows head rows) (first .0), as-counted sinkLine (field 2 head) (sinkRows head rows) (first .1), as-counted pathLine (field 3 head) (pathRows head rows) (last .1))
 
-    pub group-opened : (used : ℕ) (answer : Answer) (isOpen : Bool) → answer ≡ openedAnswer (openingKept head lists) → isOpen ≡ isDone answer → _≡_ {A = BookGroup} (record { answer = answer; consumed = used + lists .consumed; «is_open» = isOpen }) (group used)
+    pub group-opened : (consumed : ℕ) (answer : Answer) (isOpen : Bool) → answer ≡ openedAnswer (openingKept head lists) → isOpen ≡ isDone answer → _≡_ {A = BookGroup} (record { answer = answer; consumed = consumed + lists .consumed; «is_open» = isOpen }) (group consumed)
     unfolding bookGroupWith
-    group-opened used answer isOpen ea ed =
+    group-opened consumed answer isOpen ea ed =
         let o = openingOfRows head rows in
         let ea' = ea ∙ kept-answer head rest lists e all-counted in
         let so = sym (sym is-readable ∙ readable) in
         let done = ed ∙ ap isDone ea' ∙ done-legal o in
-        (λ i. record { answer = ea' i; consumed = used + lists-consumed i; «is_open» = done i })
-        ∙ (λ i. record { answer = cond (so i) (openedAnswer o) (Refused unreadable); consumed = used + bytesOfLines (field 0 head + field 2 head + field 3 head) rest; «is_open» = so i && legal o })
+        (λ i. record { answer = ea' i; consumed = consumed + lists-consumed i; «is_open» = done i })
+        ∙ (λ i. record { answer = cond (so i) (openedAnswer o) (Refused unreadable); consumed = consumed + bytesOfLines (field 0 head + field 2 head + field 3 head) rest; «is_open» = so i && legal o })
 
     pub opening-put : (o₀ o₁ : List ℕ) → o₁ ≡ openingArray (openedOpening (openingKept head lists)) → o₁ ≡ openingLeft head rows o₀
     unfolding openingLeft
@@ -112,13 +112,13 @@ module _ (head : Row) (rest : List ℕ) (lists : BookLists) (e : lists ≡ bookL
 
   -- and what is answered where they are not
   module _ (unread : (lists .complete && eqb (head .kind) bookLine) ≡ false) where
-    pub group-refused : (used : ℕ) → _≡_ {A = BookGroup} (record { answer = Refused unreadable; consumed = used + lists .consumed; «is_open» = false }) (group used)
+    pub group-refused : (consumed : ℕ) → _≡_ {A = BookGroup} (record { answer = Refused unreadable; consumed = consumed + lists .consumed; «is_open» = false }) (group consumed)
     unfolding bookGroupWith
-    group-refused used =
+    group-refused consumed =
         let o = openingOfRows head rows in
         let so = sym (sym is-readable ∙ unread) in
-        (λ i. record { answer = Refused unreadable; consumed = used + lists-consumed i; «is_open» = false })
-        ∙ (λ i. record { answer = cond (so i) (openedAnswer o) (Refused unreadable); consumed = used + bytesOfLines (field 0 head + field 2 head + field 3 head) rest; «is_open» = so i && legal o })
+        (λ i. record { answer = Refused unreadable; consumed = consumed + lists-consumed i; «is_open» = false })
+        ∙ (λ i. record { answer = cond (so i) (openedAnswer o) (Refused unreadable); consumed = consumed + bytesOfLines (field 0 head + field 2 head + field 3 head) rest; «is_open» = so i && legal o })
 
     pub opening-stays : (o : List ℕ) → o ≡ openingLeft head rows o
     unfolding openingLeft
@@ -126,22 +126,22 @@ module _ (head : Row) (rest : List ℕ) (lists : BookLists) (e : lists ≡ bookL
 
 -- the head and what is left are those of the script
 groupAt : NextRow → List ℕ → BookGroup
-groupAt f rest = bookGroupWith (f .row) (rowsOf rest) (f .used + bytesOfLines (field 0 (f .row) + field 2 (f .row) + field 3 (f .row)) rest)
+groupAt f rest = bookGroupWith (f .row) (rowsOf rest) (f .consumed + bytesOfLines (field 0 (f .row) + field 2 (f .row) + field 3 (f .row)) rest)
 
-pub whole-group : (script : List ℕ) (f : NextRow) → f ≡ nextRow script → bookGroupWith (f .row) (rowsOf (take (length script - f .used) (drop (f .used) script))) (f .used + bytesOfLines (field 0 (f .row) + field 2 (f .row) + field 3 (f .row)) (take (length script - f .used) (drop (f .used) script))) ≡ bookGroupOf script
+pub whole-group : (script : List ℕ) (f : NextRow) → f ≡ nextRow script → bookGroupWith (f .row) (rowsOf (take (length script - f .consumed) (drop (f .consumed) script))) (f .consumed + bytesOfLines (field 0 (f .row) + field 2 (f .row) + field 3 (f .row)) (take (length script - f .consumed) (drop (f .consumed) script))) ≡ bookGroupOf script
 unfolding bookGroupOf groupAt
 whole-group script f e =
-    ap (groupAt f) (rest-whole script (f .used))
-    ∙ ap (λ g. groupAt g (drop (g .used) script)) e
+    ap (groupAt f) (rest-whole script (f .consumed))
+    ∙ ap (λ g. groupAt g (drop (g .consumed) script)) e
 
-pub whole-opening : (script o : List ℕ) (f : NextRow) → f ≡ nextRow script → openingLeft (f .row) (rowsOf (take (length script - f .used) (drop (f .used) script))) o ≡ openingAfter script o
+pub whole-opening : (script o : List ℕ) (f : NextRow) → f ≡ nextRow script → openingLeft (f .row) (rowsOf (take (length script - f .consumed) (drop (f .consumed) script))) o ≡ openingAfter script o
 unfolding openingAfter
 whole-opening script o f e =
-    ap (λ rest. openingLeft (f .row) (rowsOf rest) o) (rest-whole script (f .used))
-    ∙ ap (λ g. openingLeft (g .row) (rowsOf (drop (g .used) script)) o) e
+    ap (λ rest. openingLeft (f .row) (rowsOf rest) o) (rest-whole script (f .consumed))
+    ∙ ap (λ g. openingLeft (g .row) (rowsOf (drop (g .consumed) script)) o) e
 
 -- where the calls begin
-pub group-consumed : (script : List ℕ) → bookGroupOf script .consumed ≡ nextRow script .used + bytesOfLines (field 0 (nextRow script .row) + field 2 (nextRow script .row) + field 3 (nextRow script .row)) (drop (nextRow script .used) script)
+pub group-consumed : (script : List ℕ) → bookGroupOf script .consumed ≡ nextRow script .consumed + bytesOfLines (field 0 (nextRow script .row) + field 2 (nextRow script .row) + field 3 (nextRow script .row)) (drop (nextRow script .consumed) script)
 unfolding bookGroupOf bookGroupWith
 group-consumed script = refl
 
@@ -150,36 +150,36 @@ module _ (script : List ℕ) where
   first = nextRow script .row
 
   abbrev left : List ℕ
-  left = drop (nextRow script .used) script
+  left = drop (nextRow script .consumed) script
 
   abbrev counted-lines : ℕ
   counted-lines = field 0 first + field 2 first + field 3 first
 
   pub group-within : bookGroupOf script .consumed ≤ length script
   group-within =
-      let used = group-consumed script in
+      let consumed = group-consumed script in
       let more = bytes-within counted-lines left in
-      let len = length-drop (nextRow script .used) script in
-      let one = used-within script in
+      let len = length-drop (nextRow script .consumed) script in
+      let one = consumed-within script in
       omega arith
 
   -- what is left has the rows after the book group
   pub group-rows : rowsOf (drop (bookGroupOf script .consumed) script) ≡ callRows first (rowsOf left)
   unfolding callRows
-  group-rows = ap (λ u. rowsOf (drop u script)) (group-consumed script) ∙ ap rowsOf (sym (drop-drop (bytesOfLines counted-lines left) (nextRow script .used) script)) ∙ rows-after counted-lines left
+  group-rows = ap (λ u. rowsOf (drop u script)) (group-consumed script) ∙ ap rowsOf (sym (drop-drop (bytesOfLines counted-lines left) (nextRow script .consumed) script)) ∙ rows-after counted-lines left
 
   -- the book of a run that goes on
-  pub group-reached : (o : List ℕ) → bookGroupOf script .«is_open» ≡ true → Reachable (bookOf (openingAfter script o) emptyLedger)
-  unfolding bookGroupOf bookGroupWith openingAfter openingLeft openedAs
-  group-reached o e =
+  pub book-group-reachable : (o : List ℕ) → bookGroupOf script .«is_open» ≡ true → Reachable (bookOf (openingAfter script o) emptyLedger)
+  unfolding bookGroupOf bookGroupWith openingAfter openingLeft openingOutcome
+  book-group-reachable o e =
       let readable = and-both (bookReadable first (rowsOf left)) (legal (openingOfRows first (rowsOf left))) e .0 in
-      rw readable (opened-reached (openingOfRows first (rowsOf left)))
+      rw readable (opened-reachable (openingOfRows first (rowsOf left)))
 
 -- the head's bytes and those of its lines are in the script
-pub lists-fit : (script : List ℕ) (f : NextRow) (lists : BookLists) → f ≡ nextRow script → lists ≡ bookListsOf (f .row) (take (length script - f .used) (drop (f .used) script)) → f .used + lists .consumed ≤ length script
+pub lists-fit : (script : List ℕ) (f : NextRow) (lists : BookLists) → f ≡ nextRow script → lists ≡ bookListsOf (f .row) (take (length script - f .consumed) (drop (f .consumed) script)) → f .consumed + lists .consumed ≤ length script
 lists-fit script f lists e el =
-    let more = lists-within (f .row) (take (length script - f .used) (drop (f .used) script)) lists el in
-    let all = ap length (rest-whole script (f .used)) in
-    let len = length-drop (f .used) script in
-    let one = le-trans (le-of-eq (ap (λ g. g .used) e)) (used-within script) in
+    let more = lists-within (f .row) (take (length script - f .consumed) (drop (f .consumed) script)) lists el in
+    let all = ap length (rest-whole script (f .consumed)) in
+    let len = length-drop (f .consumed) script in
+    let one = le-trans (le-of-eq (ap (λ g. g .consumed) e)) (consumed-within script) in
     omega arith

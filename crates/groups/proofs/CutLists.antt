@@ -10,8 +10,8 @@ use lib.Seq.{ext-getD, getD-take, length-take-le, take-all}
 use lib.Dec.{leb}
 use borrow.Author.Tests.{leb-true, leb-false}
 use Rattle.tariff.specs.Sizes.{maxHolders, maxPlaces}
-use Rattle.tariff.specs.Sum.{listTo}
-use Rattle.tariff.proofs.Lists.{length-list-to, at-list-to}
+use Rattle.tariff.specs.Sum.{tabulate}
+use Rattle.tariff.proofs.Lists.{length-tabulate, at-tabulate}
 use Rattle.tariff.proofs.Tests.{and-both, and-left-false, decided}
 use Rattle.ledger.specs.Numbers.{breaksRules}
 use Rattle.ledger.specs.Opening.{Opening, countsFit, legal, openingRefusal}
@@ -68,10 +68,10 @@ counts-small o e =
 first-are-all : (n : ℕ) (xs : List ℕ) → length xs ≡ n → n ≤ maxPlaces → take n (firstPlaces xs) ≡ xs
 unfolding firstPlaces
 first-are-all n xs long few =
-    let kept = length-list-to maxPlaces (λ k. getD xs k 0) in
-    let some = length-take-le n (listTo maxPlaces (λ k. getD xs k 0)) (omega arith) in
-    ext-getD 0 (take n (listTo maxPlaces (λ k. getD xs k 0))) xs (some ∙ sym long)
-    (λ i l. getD-take n (listTo maxPlaces (λ k. getD xs k 0)) i 0 (omega arith) ∙ at-list-to maxPlaces (λ k. getD xs k 0) 0 i (omega arith))
+    let kept = length-tabulate maxPlaces (λ k. getD xs k 0) in
+    let some = length-take-le n (tabulate maxPlaces (λ k. getD xs k 0)) (omega arith) in
+    ext-getD 0 (take n (tabulate maxPlaces (λ k. getD xs k 0))) xs (some ∙ sym long)
+    (λ i l. getD-take n (tabulate maxPlaces (λ k. getD xs k 0)) i 0 (omega arith) ∙ at-tabulate maxPlaces (λ k. getD xs k 0) 0 i (omega arith))
 
 fields-are-all : (j n : ℕ) (rows : List Row) → length rows ≡ n → n ≤ maxPlaces → take n (firstFields j rows) ≡ map (field j) rows
 unfolding firstFields

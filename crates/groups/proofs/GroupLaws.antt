@@ -6,7 +6,7 @@ use native.Mathlib.Nat.{le-trans}
 use native.Mathlib.Omega.{arith}
 use lib.ListN.{length, take, drop, length-drop}
 use Rattle.lines.specs.declared.rows.Row.{Row}
-use Rattle.groups.specs.Groups.{linesCounted, asksOf, groupsFrom, groupsOf}
+use Rattle.groups.specs.Groups.{linesCounted, requestOf, groupsFrom, groupsOf}
 
 -- what is left after a drop is no longer than before
 pub drop-shorter : {A : Type 0} (n : ℕ) (xs : List A) → length (drop n xs) ≤ length xs
@@ -22,12 +22,12 @@ enough (suc m) zero [] a b = refl
 enough (suc m) zero (r ∷ rows) a b = absurd (let z : ⊥ = omega arith in z)
 enough (suc m) (suc n) [] a b = refl
 enough (suc m) (suc n) (r ∷ rows) a b =
-    ap (λ later. asksOf r (take (linesCounted r) rows) ∷ later)
+    ap (λ later. requestOf r (take (linesCounted r) rows) ∷ later)
     (enough m n (drop (linesCounted r) rows) (le-trans (drop-shorter (linesCounted r) rows) (omega arith)) (le-trans (drop-shorter (linesCounted r) rows) (omega arith)))
 
 -- the first group, and those after it
-pub first-group : (r : Row) (rows : List Row) → groupsOf (r ∷ rows) ≡ (asksOf r (take (linesCounted r) rows) ∷ groupsOf (drop (linesCounted r) rows))
+pub first-group : (r : Row) (rows : List Row) → groupsOf (r ∷ rows) ≡ (requestOf r (take (linesCounted r) rows) ∷ groupsOf (drop (linesCounted r) rows))
 unfolding groupsOf groupsFrom
 first-group r rows =
-    ap (λ later. asksOf r (take (linesCounted r) rows) ∷ later)
+    ap (λ later. requestOf r (take (linesCounted r) rows) ∷ later)
     (enough (length rows) (length (drop (linesCounted r) rows)) (drop (linesCounted r) rows) (drop-shorter (linesCounted r) rows) (omega arith))

@@ -9,9 +9,9 @@ use lib.Dec.{eqb}
 use lib.Seq.{ext-getD}
 use borrow.Author.Tests.{eq-eqb}
 use Rattle.tariff.proofs.Tests.{and-join}
-use Rattle.tariff.specs.Metered.{blocksOf, sameLengths}
-use Rattle.migration.specs.Netting.{classLineAt, classLinesOf, sameCounts}
-use Rattle.tariff.proofs.Lists.{length-list-to, at-list-to}
+use Rattle.tariff.specs.Metering.{blocksOf, sameLengths}
+use Rattle.netting.specs.Netting.{classLineAt, classLinesOf, sameCounts}
+use Rattle.tariff.proofs.Lists.{length-tabulate, at-tabulate}
 use Rattle.lines.specs.declared.rows.Row.{Row}
 use Rattle.lines.specs.Rows.{field}
 use Rattle.groups.specs.Groups.{blockOf, classLineOf}
@@ -43,9 +43,9 @@ field-at j rows k = List·getD-map (field j) rows k noRow
 pub class-lines-of-rows : (rows : List Row) → classLinesOf (map (field 0) rows) (map (field 1) rows) (map (field 2) rows) (map (field 3) rows) (map (field 4) rows) ≡ map classLineOf rows
 unfolding classLinesOf classLineOf
 class-lines-of-rows rows =
-    ext-getD (classLineOf noRow) _ (map classLineOf rows) (length-list-to _ _ ∙ length-map rows (field 0) ∙ sym (length-map rows classLineOf))
+    ext-getD (classLineOf noRow) _ (map classLineOf rows) (length-tabulate _ _ ∙ length-map rows (field 0) ∙ sym (length-map rows classLineOf))
     (λ k l.
-    let many = length-list-to (length (map (field 0) rows)) (classLineAt (map (field 0) rows) (map (field 1) rows) (map (field 2) rows) (map (field 3) rows) (map (field 4) rows)) in
-    at-list-to _ _ (classLineOf noRow) k (omega arith)
+    let many = length-tabulate (length (map (field 0) rows)) (classLineAt (map (field 0) rows) (map (field 1) rows) (map (field 2) rows) (map (field 3) rows) (map (field 4) rows)) in
+    at-tabulate _ _ (classLineOf noRow) k (omega arith)
     ∙ (λ i. record { from = field-at 0 rows k i; to = field-at 1 rows k i; class = field-at 2 rows k i; customers = field-at 3 rows k i; watts = field-at 4 rows k i })
     ∙ sym (List·getD-map classLineOf rows k noRow))

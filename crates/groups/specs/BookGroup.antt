@@ -61,8 +61,8 @@ module _ (head : Row) (rows : List Row) where
 unfoldable pub bookGroupOf : List ℕ → BookGroup
 bookGroupOf script =
     let head = nextRow script .row in
-    let rest = drop (nextRow script .used) script in
-    bookGroupWith head (rowsOf rest) (nextRow script .used + bytesOfLines (field 0 head + field 2 head + field 3 head) rest)
+    let rest = drop (nextRow script .consumed) script in
+    bookGroupWith head (rowsOf rest) (nextRow script .consumed + bytesOfLines (field 0 head + field 2 head + field 3 head) rest)
 
 unfoldable pub openingAfter : List ℕ → List ℕ → List ℕ
-openingAfter script o = openingLeft (nextRow script .row) (rowsOf (drop (nextRow script .used) script)) o
+openingAfter script o = openingLeft (nextRow script .row) (rowsOf (drop (nextRow script .consumed) script)) o

@@ -1,14 +1,14 @@
--- Groups: a head and the lines that it counts, and what they ask of the book (01, Script and host).
+-- Groups: a head and the lines that it counts, and the request that they make (01, Script and host).
 use Prim.Native.Nat.{ℕ, zero, suc, _+_}
 use mathlib.Core.Bool.{Bool, cond, _&&_}
 use mathlib.Core.List.{List, [], _∷_, map}
 use lib.ListN.{length, take, drop}
 use lib.Dec.{eqb}
-use Rattle.migration.specs.declared.netting.ClassLine.{ClassLine}
+use Rattle.netting.specs.declared.netting.ClassLine.{ClassLine}
 use Rattle.tariff.specs.Load.{Block}
 use Rattle.ledger.specs.Opening.{Opening}
 use Rattle.ledger.specs.Call.{load, carry, prior, verify, migrate, openTier, nominate, award, closeTier, limitOf, heldOn, netOn}
-use Rattle.ledger.specs.Season.{Ask, call, query}
+use Rattle.ledger.specs.Season.{Request, call, query}
 use Rattle.lines.specs.declared.rows.Row.{Row}
 use Rattle.lines.specs.Rows.{field, counted, bookLine, holderLine, sinkLine, pathLine, loadLine, blockLine, carryLine, priorLine, verifyLine, migrateLine, classLine, openLine, nominateLine, awardLine, closeLine, limitLine, heldLine, netLine, holderRows, sinkRows, pathRows}
 
@@ -18,53 +18,53 @@ blockOf r = record { first = field 0 r; hours = field 1 r; kw = field 2 r }
 unfoldable pub classLineOf : Row → ClassLine
 classLineOf r = record { from = field 0 r; to = field 1 r; class = field 2 r; customers = field 3 r; watts = field 4 r }
 
--- what a group asks: a call or a query, or nothing where a line of it is unreadable or absent
-pub data Asked : Type 0 where
-  nothing : Asked
-  asked : Ask → Asked
+-- a group as it is read: a request, or unreadable where a line of it is unreadable or absent
+pub data Group : Type 0 where
+  unreadableGroup : Group
+  request : Request → Group
 
--- for a kind of head, what it asks
-pub data Entry : Type 0 where
-  entry : ℕ → Asked → Entry
+-- for a kind of head, the group that it makes
+pub data Case : Type 0 where
+  case : ℕ → Group → Case
 
--- a kind that is not listed asks nothing: a second book, or a line that no head counts
-unfoldable pub lookUp : ℕ → List Entry → Asked
-lookUp kind [] = nothing
-lookUp kind (entry known what ∷ later) = cond (eqb kind known) what (lookUp kind later)
+-- a kind that is not listed is unreadable: a second book, or a line that no head counts
+unfoldable pub lookup : ℕ → List Case → Group
+lookup kind [] = unreadableGroup
+lookup kind (case known what ∷ later) = cond (eqb kind known) what (lookup kind later)
 
 -- load and migrate end in a count of the lines that follow
 unfoldable pub linesCounted : Row → ℕ
 linesCounted r = cond (eqb (r .kind) loadLine) (field 5 r) (cond (eqb (r .kind) migrateLine) (field 2 r) 0)
 
-unfoldable pub whole : Bool → Ask → Asked
-whole isWhole ask = cond isWhole (asked ask) nothing
+unfoldable pub whenComplete : Bool → Request → Group
+whenComplete isComplete req = cond isComplete (request req) unreadableGroup
 
--- what a head asks with the lines that belong to it
-unfoldable pub asksOf : Row → List Row → Asked
-asksOf r lines =
-    lookUp (r .kind)
-    (entry loadLine (whole (counted blockLine (field 5 r) lines) (call (load (field 0 r) (field 1 r) (field 2 r) (field 3 r) (field 4 r) (map blockOf lines))))
-    ∷ entry carryLine (asked (call (carry (field 0 r) (field 1 r) (field 2 r))))
-    ∷ entry priorLine (asked (call (prior (field 0 r) (field 1 r) (field 2 r) (field 3 r))))
-    ∷ entry verifyLine (asked (call (verify (field 0 r) (field 1 r) (field 2 r) (field 3 r) (field 4 r) (field 5 r) (field 6 r))))
-    ∷ entry migrateLine (whole (counted classLine (field 2 r) lines) (call (migrate (field 0 r) (field 1 r) (map classLineOf lines))))
-    ∷ entry openLine (asked (call (openTier (field 0 r))))
-    ∷ entry nominateLine (asked (call (nominate (field 0 r) (field 1 r) (field 2 r))))
-    ∷ entry awardLine (asked (call (award (field 0 r) (field 1 r) (field 2 r))))
-    ∷ entry closeLine (asked (call closeTier))
-    ∷ entry limitLine (asked (query (limitOf (field 0 r) (field 1 r))))
-    ∷ entry heldLine (asked (query (heldOn (field 0 r) (field 1 r) (field 2 r))))
-    ∷ entry netLine (asked (query (netOn (field 0 r) (field 1 r))))
+-- a head with the lines that belong to it
+unfoldable pub requestOf : Row → List Row → Group
+requestOf r lines =
+    lookup (r .kind)
+    (case loadLine (whenComplete (counted blockLine (field 5 r) lines) (call (load (field 0 r) (field 1 r) (field 2 r) (field 3 r) (field 4 r) (map blockOf lines))))
+    ∷ case carryLine (request (call (carry (field 0 r) (field 1 r) (field 2 r))))
+    ∷ case priorLine (request (call (prior (field 0 r) (field 1 r) (field 2 r) (field 3 r))))
+    ∷ case verifyLine (request (call (verify (field 0 r) (field 1 r) (field 2 r) (field 3 r) (field 4 r) (field 5 r) (field 6 r))))
+    ∷ case migrateLine (whenComplete (counted classLine (field 2 r) lines) (call (migrate (field 0 r) (field 1 r) (map classLineOf lines))))
+    ∷ case openLine (request (call (openTier (field 0 r))))
+    ∷ case nominateLine (request (call (nominate (field 0 r) (field 1 r) (field 2 r))))
+    ∷ case awardLine (request (call (award (field 0 r) (field 1 r) (field 2 r))))
+    ∷ case closeLine (request (call closeTier))
+    ∷ case limitLine (request (query (limitOf (field 0 r) (field 1 r))))
+    ∷ case heldLine (request (query (heldOn (field 0 r) (field 1 r) (field 2 r))))
+    ∷ case netLine (request (query (netOn (field 0 r) (field 1 r))))
     ∷ [])
 
 -- the groups of rows, at most so many: a head and the lines that it counts, or all lines left if fewer
-unfoldable pub groupsFrom : ℕ → List Row → List Asked
+unfoldable pub groupsFrom : ℕ → List Row → List Group
 groupsFrom zero rows = []
 groupsFrom (suc most) [] = []
-groupsFrom (suc most) (r ∷ rows) = asksOf r (take (linesCounted r) rows) ∷ groupsFrom most (drop (linesCounted r) rows)
+groupsFrom (suc most) (r ∷ rows) = requestOf r (take (linesCounted r) rows) ∷ groupsFrom most (drop (linesCounted r) rows)
 
 -- there are no more groups than rows
-unfoldable pub groupsOf : List Row → List Asked
+unfoldable pub groupsOf : List Row → List Group
 groupsOf rows = groupsFrom (length rows) rows
 
 -- the book group: its head and the rows after that

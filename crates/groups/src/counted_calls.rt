@@ -19,7 +19,7 @@ ghost use Rattle.lines.specs.Rows.{rowsOf, loadLine, migrateLine};
 ghost use Rattle.lines.specs.Counted.{rowsCounted, columnLength, roomWith};
 ghost use Rattle.lines.specs.Text.{maxLines};
 ghost use Rattle.groups.specs.Groups.{linesCounted};
-ghost use Rattle.groups.specs.Outcome.{headAsks, headBytes, FiguresAnswers, PostingsAnswers};
+ghost use Rattle.groups.specs.Outcome.{headGroup, headBytes, FiguresAnswers, PostingsAnswers};
 
 // Up to so many lines are kept in a small room, so that a short group does not pay for room that it does not need.
 const FEW_LINES: usize = 64;
@@ -41,15 +41,15 @@ fn load_in_room(
     requires reachable { ⌜ ReachablePostings (now o) (now f) (now m) ⌝ }
     requires load { ⌜ head .kind ≡ loadLine ⌝ }
     requires room { ⌜ length (rowsCounted (linesCounted head) (now rest)) ≤ columnLength (now room) ⌝ }
-    ensures answer { λ r. ⌜ PostingsAnswers (now (o .entry)) (now (f .entry)) (now (m .entry)) (headAsks head (now (rest .entry))) (r .answer) (now (f .exit)) (now (m .exit)) ⌝ }
+    ensures answer { λ r. ⌜ PostingsAnswers (now (o .entry)) (now (f .entry)) (now (m .entry)) (headGroup head (now (rest .entry))) (r .answer) (now (f .exit)) (now (m .exit)) ⌝ }
     ensures consumed { λ r. ⌜ r .consumed ≡ headBytes head (now (rest .entry)) ⌝ }
     ensures room { λ _. ⌜ now (room .exit) ≡ roomWith (rowsCounted (linesCounted head) (now (rest .entry))) (now (room .entry)) ⌝ }
 {
     let n = head.fields;
     let count = n[5];
     let read = read_counted(rest, BLOCK, count, room);
-    let consumed = read.used;
-    if !read.whole {
+    let consumed = read.consumed;
+    if !read.complete {
         let answer = Answer::Refused(UNREADABLE);
         return GroupOutcome { answer, consumed };
     }
@@ -72,15 +72,15 @@ fn migrate_in_room(
     requires reachable { ⌜ ReachableFigures (now o) (now f) ⌝ }
     requires migrate { ⌜ head .kind ≡ migrateLine ⌝ }
     requires room { ⌜ length (rowsCounted (linesCounted head) (now rest)) ≤ columnLength (now room) ⌝ }
-    ensures answer { λ r. ⌜ FiguresAnswers (now (o .entry)) (now (f .entry)) (headAsks head (now (rest .entry))) (r .answer) (now (f .exit)) ⌝ }
+    ensures answer { λ r. ⌜ FiguresAnswers (now (o .entry)) (now (f .entry)) (headGroup head (now (rest .entry))) (r .answer) (now (f .exit)) ⌝ }
     ensures consumed { λ r. ⌜ r .consumed ≡ headBytes head (now (rest .entry)) ⌝ }
     ensures room { λ _. ⌜ now (room .exit) ≡ roomWith (rowsCounted (linesCounted head) (now (rest .entry))) (now (room .entry)) ⌝ }
 {
     let n = head.fields;
     let count = n[2];
     let read = read_counted(rest, CLASS, count, room);
-    let consumed = read.used;
-    if !read.whole {
+    let consumed = read.consumed;
+    if !read.complete {
         let answer = Answer::Refused(UNREADABLE);
         return GroupOutcome { answer, consumed };
     }
@@ -99,7 +99,7 @@ pub fn run_load(o: &[u64], f: &mut [u64], m: &mut [bool], head: Row, rest: &[u8]
     requires reachable { ⌜ ReachablePostings (now o) (now f) (now m) ⌝ }
     requires load { ⌜ head .kind ≡ loadLine ⌝ }
     requires few { ⌜ length (rowsOf (now rest)) ≤ maxLines ⌝ }
-    ensures answer { λ r. ⌜ PostingsAnswers (now (o .entry)) (now (f .entry)) (now (m .entry)) (headAsks head (now (rest .entry))) (r .answer) (now (f .exit)) (now (m .exit)) ⌝ }
+    ensures answer { λ r. ⌜ PostingsAnswers (now (o .entry)) (now (f .entry)) (now (m .entry)) (headGroup head (now (rest .entry))) (r .answer) (now (f .exit)) (now (m .exit)) ⌝ }
     ensures consumed { λ r. ⌜ r .consumed ≡ headBytes head (now (rest .entry)) ⌝ }
 {
     let n = head.fields;
@@ -116,7 +116,7 @@ pub fn run_migrate(o: &[u64], f: &mut [u64], head: Row, rest: &[u8]) -> GroupOut
     requires reachable { ⌜ ReachableFigures (now o) (now f) ⌝ }
     requires migrate { ⌜ head .kind ≡ migrateLine ⌝ }
     requires few { ⌜ length (rowsOf (now rest)) ≤ maxLines ⌝ }
-    ensures answer { λ r. ⌜ FiguresAnswers (now (o .entry)) (now (f .entry)) (headAsks head (now (rest .entry))) (r .answer) (now (f .exit)) ⌝ }
+    ensures answer { λ r. ⌜ FiguresAnswers (now (o .entry)) (now (f .entry)) (headGroup head (now (rest .entry))) (r .answer) (now (f .exit)) ⌝ }
     ensures consumed { λ r. ⌜ r .consumed ≡ headBytes head (now (rest .entry)) ⌝ }
 {
     let n = head.fields;

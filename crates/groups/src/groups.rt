@@ -35,13 +35,13 @@ ghost use lib.ListN.{length};
 ghost use Rattle.slots.specs.Steps.{ReachablePostings};
 ghost use Rattle.lines.specs.Rows.{rowsOf};
 ghost use Rattle.lines.specs.Text.{maxLines};
-ghost use Rattle.groups.specs.Outcome.{headAsks, headBytes, groupAsked, groupBytes, GroupAnswers};
+ghost use Rattle.groups.specs.Outcome.{headGroup, headBytes, firstGroup, groupBytes, GroupAnswers};
 
-// A head with the lines that stand behind it. A line that is no head is unreadable by itself.
+// A head with the lines that stand after it. A line that is no head is unreadable by itself.
 fn run_head(o: &[u64], f: &mut [u64], m: &mut [bool], head: Row, rest: &[u8]) -> GroupOutcome
     requires reachable { ⌜ ReachablePostings (now o) (now f) (now m) ⌝ }
     requires few { ⌜ length (rowsOf (now rest)) ≤ maxLines ⌝ }
-    ensures answer { λ r. ⌜ GroupAnswers (now (o .entry)) (now (f .entry)) (now (m .entry)) (headAsks head (now (rest .entry))) (r .answer) (now (f .exit)) (now (m .exit)) ⌝ }
+    ensures answer { λ r. ⌜ GroupAnswers (now (o .entry)) (now (f .entry)) (now (m .entry)) (headGroup head (now (rest .entry))) (r .answer) (now (f .exit)) (now (m .exit)) ⌝ }
     ensures consumed { λ r. ⌜ r .consumed ≡ headBytes head (now (rest .entry)) ⌝ }
 {
     let kind = head.kind;
@@ -75,12 +75,12 @@ fn run_head(o: &[u64], f: &mut [u64], m: &mut [bool], head: Row, rest: &[u8]) ->
 pub fn run_group(o: &[u64], f: &mut [u64], m: &mut [bool], rest: &[u8]) -> GroupOutcome
     requires reachable { ⌜ ReachablePostings (now o) (now f) (now m) ⌝ }
     requires few { ⌜ length (rowsOf (now rest)) ≤ maxLines ⌝ }
-    ensures answer { λ r. ⌜ GroupAnswers (now (o .entry)) (now (f .entry)) (now (m .entry)) (groupAsked (now (rest .entry))) (r .answer) (now (f .exit)) (now (m .exit)) ⌝ }
+    ensures answer { λ r. ⌜ GroupAnswers (now (o .entry)) (now (f .entry)) (now (m .entry)) (firstGroup (now (rest .entry))) (r .answer) (now (f .exit)) (now (m .exit)) ⌝ }
     ensures consumed { λ r. ⌜ r .consumed ≡ groupBytes (now (rest .entry)) ⌝ }
 {
     let next = next_row(rest);
     let head = next.row;
-    let at_lines = next.used;
+    let at_lines = next.consumed;
     let outcome = run_head(o, f, m, head, &rest[at_lines..]);
     let answer = outcome.answer;
     GroupOutcome {

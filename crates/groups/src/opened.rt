@@ -81,7 +81,7 @@ pub fn open_from_script(script: &[u8], o: &mut [u64]) -> BookGroup
 {
     let first = next_row(script);
     let head = first.row;
-    let at_lines = first.used;
+    let at_lines = first.consumed;
     let lists = read_book_lines(&script[at_lines..], head);
     let consumed = at_lines + lists.consumed;
     if lists.complete & (head.kind == BOOK) {

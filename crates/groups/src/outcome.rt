@@ -9,7 +9,7 @@ pub struct GroupOutcome {
     pub consumed: usize,
 }
 
-// A head that counts no lines takes none of what stands behind it.
+// A head that counts no lines takes none of what stands after it.
 pub fn of_one_line(answer: Answer) -> GroupOutcome
     ensures { λ r. ⌜ r ≡ ofOneLine answer ⌝ }
 {

@@ -7,18 +7,18 @@ use native.Mathlib.Nat.{add-zero}
 use native.Mathlib.Omega.{arith}
 use lib.Dec.{eqb}
 use borrow.Author.Tests.{eqb-true}
-use Rattle.tariff.specs.Sum.{countIf, sumTo}
+use Rattle.tariff.specs.Sum.{whenTrue, sumTo}
 use Rattle.tariff.specs.Load.{loadPosted}
 use Rattle.tariff.specs.Terms.{termOf, isMonth, hasMonth}
 use Rattle.tariff.proofs.Sums.{sum-ext, sum-add, sum-zero}
 use Rattle.tariff.proofs.Tests.{and-both}
 use Rattle.ledger.specs.Opening.{Opening, endsAt}
-use Rattle.ledger.specs.Ledger.{Ledger, emptyLedger, withLoads, withRights, withPriors, withPapers, withTiers}
+use Rattle.ledger.specs.Ledger.{Ledger, emptyLedger, withLoads, withRights, withPriors, withEvidence, withTiers}
 use Rattle.ledger.specs.Call.{Call, load, carry, prior, verify, migrate, openTier, nominate, award, closeTier}
-use Rattle.ledger.specs.Moves.{movedWhere, loadBefore, loadsAfter, rightsAfter, migrated}
+use Rattle.ledger.specs.Migration.{transferredWhere, loadBefore, loadsAfter, rightsAfter, migrated}
 use Rattle.ledger.specs.Effects.{same2, same3, plusAt3, plusInTerm, afterLoad, afterCarry, holdingsAfter, effect}
 use Rattle.ledger.specs.Season.{after, held, net}
-use Rattle.ledger.specs.Totals.{contribution, nothing, sumAccepted, carriedIn, awardedIn, postedIn}
+use Rattle.ledger.specs.Totals.{contribution, noContribution, sumAccepted, carriedIn, awardedIn, postedIn}
 use Rattle.ledger.proofs.Steps.{Adds, list-adds}
 use Rattle.ledger.proofs.Columns.{column-plus, column-kept, load-kept}
 use Rattle.ledger.proofs.PostingFacts.{load-facts, carry-facts}
@@ -35,18 +35,18 @@ unfoldable pub loadSum : Opening → ℕ → ℕ → Ledger → ℕ
 loadSum o s t L = sumTo (o .holders) (λ h. L .loads .kw h s t)
 
 -- kw added for one holder where two tests pass
-for-one : (o : Opening) (x kw : ℕ) (v : ℕ → ℕ) (t u : Bool) → x < o .holders → sumTo (o .holders) (λ h. v h + countIf (eqb h x && t && u) kw) ≡ sumTo (o .holders) v + countIf (t && u) kw
+for-one : (o : Opening) (x kw : ℕ) (v : ℕ → ℕ) (t u : Bool) → x < o .holders → sumTo (o .holders) (λ h. v h + whenTrue (eqb h x && t && u) kw) ≡ sumTo (o .holders) v + whenTrue (t && u) kw
 for-one o x kw v t u l =
-    sum-ext {f = λ h. v h + countIf (eqb h x && t && u) kw} {g = λ h. v h + countIf (eqb h x && (t && u)) kw} (o .holders) (λ h i. ap (λ b. v h + countIf b kw) (and-assoc (eqb h x) t u))
+    sum-ext {f = λ h. v h + whenTrue (eqb h x && t && u) kw} {g = λ h. v h + whenTrue (eqb h x && (t && u)) kw} (o .holders) (λ h i. ap (λ b. v h + whenTrue b kw) (and-assoc (eqb h x) t u))
     ∙ column-plus v (o .holders) x (t && u) kw l
 
 -- kw added for one holder and path in the months of a term
-pub in-term : (o : Opening) (term x q kw : ℕ) (f : ℕ → ℕ → ℕ → ℕ) (p m : ℕ) → x < o .holders → sumTo (o .holders) (λ h. plusInTerm term x q kw f h p m) ≡ sumTo (o .holders) (λ h. f h p m) + countIf (eqb p q && hasMonth term m) kw
+pub in-term : (o : Opening) (term x q kw : ℕ) (f : ℕ → ℕ → ℕ → ℕ) (p m : ℕ) → x < o .holders → sumTo (o .holders) (λ h. plusInTerm term x q kw f h p m) ≡ sumTo (o .holders) (λ h. f h p m) + whenTrue (eqb p q && hasMonth term m) kw
 unfolding plusInTerm same2
 in-term o term x q kw f p m l = for-one o x kw (λ h. f h p m) (eqb p q) (hasMonth term m) l
 
 -- kw added in one place
-pub in-place : (o : Opening) (x q term kw : ℕ) (f : ℕ → ℕ → ℕ → ℕ) (s t : ℕ) → x < o .holders → sumTo (o .holders) (λ h. plusAt3 x q term kw f h s t) ≡ sumTo (o .holders) (λ h. f h s t) + countIf (eqb s q && eqb t term) kw
+pub in-place : (o : Opening) (x q term kw : ℕ) (f : ℕ → ℕ → ℕ → ℕ) (s t : ℕ) → x < o .holders → sumTo (o .holders) (λ h. plusAt3 x q term kw f h s t) ≡ sumTo (o .holders) (λ h. f h s t) + whenTrue (eqb s q && eqb t term) kw
 unfolding plusAt3 same3
 in-place o x q term kw f s t l = for-one o x kw (λ h. f h s t) (eqb s q) (eqb t term) l
 
@@ -57,7 +57,7 @@ from-empty figure amount o adds none cs = let all = list-adds figure amount o ad
 
 module _ (o : Opening) (p m : ℕ) where
   pub awarded-adds : Adds (awardedSum o p m) (λ L c. contribution o L c .awarded p m) o
-  unfolding awardedSum contribution nothing effect withLoads withRights withPriors withPapers withTiers migrated movedWhere rightsAfter afterCarry holdingsAfter
+  unfolding awardedSum contribution noContribution effect withLoads withRights withPriors withEvidence withTiers migrated transferredWhere rightsAfter afterCarry holdingsAfter
   awarded-adds L (load h s term contract n blocks) e = omega arith
   awarded-adds L (carry h q kw) e = omega arith
   awarded-adds L (prior h q a l) e = omega arith
@@ -67,7 +67,7 @@ module _ (o : Opening) (p m : ℕ) where
       ∙ sym (add-zero (sumTo (o .holders) (λ h. L .rights .awarded h p m)))
   awarded-adds L (openTier tier) e = omega arith
   awarded-adds L (nominate h q kw) e = omega arith
-  awarded-adds L (award h q kw) e = in-term o (termOf (L .tiers .openNow)) h q kw (L .rights .awarded) p m (award-facts o L h q kw e .holder)
+  awarded-adds L (award h q kw) e = in-term o (termOf (L .tiers .currentTier)) h q kw (L .rights .awarded) p m (award-facts o L h q kw e .holder)
   awarded-adds L closeTier e = omega arith
 
   -- per path and month the awarded kW add up to the accepted awards in tiers 1 to 3 and in the month's own
@@ -76,11 +76,11 @@ module _ (o : Opening) (p m : ℕ) where
   awarded-conserved = from-empty (awardedSum o p m) (λ L c. contribution o L c .awarded p m) o awarded-adds (sum-zero (o .holders) (λ h l. refl))
 
   pub carried-adds : isMonth m ≡ true → Adds (carriedSum o p m) (λ L c. contribution o L c .carried p) o
-  unfolding carriedSum contribution nothing effect withLoads withRights withPriors withPapers withTiers migrated movedWhere rightsAfter afterCarry holdingsAfter hasMonth
+  unfolding carriedSum contribution noContribution effect withLoads withRights withPriors withEvidence withTiers migrated transferredWhere rightsAfter afterCarry holdingsAfter hasMonth
   carried-adds month L (load h s term contract n blocks) e = omega arith
   carried-adds month L (carry h q kw) e =
       in-term o 0 h q kw (L .rights .carried) p m (carry-facts o L h q kw e .holder)
-      ∙ ap (λ b. sumTo (o .holders) (λ h. L .rights .carried h p m) + countIf b kw) (ap (λ b. eqb p q && (b && true)) month ∙ and-true (eqb p q))
+      ∙ ap (λ b. sumTo (o .holders) (λ h. L .rights .carried h p m) + whenTrue b kw) (ap (λ b. eqb p q && (b && true)) month ∙ and-true (eqb p q))
   carried-adds month L (prior h q a l) e = omega arith
   carried-adds month L (verify h s kind capacity right first last) e = omega arith
   carried-adds month L (migrate term sink lines) e =
@@ -105,7 +105,7 @@ module _ (o : Opening) (p m : ℕ) where
 
 module _ (o : Opening) (s t : ℕ) where
   pub load-adds : Adds (loadSum o s t) (λ L c. contribution o L c .posted s t) o
-  unfolding loadSum contribution nothing effect withLoads withRights withPriors withPapers withTiers migrated movedWhere loadsAfter afterLoad loadBefore
+  unfolding loadSum contribution noContribution effect withLoads withRights withPriors withEvidence withTiers migrated transferredWhere loadsAfter afterLoad loadBefore
   load-adds L (load h q term contract n blocks) e = in-place o h q term (loadPosted contract blocks) (L .loads .kw) s t (load-facts o L h q term contract n blocks e .holder)
   load-adds L (carry h q kw) e = omega arith
   load-adds L (prior h q a l) e = omega arith

@@ -14,7 +14,7 @@ pub mod Nominations
 pub mod Once
 pub mod PostedOnce
 pub mod TierBounds
-pub mod PaperBounds
+pub mod EvidenceBounds
 pub mod NeverBelowZero
 pub mod Bounds
 pub mod SumBounds

@@ -7,18 +7,18 @@ use native.Mathlib.Nat.{le-trans, le-of-eq}
 use native.Mathlib.Omega.{arith}
 use lib.Dec.{eqb}
 use borrow.Author.Tests.{eqb-true}
-use Rattle.migration.specs.declared.netting.ClassLine.{ClassLine}
-use Rattle.tariff.specs.Sum.{countIf}
+use Rattle.netting.specs.declared.netting.ClassLine.{ClassLine}
+use Rattle.tariff.specs.Sum.{whenTrue}
 use Rattle.tariff.specs.Terms.{hasMonth}
-use Rattle.migration.specs.Migration.{netted, lostBy, shares}
+use Rattle.netting.specs.Migration.{netted, lostBy, shares}
 use Rattle.tariff.proofs.Tests.{and-both}
-use Rattle.migration.proofs.Shifts.{shift-entry}
+use Rattle.netting.proofs.Transfers.{transfer-entry}
 use Rattle.ledger.specs.Opening.{Opening, endsAt}
 use Rattle.ledger.specs.Ledger.{Ledger}
 use Rattle.ledger.specs.Call.{Call, migrate}
 use Rattle.ledger.specs.Effects.{effect}
-use Rattle.ledger.specs.Moves.{movedWhere, loadsAfter, rightsAfter, priorsAfter, loadBefore, loadAfter, columnAfter, migrated}
-use Rattle.ledger.specs.Taken.{given, gained, loadGained, Taken, TakesNoMore}
+use Rattle.ledger.specs.Migration.{transferredWhere, loadsAfter, rightsAfter, priorsAfter, loadBefore, loadAfter, columnAfter, migrated}
+use Rattle.ledger.specs.Balance.{given, gained, loadGained, RecordBalance, HolderBalance}
 use Rattle.ledger.specs.Season.{accepted, step, after}
 use Rattle.ledger.proofs.Columns.{column-fits}
 use Rattle.ledger.proofs.Steps.{step-accepted}
@@ -26,35 +26,35 @@ use Rattle.ledger.proofs.TierFacts.{migrate-facts}
 
 module _ (o : Opening) (L : Ledger) (term sink : ℕ) (lines : List ClassLine) (fits : (i : ℕ) → i < o .holders → lostBy (o .holders) (netted lines) i ≤ loadBefore L term sink i) where
   -- a record that moves where a test passes
-  taken : (t : Bool) (v : ℕ → ℕ) (i : ℕ) → i < o .holders → Taken o L term sink lines t v (cond t (columnAfter o L term sink lines v i) (v i)) i
-  unfolding countIf given gained columnAfter
+  taken : (t : Bool) (v : ℕ → ℕ) (i : ℕ) → i < o .holders → RecordBalance o L term sink lines t v (cond t (columnAfter o L term sink lines v i) (v i)) i
+  unfolding whenTrue given gained columnAfter
   taken true v i l =
       record {
         covers = column-fits o L term sink lines fits v i l;
-        balance = shift-entry (o .holders) (shares (netted lines) (loadBefore L term sink) v) v i (column-fits o L term sink lines fits v i l);
+        balance = transfer-entry (o .holders) (shares (netted lines) (loadBefore L term sink) v) v i (column-fits o L term sink lines fits v i l);
       }
   taken false v i l = record { covers = omega arith; balance = refl }
 
   -- the load, which moves by m
-  load-taken : (t : Bool) (v : ℕ → ℕ) (i : ℕ) → i < o .holders → (t ≡ true → v i ≡ loadBefore L term sink i) → cond t (loadAfter o lines v i) (v i) + countIf t (lostBy (o .holders) (netted lines) i) ≡ v i + countIf t (loadGained o L term sink lines i)
-  unfolding countIf loadGained loadAfter lostBy
-  load-taken true v i l same = shift-entry (o .holders) (netted lines) v i (le-trans (fits i l) (le-of-eq (sym (same refl))))
-  load-taken false v i l same = refl
+  load-balance : (t : Bool) (v : ℕ → ℕ) (i : ℕ) → i < o .holders → (t ≡ true → v i ≡ loadBefore L term sink i) → cond t (loadAfter o lines v i) (v i) + whenTrue t (lostBy (o .holders) (netted lines) i) ≡ v i + whenTrue t (loadGained o L term sink lines i)
+  unfolding whenTrue loadGained loadAfter lostBy
+  load-balance true v i l same = transfer-entry (o .holders) (netted lines) v i (le-trans (fits i l) (le-of-eq (sym (same refl))))
+  load-balance false v i l same = refl
 
-  moved-takes : (i : ℕ) → i < o .holders → TakesNoMore o L term sink lines (migrated o L term sink lines) i
-  unfolding migrated loadsAfter rightsAfter priorsAfter movedWhere loadBefore
-  moved-takes i l =
+  moved-balance : (i : ℕ) → i < o .holders → HolderBalance o L term sink lines (migrated o L term sink lines) i
+  unfolding migrated loadsAfter rightsAfter priorsAfter transferredWhere loadBefore
+  moved-balance i l =
       record {
         loadCovers = fits i l;
-        loads = λ s t. load-taken (eqb s sink && eqb t term) (λ h. L .loads .kw h s t) i l (λ e. let same = and-both (eqb s sink) (eqb t term) e in λ k. L .loads .kw i (eqb-true s sink (same .0) k) (eqb-true t term (same .1) k));
+        loads = λ s t. load-balance (eqb s sink && eqb t term) (λ h. L .loads .kw h s t) i l (λ e. let same = and-both (eqb s sink) (eqb t term) e in λ k. L .loads .kw i (eqb-true s sink (same .0) k) (eqb-true t term (same .1) k));
         carried = λ p m. taken (endsAt o sink p && hasMonth term m) (λ h. L .rights .carried h p m) i l;
         awarded = λ p m. taken (endsAt o sink p && hasMonth term m && not (eqb term 0)) (λ h. L .rights .awarded h p m) i l;
         allocated = λ p. taken (endsAt o sink p && eqb term 0) (λ h. L .priors .allocated h p) i l;
-        renewable = λ p. taken (endsAt o sink p && eqb term 0) (λ h. L .priors .renewable h p) i l;
+        remaining = λ p. taken (endsAt o sink p && eqb term 0) (λ h. L .priors .remaining h p) i l;
       }
 
-pub never-below-zero : (o : Opening) (cs : List Call) (term sink : ℕ) (lines : List ClassLine) → accepted o (after o cs) (migrate term sink lines) ≡ true → (i : ℕ) → i < o .holders → TakesNoMore o (after o cs) term sink lines (step o (after o cs) (migrate term sink lines)) i
+pub never-below-zero : (o : Opening) (cs : List Call) (term sink : ℕ) (lines : List ClassLine) → accepted o (after o cs) (migrate term sink lines) ≡ true → (i : ℕ) → i < o .holders → HolderBalance o (after o cs) term sink lines (step o (after o cs) (migrate term sink lines)) i
 unfolding effect
 never-below-zero o cs term sink lines e i l =
-    subst (λ N. TakesNoMore o (after o cs) term sink lines N i) (sym (step-accepted o (after o cs) (migrate term sink lines) e))
-    (moved-takes o (after o cs) term sink lines (migrate-facts o (after o cs) term sink lines e .fits) i l)
+    subst (λ N. HolderBalance o (after o cs) term sink lines N i) (sym (step-accepted o (after o cs) (migrate term sink lines) e))
+    (moved-balance o (after o cs) term sink lines (migrate-facts o (after o cs) term sink lines e .fits) i l)

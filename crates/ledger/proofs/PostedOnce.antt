@@ -6,18 +6,18 @@ use mathlib.Core.List.{List}
 use native.Mathlib.Nat.{le-trans, le-of-eq, sub-le}
 use lib.Dec.{eqb}
 use borrow.Author.Tests.{eqb-true}
-use Rattle.tariff.specs.Sum.{countIf}
-use Rattle.migration.specs.declared.netting.ClassLine.{ClassLine}
+use Rattle.tariff.specs.Sum.{whenTrue}
+use Rattle.netting.specs.declared.netting.ClassLine.{ClassLine}
 use Rattle.tariff.specs.Load.{Block, loadPosted}
 use Rattle.tariff.specs.Terms.{hasMonth}
 use Rattle.tariff.proofs.Sums.{sum-le}
 use Rattle.tariff.proofs.Tests.{and-both}
 use Rattle.tariff.proofs.Metric.{posted-le}
 use Rattle.ledger.specs.Opening.{Opening, endsAt}
-use Rattle.ledger.specs.Ledger.{Ledger, Loads, Rights, Priors, emptyLedger, withLoads, withRights, withPriors, withPapers, withTiers}
+use Rattle.ledger.specs.Ledger.{Ledger, Loads, Rights, Priors, emptyLedger, withLoads, withRights, withPriors, withEvidence, withTiers}
 use Rattle.ledger.specs.Call.{Call, load, carry, prior, verify, migrate, openTier, nominate, award, closeTier}
-use Rattle.ledger.specs.Moves.{movedWhere, loadBefore, loadsAfter, rightsAfter, priorsAfter, migrated}
-use Rattle.tariff.specs.Ranges.{mostKw}
+use Rattle.ledger.specs.Migration.{transferredWhere, loadBefore, loadsAfter, rightsAfter, priorsAfter, migrated}
+use Rattle.tariff.specs.Ranges.{maxKw}
 use Rattle.ledger.specs.Effects.{same2, same3, plusAt2, plusAt3, plusInTerm, afterLoad, afterCarry, afterPrior, holdingsAfter, effect}
 use Rattle.ledger.specs.Season.{accepted, step, after}
 use Rattle.ledger.proofs.Steps.{step-keeps, after-keeps}
@@ -31,7 +31,7 @@ pub record OnceIn (o : Opening) (loads : Loads) (rights : Rights) (priors : Prio
   pub loadColumn : (s t : ℕ) → Once (o .holders) (λ h. loads .kw h s t) (λ h. loads .posted h s t)
   pub carriedColumn : (p m : ℕ) → Once (o .holders) (λ h. rights .carried h p m) (λ h. rights .posted h p)
   pub allocatedColumn : (p : ℕ) → Once (o .holders) (λ h. priors .allocated h p) (λ h. priors .posted h p)
-  pub renewableColumn : (p : ℕ) → Once (o .holders) (λ h. priors .renewable h p) (λ h. priors .posted h p)
+  pub remainingColumn : (p : ℕ) → Once (o .holders) (λ h. priors .remaining h p) (λ h. priors .posted h p)
 
 abbrev pub PostedOnce : Opening → Ledger → Type 0
 PostedOnce o L = OnceIn o (L .loads) (L .rights) (L .priors)
@@ -43,10 +43,10 @@ once-load o L x q term contract n blocks k e =
     record {
       loadColumn =
           λ s t.
-          once-post (o .holders) x (loadPosted contract blocks) (eqb s q && eqb t term) (eqb s q && eqb t term) (λ h. L .loads .kw h s t) (λ h. L .loads .posted h s t) (λ h. eqb h x && eqb s q && eqb t term) (λ h. eqb h x && eqb s q && eqb t term) (λ h. and-assoc (eqb h x) (eqb s q) (eqb t term)) (λ h. and-assoc (eqb h x) (eqb s q) (eqb t term)) (f .holder) (posted-le mostKw contract blocks (f .blockKw)) (λ w. w) (λ w. let both = and-both (eqb s q) (eqb t term) w in (λ i. L .loads .posted x (eqb-true s q (both .0) i) (eqb-true t term (both .1) i)) ∙ f .new) (k .loadColumn s t);
+          once-post (o .holders) x (loadPosted contract blocks) (eqb s q && eqb t term) (eqb s q && eqb t term) (λ h. L .loads .kw h s t) (λ h. L .loads .posted h s t) (λ h. eqb h x && eqb s q && eqb t term) (λ h. eqb h x && eqb s q && eqb t term) (λ h. and-assoc (eqb h x) (eqb s q) (eqb t term)) (λ h. and-assoc (eqb h x) (eqb s q) (eqb t term)) (f .holder) (posted-le maxKw contract blocks (f .blockKw)) (λ w. w) (λ w. let both = and-both (eqb s q) (eqb t term) w in (λ i. L .loads .posted x (eqb-true s q (both .0) i) (eqb-true t term (both .1) i)) ∙ f .new) (k .loadColumn s t);
       carriedColumn = k .carriedColumn;
       allocatedColumn = k .allocatedColumn;
-      renewableColumn = k .renewableColumn;
+      remainingColumn = k .remainingColumn;
     }
 
 once-carry : (o : Opening) (L : Ledger) (x q kw : ℕ) → PostedOnce o L → accepted o L (carry x q kw) ≡ true → PostedOnce o (effect o L (carry x q kw))
@@ -59,7 +59,7 @@ once-carry o L x q kw k e =
           λ p m.
           once-post (o .holders) x kw (eqb p q && hasMonth 0 m) (eqb p q) (λ h. L .rights .carried h p m) (λ h. L .rights .posted h p) (λ h. eqb h x && eqb p q && hasMonth 0 m) (λ h. eqb h x && eqb p q) (λ h. and-assoc (eqb h x) (eqb p q) (hasMonth 0 m)) (λ h. refl) (f .holder) (f .high) (λ w. and-both (eqb p q) (hasMonth 0 m) w .0) (λ w. ap (L .rights .posted x) (eqb-true p q w) ∙ f .new) (k .carriedColumn p m);
       allocatedColumn = k .allocatedColumn;
-      renewableColumn = k .renewableColumn;
+      remainingColumn = k .remainingColumn;
     }
 
 once-prior : (o : Opening) (L : Ledger) (x q a l : ℕ) → PostedOnce o L → accepted o L (prior x q a l) ≡ true → PostedOnce o (effect o L (prior x q a l))
@@ -70,16 +70,16 @@ once-prior o L x q a l k e =
       loadColumn = k .loadColumn;
       carriedColumn = k .carriedColumn;
       allocatedColumn = λ p. column p (L .priors .allocated) a (f .high) (k .allocatedColumn p);
-      renewableColumn = λ p. column p (L .priors .renewable) (a - l) (le-trans (sub-le a l) (f .high)) (k .renewableColumn p);
+      remainingColumn = λ p. column p (L .priors .remaining) (a - l) (le-trans (sub-le a l) (f .high)) (k .remainingColumn p);
     }
   where
-    column : (p : ℕ) (v : ℕ → ℕ → ℕ) (kw : ℕ) → kw ≤ mostKw → Once (o .holders) (λ h. v h p) (λ h. L .priors .posted h p) → Once (o .holders) (λ h. v h p + countIf (eqb h x && eqb p q) kw) (λ h. (eqb h x && eqb p q) || L .priors .posted h p)
+    column : (p : ℕ) (v : ℕ → ℕ → ℕ) (kw : ℕ) → kw ≤ maxKw → Once (o .holders) (λ h. v h p) (λ h. L .priors .posted h p) → Once (o .holders) (λ h. v h p + whenTrue (eqb h x && eqb p q) kw) (λ h. (eqb h x && eqb p q) || L .priors .posted h p)
     column p v kw high old =
         let f = prior-facts o L x q a l e in
         once-post (o .holders) x kw (eqb p q) (eqb p q) (λ h. v h p) (λ h. L .priors .posted h p) (λ h. eqb h x && eqb p q) (λ h. eqb h x && eqb p q) (λ h. refl) (λ h. refl) (f .holder) high (λ w. w) (λ w. ap (L .priors .posted x) (eqb-true p q w) ∙ f .new) old
 
 once-migrate : (o : Opening) (L : Ledger) (term sink : ℕ) (lines : List ClassLine) → PostedOnce o L → accepted o L (migrate term sink lines) ≡ true → PostedOnce o (effect o L (migrate term sink lines))
-unfolding effect migrated movedWhere loadsAfter rightsAfter priorsAfter loadBefore
+unfolding effect migrated transferredWhere loadsAfter rightsAfter priorsAfter loadBefore
 once-migrate o L term sink lines k e =
     let fits = migrate-facts o L term sink lines e .fits in
     record {
@@ -89,11 +89,11 @@ once-migrate o L term sink lines k e =
           (k .loadColumn s t);
       carriedColumn = λ p m. le-trans (le-of-eq (column-kept o L term sink lines fits (endsAt o sink p && hasMonth term m) (λ h. L .rights .carried h p m))) (k .carriedColumn p m);
       allocatedColumn = λ p. le-trans (le-of-eq (column-kept o L term sink lines fits (endsAt o sink p && eqb term 0) (λ h. L .priors .allocated h p))) (k .allocatedColumn p);
-      renewableColumn = λ p. le-trans (le-of-eq (column-kept o L term sink lines fits (endsAt o sink p && eqb term 0) (λ h. L .priors .renewable h p))) (k .renewableColumn p);
+      remainingColumn = λ p. le-trans (le-of-eq (column-kept o L term sink lines fits (endsAt o sink p && eqb term 0) (λ h. L .priors .remaining h p))) (k .remainingColumn p);
     }
 
 pub once-effect : (o : Opening) (L : Ledger) (c : Call) → PostedOnce o L → accepted o L c ≡ true → PostedOnce o (effect o L c)
-unfolding effect withPapers withTiers withRights holdingsAfter
+unfolding effect withEvidence withTiers withRights holdingsAfter
 once-effect o L (load h s term contract n blocks) k e = once-load o L h s term contract n blocks k e
 once-effect o L (carry h p kw) k e = once-carry o L h p kw k e
 once-effect o L (prior h p a l) k e = once-prior o L h p a l k e
@@ -101,7 +101,7 @@ once-effect o L (verify h s kind capacity right first last) k e = k
 once-effect o L (migrate term sink lines) k e = once-migrate o L term sink lines k e
 once-effect o L (openTier tier) k e = k
 once-effect o L (nominate h p kw) k e = k
-once-effect o L (award h p kw) k e = record { loadColumn = k .loadColumn; carriedColumn = k .carriedColumn; allocatedColumn = k .allocatedColumn; renewableColumn = k .renewableColumn }
+once-effect o L (award h p kw) k e = record { loadColumn = k .loadColumn; carriedColumn = k .carriedColumn; allocatedColumn = k .allocatedColumn; remainingColumn = k .remainingColumn }
 once-effect o L closeTier k e = k
 
 pub once-step : (o : Opening) (L : Ledger) (c : Call) → PostedOnce o L → PostedOnce o (step o L c)
@@ -114,7 +114,7 @@ once-empty o =
       loadColumn = λ s t. sum-le (o .holders) (λ h l. zero-le);
       carriedColumn = λ p m. sum-le (o .holders) (λ h l. zero-le);
       allocatedColumn = λ p. sum-le (o .holders) (λ h l. zero-le);
-      renewableColumn = λ p. sum-le (o .holders) (λ h l. zero-le);
+      remainingColumn = λ p. sum-le (o .holders) (λ h l. zero-le);
     }
 
 -- it holds after every list of calls

@@ -1,4 +1,4 @@
--- What is known of a load, carry, prior or verify that is accepted: the fact behind each cause that it does not meet. Assumes nothing.
+-- What is known of a load, carry, prior or verify that is accepted: what each cause that it does not meet rules out. Assumes nothing.
 use Prim.Native.Nat.{ℕ, _≤_, _<_}
 use mathlib.Core.Path.{_≡_}
 use mathlib.Core.Bool.{true, false}
@@ -15,10 +15,10 @@ use Rattle.tariff.proofs.EvidenceRange.{evidence-facts}
 use Rattle.ledger.specs.Opening.{Opening, pathSink}
 use Rattle.ledger.specs.Ledger.{Ledger}
 use Rattle.ledger.specs.Call.{load, carry, prior, verify}
-use Rattle.tariff.specs.Ranges.{wrongTerm, mostKw}
-use Rattle.ledger.specs.Ranges.{noHolder, noSource, noSink, noPath, wrongLoad, wrongPrior}
+use Rattle.tariff.specs.Ranges.{termOutOfRange, maxKw}
+use Rattle.ledger.specs.Ranges.{unknownHolder, unknownSource, unknownSink, unknownPath, loadOutOfRange, priorOutOfRange}
 use Rattle.ledger.specs.Calendar.{loadInTime}
-use Rattle.ledger.specs.Causes.{callCauses, loadCauses, carryCauses, priorCauses, verifyCauses, sinkNotFor, isSubLap}
+use Rattle.ledger.specs.Causes.{callCauses, loadCauses, carryCauses, priorCauses, verifyCauses, kindIneligible, isSubLap}
 use Rattle.ledger.specs.Season.{accepted}
 use Rattle.ledger.proofs.Unmet.{unmet, accepted-zero, is-within, kw-in-range, none-open, before-tier}
 
@@ -26,20 +26,20 @@ pub record LoadFacts (o : Opening) (L : Ledger) (h s term contract n : ℕ) (blo
   pub holder : h < o .holders
   pub sink : s < o .sinks
   pub termInRange : term ≤ 3
-  pub contractInRange : contract ≤ mostKw
+  pub contractInRange : contract ≤ maxKw
   pub hours : (1 ≤ n) × (n ≤ 2208)
   pub few : length blocks ≤ 2208
-  pub blockKw : anyOf blocks (λ b. ltb mostKw (b .kw)) ≡ false
-  pub idle : L .tiers .openNow ≡ 0
+  pub blockKw : anyOf blocks (λ b. ltb maxKw (b .kw)) ≡ false
+  pub idle : L .tiers .currentTier ≡ 0
   pub early : L .tiers .lastClosed < firstTierOf term
   pub new : L .loads .posted h s term ≡ false
-  pub whole : blocksBroken n blocks ≡ false
+  pub unbroken : blocksBroken n blocks ≡ false
   pub present : tooManyMissing n blocks ≡ false
-  pub sinkForIt : sinkNotFor o h s ≡ false
+  pub sinkEligible : kindIneligible o h s ≡ false
   pub isBase : isSubLap o s ≡ false
 
 pub load-facts : (o : Opening) (L : Ledger) (h s term contract n : ℕ) (blocks : List Block) → accepted o L (load h s term contract n blocks) ≡ true → LoadFacts o L h s term contract n blocks
-unfolding callCauses loadCauses noHolder noSink wrongLoad wrongTerm loadInTime
+unfolding callCauses loadCauses unknownHolder unknownSink loadOutOfRange termOutOfRange loadInTime
 load-facts o L h s term contract n blocks e =
     let r2 = unmet 1 _ _ (accepted-zero o L (load h s term contract n blocks) e) in
     let r3 = unmet 2 _ _ (r2 .1) in
@@ -66,9 +66,9 @@ load-facts o L h s term contract n blocks e =
       idle = time .0;
       early = time .1;
       new = r5 .0;
-      whole = r6 .0;
+      unbroken = r6 .0;
       present = r7 .0;
-      sinkForIt = for-it .0;
+      sinkEligible = for-it .0;
       isBase = for-it .1;
     }
 
@@ -76,14 +76,14 @@ pub record CarryFacts (o : Opening) (L : Ledger) (h p kw : ℕ) : Type 0 where
   pub holder : h < o .holders
   pub path : p < o .paths
   pub low : 1 ≤ kw
-  pub high : kw ≤ mostKw
-  pub idle : L .tiers .openNow ≡ 0
+  pub high : kw ≤ maxKw
+  pub idle : L .tiers .currentTier ≡ 0
   pub early : L .tiers .lastClosed < 1
   pub new : L .rights .posted h p ≡ false
-  pub sinkForIt : sinkNotFor o h (pathSink o p) ≡ false
+  pub sinkEligible : kindIneligible o h (pathSink o p) ≡ false
 
 pub carry-facts : (o : Opening) (L : Ledger) (h p kw : ℕ) → accepted o L (carry h p kw) ≡ true → CarryFacts o L h p kw
-unfolding callCauses carryCauses noHolder noPath
+unfolding callCauses carryCauses unknownHolder unknownPath
 carry-facts o L h p kw e =
     let r2 = unmet 1 _ _ (accepted-zero o L (carry h p kw) e) in
     let r3 = unmet 2 _ _ (r2 .1) in
@@ -101,22 +101,22 @@ carry-facts o L h p kw e =
       idle = time .0;
       early = time .1;
       new = r5 .0;
-      sinkForIt = r10 .0;
+      sinkEligible = r10 .0;
     }
 
 pub record PriorFacts (o : Opening) (L : Ledger) (h p a l : ℕ) : Type 0 where
   pub holder : h < o .holders
   pub path : p < o .paths
   pub low : 1 ≤ a
-  pub high : a ≤ mostKw
+  pub high : a ≤ maxKw
   pub part : l ≤ a
-  pub idle : L .tiers .openNow ≡ 0
+  pub idle : L .tiers .currentTier ≡ 0
   pub early : L .tiers .lastClosed < 1
   pub new : L .priors .posted h p ≡ false
-  pub sinkForIt : sinkNotFor o h (pathSink o p) ≡ false
+  pub sinkEligible : kindIneligible o h (pathSink o p) ≡ false
 
 pub prior-facts : (o : Opening) (L : Ledger) (h p a l : ℕ) → accepted o L (prior h p a l) ≡ true → PriorFacts o L h p a l
-unfolding callCauses priorCauses noHolder noPath wrongPrior
+unfolding callCauses priorCauses unknownHolder unknownPath priorOutOfRange
 prior-facts o L h p a l e =
     let r2 = unmet 1 _ _ (accepted-zero o L (prior h p a l) e) in
     let r3 = unmet 2 _ _ (r2 .1) in
@@ -136,7 +136,7 @@ prior-facts o L h p a l e =
       idle = time .0;
       early = time .1;
       new = r5 .0;
-      sinkForIt = r10 .0;
+      sinkEligible = r10 .0;
     }
 
 pub record VerifyFacts (o : Opening) (L : Ledger) (h s kind capacity right first last : ℕ) : Type 0 where
@@ -144,14 +144,14 @@ pub record VerifyFacts (o : Opening) (L : Ledger) (h s kind capacity right first
   pub source : s < o .sources
   pub kinds : (1 ≤ kind) × (kind ≤ 2)
   pub low : 1 ≤ capacity
-  pub high : capacity ≤ mostKw
+  pub high : capacity ≤ maxKw
   pub rights : (1 ≤ right) × (right ≤ highestRight kind capacity)
   pub months : (1 ≤ first) × (first ≤ last) × (last ≤ 3)
-  pub idle : L .tiers .openNow ≡ 0
-  pub new : L .papers .posted h s kind ≡ false
+  pub idle : L .tiers .currentTier ≡ 0
+  pub new : L .evidence .posted h s kind ≡ false
 
 pub verify-facts : (o : Opening) (L : Ledger) (h s kind capacity right first last : ℕ) → accepted o L (verify h s kind capacity right first last) ≡ true → VerifyFacts o L h s kind capacity right first last
-unfolding callCauses verifyCauses noHolder noSource
+unfolding callCauses verifyCauses unknownHolder unknownSource
 verify-facts o L h s kind capacity right first last e =
     let r2 = unmet 1 _ _ (accepted-zero o L (verify h s kind capacity right first last) e) in
     let r3 = unmet 2 _ _ (r2 .1) in

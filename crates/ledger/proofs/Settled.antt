@@ -7,9 +7,9 @@ use native.Mathlib.Nat.{le-refl, le-trans}
 use native.Mathlib.Omega.{arith}
 use borrow.Author.Tests.{ne-eqb}
 use Rattle.ledger.specs.Opening.{Opening}
-use Rattle.ledger.specs.Ledger.{Ledger, Tiers, withLoads, withRights, withPriors, withPapers, withTiers}
+use Rattle.ledger.specs.Ledger.{Ledger, Tiers, withLoads, withRights, withPriors, withEvidence, withTiers}
 use Rattle.ledger.specs.Call.{Call, load, carry, prior, verify, migrate, openTier, nominate, award, closeTier}
-use Rattle.ledger.specs.Moves.{migrated}
+use Rattle.ledger.specs.Migration.{migrated}
 use Rattle.ledger.specs.Effects.{afterOpen, afterNominate, awardsAfter, afterClose, effect}
 use Rattle.ledger.specs.Season.{accepted, step, afterFrom, after}
 use Rattle.ledger.proofs.Steps.{step-keeps}
@@ -34,7 +34,7 @@ settled-trans a b =
     }
 
 settled-effect : (o : Opening) (L : Ledger) (c : Call) → TiersSound (L .tiers) → accepted o L c ≡ true → Settled (L .tiers) (effect o L c .tiers)
-unfolding effect withLoads withRights withPriors withPapers withTiers migrated afterOpen afterNominate awardsAfter afterClose
+unfolding effect withLoads withRights withPriors withEvidence withTiers migrated afterOpen afterNominate awardsAfter afterClose
 settled-effect o L (load h s term contract n blocks) k e = settled-same (L .tiers)
 settled-effect o L (carry h p kw) k e = settled-same (L .tiers)
 settled-effect o L (prior h p a l) k e = settled-same (L .tiers)
@@ -45,7 +45,7 @@ settled-effect o L (nominate x q kw) k e =
     let next = open-is-next k (nominate-facts o L x q kw e .isOpen) in
     record {
       later = le-refl (L .tiers .lastClosed);
-      nominations = λ h p t l. other-tier x q (L .tiers .openNow) kw (L .tiers .nominated) h p t (λ q. omega (arith, q));
+      nominations = λ h p t l. other-tier x q (L .tiers .currentTier) kw (L .tiers .nominated) h p t (λ q. omega (arith, q));
       awardsKept = λ h p t l. refl;
     }
 settled-effect o L (award x q kw) k e =
@@ -53,13 +53,13 @@ settled-effect o L (award x q kw) k e =
     record {
       later = le-refl (L .tiers .lastClosed);
       nominations = λ h p t l. refl;
-      awardsKept = λ h p t l. other-tier x q (L .tiers .openNow) kw (L .tiers .awards) h p t (λ q. omega (arith, q));
+      awardsKept = λ h p t l. other-tier x q (L .tiers .currentTier) kw (L .tiers .awards) h p t (λ q. omega (arith, q));
     }
 settled-effect o L closeTier k e =
     let next = open-is-next k (close-fact o L e) in
     record {
       later = omega arith;
-      nominations = λ h p t l. rw (ne-eqb t (L .tiers .openNow) (λ q. omega (arith, q)));
+      nominations = λ h p t l. rw (ne-eqb t (L .tiers .currentTier) (λ q. omega (arith, q)));
       awardsKept = λ h p t l. refl;
     }
 

@@ -4,8 +4,8 @@ use mathlib.Core.Path.{_≡_, refl, ap}
 use mathlib.Core.Bool.{Bool, true, false}
 use mathlib.Core.List.{List, [], _∷_, _++_}
 use native.Mathlib.Omega.{arith}
-use Rattle.tariff.specs.Sum.{countIf}
-use Rattle.tariff.proofs.Sums.{count-true, count-false}
+use Rattle.tariff.specs.Sum.{whenTrue}
+use Rattle.tariff.proofs.Sums.{when-is-true, when-is-false}
 use Rattle.ledger.specs.Opening.{Opening}
 use Rattle.ledger.specs.Ledger.{Ledger, emptyLedger}
 use Rattle.ledger.specs.Call.{Call}
@@ -54,18 +54,18 @@ module _ (figure : Ledger → ℕ) (amount : Ledger → Call → ℕ) (o : Openi
   abbrev pub Adds : Type 0
   Adds = (L : Ledger) (c : Call) → accepted o L c ≡ true → figure (effect o L c) ≡ figure L + amount L c
 
-  step-adds : Adds → (L : Ledger) (c : Call) → figure (step o L c) ≡ figure L + countIf (accepted o L c) (amount L c)
+  step-adds : Adds → (L : Ledger) (c : Call) → figure (step o L c) ≡ figure L + whenTrue (accepted o L c) (amount L c)
   step-adds adds L c = go (accepted o L c) refl
     where
-      go : (t : Bool) → accepted o L c ≡ t → figure (step o L c) ≡ figure L + countIf (accepted o L c) (amount L c)
+      go : (t : Bool) → accepted o L c ≡ t → figure (step o L c) ≡ figure L + whenTrue (accepted o L c) (amount L c)
       go true e =
           let a = ap figure (step-accepted o L c e) in
           let b = adds L c e in
-          let n = count-true (amount L c) e in
+          let n = when-is-true (amount L c) e in
           omega arith
       go false e =
           let a = ap figure (step-refused o L c e) in
-          let n = count-false (amount L c) e in
+          let n = when-is-false (amount L c) e in
           omega arith
 
   -- so after a list the figure has grown by the amounts of its accepted calls

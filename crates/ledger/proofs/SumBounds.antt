@@ -8,20 +8,20 @@ use native.Mathlib.Omega.{arith}
 use lib.ListN.{length}
 use lib.Dec.{ltb, eqb}
 use borrow.Author.Tests.{ltb-false}
-use Rattle.migration.specs.declared.netting.ClassLine.{ClassLine}
-use Rattle.tariff.specs.Sum.{countIf, sumOver, anyOf}
-use Rattle.migration.specs.Migration.{wattsOneWay}
-use Rattle.tariff.proofs.Sums.{count-le, sum-add}
+use Rattle.netting.specs.declared.netting.ClassLine.{ClassLine}
+use Rattle.tariff.specs.Sum.{whenTrue, sumOver, anyOf}
+use Rattle.netting.specs.Migration.{wattsOneWay}
+use Rattle.tariff.proofs.Sums.{when-le, sum-add}
 use Rattle.tariff.proofs.Tests.{or-unmet}
 use Rattle.ledger.specs.Opening.{Opening, legal}
 use Rattle.ledger.specs.Call.{Call}
 use Rattle.ledger.specs.Limits.{nominatedAt}
 use Rattle.tariff.specs.Ranges.{within}
-use Rattle.migration.specs.ClassRanges.{wrongClassLine, wrongClassFields}
+use Rattle.netting.specs.ClassRanges.{classLineOutOfRange, classFieldsOutOfRange}
 use Rattle.ledger.specs.Season.{after, held, net}
 use Rattle.ledger.proofs.Conserved.{carriedSum, awardedSum}
 use Rattle.ledger.proofs.TierBounds.{nominatedSum}
-use Rattle.ledger.proofs.Bounds.{mostTogether, Fits, figures-fit, one-fits}
+use Rattle.ledger.proofs.Bounds.{maxTogether, Fits, figures-fit, one-fits}
 
 module _ {A : Type 0} (bad : A → Bool) (f : A → ℕ) (most : ℕ) (each : (x : A) → bad x ≡ false → f x ≤ most) where
   -- lines of which none is bad, each with at most so much, have together at most that for each line
@@ -35,30 +35,30 @@ module _ {A : Type 0} (bad : A → Bool) (f : A → ℕ) (most : ℕ) (each : (x
       omega (arith, suc-mul (length xs) most)
 
 -- the products of at most 64 class lines in range, summed one way between two holders
-pub watts-fit : (lines : List ClassLine) (i j : ℕ) → length lines ≤ 64 → anyOf lines wrongClassLine ≡ false → wattsOneWay lines i j ≤ 64 * (9999999 * 9999999)
-unfolding wattsOneWay wrongClassLine wrongClassFields
+pub watts-fit : (lines : List ClassLine) (i j : ℕ) → length lines ≤ 64 → anyOf lines classLineOutOfRange ≡ false → wattsOneWay lines i j ≤ 64 * (9999999 * 9999999)
+unfolding wattsOneWay classLineOutOfRange classFieldsOutOfRange
 watts-fit lines i j few e =
-    le-trans (lines-bound wrongClassLine (λ l. countIf (eqb (l .from) i && eqb (l .to) j) (l .customers * l .watts)) (9999999 * 9999999) product lines e)
+    le-trans (lines-bound classLineOutOfRange (λ l. whenTrue (eqb (l .from) i && eqb (l .to) j) (l .customers * l .watts)) (9999999 * 9999999) product lines e)
     (mul-le-mul-right (9999999 * 9999999) few)
   where
-    product : (l : ClassLine) → wrongClassLine l ≡ false → countIf (eqb (l .from) i && eqb (l .to) j) (l .customers * l .watts) ≤ 9999999 * 9999999
+    product : (l : ClassLine) → classLineOutOfRange l ≡ false → whenTrue (eqb (l .from) i && eqb (l .to) j) (l .customers * l .watts) ≤ 9999999 * 9999999
     product l r =
         let watts = or-unmet (not (within 1 8 (l .class)) || ltb 9999999 (l .customers)) (ltb 9999999 (l .watts)) r in
         let customers = or-unmet (not (within 1 8 (l .class))) (ltb 9999999 (l .customers)) (watts .0) in
         let c : l .customers ≤ 9999999 = ltb-false 9999999 (l .customers) (customers .1) in
         let w : l .watts ≤ 9999999 = ltb-false 9999999 (l .watts) (watts .1) in
-        le-trans (count-le (eqb (l .from) i && eqb (l .to) j) (l .customers * l .watts)) (mul-le-mul c w)
+        le-trans (when-le (eqb (l .from) i && eqb (l .to) j) (l .customers * l .watts)) (mul-le-mul c w)
 
 module _ (o : Opening) (ok : legal o ≡ true) (cs : List Call) where
   fits : Fits o (after o cs)
   fits = figures-fit o ok cs
 
-  pub nominated-at-fits : (h b t : ℕ) → h < o .holders → nominatedAt o (after o cs) h b t ≤ mostTogether
+  pub nominated-at-fits : (h b t : ℕ) → h < o .holders → nominatedAt o (after o cs) h b t ≤ maxTogether
   unfolding nominatedSum
-  nominated-at-fits h b t l = one-fits (λ x. nominatedAt o (after o cs) x b t) (o .holders) mostTogether h l (fits .nominatedFit b t)
+  nominated-at-fits h b t l = one-fits (λ x. nominatedAt o (after o cs) x b t) (o .holders) maxTogether h l (fits .nominatedFit b t)
 
   -- net: carried and awarded holdings of all holders
-  pub net-fits : (p m : ℕ) → p < o .paths → net o (after o cs) p m ≤ 11 * mostTogether
+  pub net-fits : (p m : ℕ) → p < o .paths → net o (after o cs) p m ≤ 11 * maxTogether
   unfolding net held carriedSum awardedSum
   net-fits p m l =
       let L = after o cs in

@@ -7,19 +7,19 @@ use native.Mathlib.Nat.{le-refl, le-trans, le-of-eq}
 use native.Mathlib.Omega.{arith}
 use lib.Dec.{eqb}
 use borrow.Author.Tests.{eqb-true, eqb-false}
-use Rattle.tariff.specs.Sum.{countIf, sumTo}
+use Rattle.tariff.specs.Sum.{whenTrue, sumTo}
 use Rattle.tariff.specs.Terms.{termOf, hasMonth}
-use Rattle.tariff.proofs.Sums.{count-true, count-le, count-zero, sum-ext, sum-le, sum-zero}
+use Rattle.tariff.proofs.Sums.{when-is-true, when-le, when-zero, sum-ext, sum-le, sum-zero}
 use Rattle.tariff.proofs.Limits.{limit-le-load}
 use Rattle.ledger.specs.Opening.{Opening, endsAt}
-use Rattle.ledger.specs.Ledger.{Ledger, emptyLedger, withLoads, withRights, withPriors, withPapers, withTiers}
+use Rattle.ledger.specs.Ledger.{Ledger, emptyLedger, withLoads, withRights, withPriors, withEvidence, withTiers}
 use Rattle.ledger.specs.Call.{Call, load, carry, prior, verify, migrate, openTier, nominate, award, closeTier}
 use Rattle.ledger.specs.Limits.{sumAtBase, nominatedAt, limitSums, tierLimit}
-use Rattle.ledger.specs.Moves.{migrated}
-use Rattle.tariff.specs.Ranges.{mostKw}
+use Rattle.ledger.specs.Migration.{migrated}
+use Rattle.tariff.specs.Ranges.{maxKw}
 use Rattle.ledger.specs.Effects.{plusAt3, afterOpen, afterNominate, awardsAfter, afterClose, effect}
 use Rattle.ledger.specs.Season.{accepted, step, after}
-use Rattle.ledger.specs.Totals.{contribution, nothing}
+use Rattle.ledger.specs.Totals.{contribution, noContribution}
 use Rattle.ledger.proofs.Steps.{step-keeps, after-keeps}
 use Rattle.ledger.proofs.Columns.{column-plus}
 use Rattle.ledger.proofs.Conserved.{in-place, awardedSum, awarded-adds}
@@ -36,50 +36,50 @@ nominatedSum o L b t = sumTo (o .holders) (λ h. nominatedAt o L h b t)
 
 -- per base and tier: at most the most kW for each holder
 abbrev pub NominatedBound : Opening → Ledger → Type 0
-NominatedBound o L = (b t : ℕ) → nominatedSum o L b t ≤ o .holders * mostKw
+NominatedBound o L = (b t : ℕ) → nominatedSum o L b t ≤ o .holders * maxKw
 
 tier-limit-le-load : (o : Opening) (L : Ledger) (t h b : ℕ) → 1 ≤ t → tierLimit o L t h b ≤ L .loads .kw h b (termOf t)
 unfolding tierLimit limitSums
 tier-limit-le-load o L t h b l = limit-le-load t (limitSums o L t h b) l
 
 -- in an open tier nominations are within limits, those within loads, and those are bounded
-open-bound : (o : Opening) (L : Ledger) (b : ℕ) → WithinLimit o L → PostedOnce o L → 1 ≤ L .tiers .openNow → nominatedSum o L b (L .tiers .openNow) ≤ o .holders * mostKw
+open-bound : (o : Opening) (L : Ledger) (b : ℕ) → WithinLimit o L → PostedOnce o L → 1 ≤ L .tiers .currentTier → nominatedSum o L b (L .tiers .currentTier) ≤ o .holders * maxKw
 unfolding nominatedSum
 open-bound o L b w k isOpen =
-    let t = L .tiers .openNow in
+    let t = L .tiers .currentTier in
     le-trans (sum-le (o .holders) (λ h l. le-trans (w isOpen h b) (tier-limit-le-load o L t h b isOpen)))
     (once-bound (o .holders) (λ h. L .loads .kw h b (termOf t)) (λ h. L .loads .posted h b (termOf t)) (k .loadColumn b (termOf t)))
 
 nominate-bound : (o : Opening) (L : Ledger) (x q kw : ℕ) → TiersSound (L .tiers) → WithinLimit o L → PostedOnce o L → NominatedBound o L → accepted o L (nominate x q kw) ≡ true → NominatedBound o (effect o L (nominate x q kw))
 unfolding effect withTiers afterNominate nominatedSum nominatedAt
-nominate-bound o L x q kw k w one old e b t = go (eqb t (L .tiers .openNow)) refl
+nominate-bound o L x q kw k w one old e b t = go (eqb t (L .tiers .currentTier)) refl
   where
     c : Call
     c = nominate x q kw
 
-    go : (d : Bool) → eqb t (L .tiers .openNow) ≡ d → nominatedSum o (effect o L c) b t ≤ o .holders * mostKw
+    go : (d : Bool) → eqb t (L .tiers .currentTier) ≡ d → nominatedSum o (effect o L c) b t ≤ o .holders * maxKw
     go true d =
-        subst (λ n. nominatedSum o (effect o L c) b n ≤ o .holders * mostKw) (sym (eqb-true t (L .tiers .openNow) d))
+        subst (λ n. nominatedSum o (effect o L c) b n ≤ o .holders * maxKw) (sym (eqb-true t (L .tiers .currentTier) d))
         (open-bound o (effect o L c) b (within-effect o L c k w e) (once-effect o L c one e) (nominate-facts o L x q kw e .isOpen))
     go false d =
         le-trans
         (le-of-eq
-        (sum-ext {f = λ h. nominatedAt o (effect o L c) h b t} {g = λ h. nominatedAt o L h b t} (o .holders) (λ h l. base-other o b x q (L .tiers .openNow) kw h t (L .tiers .nominated) (eqb-false t (L .tiers .openNow) d))))
+        (sum-ext {f = λ h. nominatedAt o (effect o L c) h b t} {g = λ h. nominatedAt o L h b t} (o .holders) (λ h l. base-other o b x q (L .tiers .currentTier) kw h t (L .tiers .nominated) (eqb-false t (L .tiers .currentTier) d))))
         (old b t)
 
 -- a close only lowers nominations
 close-bound : (o : Opening) (L : Ledger) → TiersSound (L .tiers) → NominatedBound o L → NominatedBound o (effect o L closeTier)
-unfolding effect withTiers afterClose nominatedSum nominatedAt sumAtBase countIf
+unfolding effect withTiers afterClose nominatedSum nominatedAt sumAtBase whenTrue
 close-bound o L k old b t =
-    le-trans (sum-le (o .holders) (λ h l. sum-le (o .paths) (λ p m. lower (endsAt o b p) h p (eqb t (L .tiers .openNow))))) (old b t)
+    le-trans (sum-le (o .holders) (λ h l. sum-le (o .paths) (λ p m. lower (endsAt o b p) h p (eqb t (L .tiers .currentTier))))) (old b t)
   where
-    lower : (there : Bool) (h p : ℕ) (d : Bool) → countIf there (cond d (L .tiers .awards h p t) (L .tiers .nominated h p t)) ≤ countIf there (L .tiers .nominated h p t)
+    lower : (there : Bool) (h p : ℕ) (d : Bool) → whenTrue there (cond d (L .tiers .awards h p t) (L .tiers .nominated h p t)) ≤ whenTrue there (L .tiers .nominated h p t)
     lower true h p true = k .awardsWithin h p t
     lower true h p false = le-refl (L .tiers .nominated h p t)
     lower false h p d = le-refl 0
 
 nominated-effect : (o : Opening) (L : Ledger) (c : Call) → TiersSound (L .tiers) → WithinLimit o L → PostedOnce o L → NominatedBound o L → accepted o L c ≡ true → NominatedBound o (effect o L c)
-unfolding effect withLoads withRights withPriors withPapers withTiers migrated afterOpen awardsAfter nominatedSum nominatedAt
+unfolding effect withLoads withRights withPriors withEvidence withTiers migrated afterOpen awardsAfter nominatedSum nominatedAt
 nominated-effect o L (load h s term contract n blocks) k w one old e = old
 nominated-effect o L (carry h p kw) k w one old e = old
 nominated-effect o L (prior h p a l) k w one old e = old
@@ -98,30 +98,30 @@ awardsSum o L p = sumTo 10 (λ t. sumTo (o .holders) (λ h. L .tiers .awards h p
 abbrev pub AwardedBound : Opening → Ledger → Type 0
 AwardedBound o L = (p m : ℕ) → awardedSum o p m L ≤ awardsSum o L p
 
-awards-grow : (o : Opening) (L : Ledger) (x q kw p : ℕ) → TiersSound (L .tiers) → accepted o L (award x q kw) ≡ true → awardsSum o (effect o L (award x q kw)) p ≡ awardsSum o L p + countIf (eqb p q) kw
+awards-grow : (o : Opening) (L : Ledger) (x q kw p : ℕ) → TiersSound (L .tiers) → accepted o L (award x q kw) ≡ true → awardsSum o (effect o L (award x q kw)) p ≡ awardsSum o L p + whenTrue (eqb p q) kw
 unfolding awardsSum effect withTiers withRights awardsAfter
 awards-grow o L x q kw p s e =
-    let k = L .tiers .openNow in
+    let k = L .tiers .currentTier in
     let f = L .tiers .awards in
     let last : k ≤ 9 = s .openLast in
-    sum-ext {f = λ t. sumTo (o .holders) (λ h. plusAt3 x q k kw f h p t)} {g = λ t. sumTo (o .holders) (λ h. f h p t) + countIf (eqb t k && eqb p q) kw} 10 (λ t l. in-place o x q k kw f p t (award-facts o L x q kw e .holder) ∙ ap (λ b. sumTo (o .holders) (λ h. f h p t) + countIf b kw) (and-comm (eqb p q) (eqb t k)))
+    sum-ext {f = λ t. sumTo (o .holders) (λ h. plusAt3 x q k kw f h p t)} {g = λ t. sumTo (o .holders) (λ h. f h p t) + whenTrue (eqb t k && eqb p q) kw} 10 (λ t l. in-place o x q k kw f p t (award-facts o L x q kw e .holder) ∙ ap (λ b. sumTo (o .holders) (λ h. f h p t) + whenTrue b kw) (and-comm (eqb p q) (eqb t k)))
     ∙ column-plus (λ t. sumTo (o .holders) (λ h. f h p t)) 10 k (eqb p q) kw (omega arith)
 
 award-bound : (o : Opening) (L : Ledger) (x q kw : ℕ) → TiersSound (L .tiers) → AwardedBound o L → accepted o L (award x q kw) ≡ true → AwardedBound o (effect o L (award x q kw))
-unfolding contribution nothing
+unfolding contribution noContribution
 award-bound o L x q kw k old e p m =
     let grown = awarded-adds o p m L (award x q kw) e in
     let more = awards-grow o L x q kw p k e in
     let before = old p m in
-    let less = part (eqb p q) (hasMonth (termOf (L .tiers .openNow)) m) in
+    let smaller = part (eqb p q) (hasMonth (termOf (L .tiers .currentTier)) m) in
     omega arith
   where
-    part : (a b : Bool) → countIf (a && b) kw ≤ countIf a kw
-    part true b = le-trans (count-le b kw) (le-of-eq (sym (count-true kw refl)))
-    part false b = le-refl (countIf false kw)
+    part : (a b : Bool) → whenTrue (a && b) kw ≤ whenTrue a kw
+    part true b = le-trans (when-le b kw) (le-of-eq (sym (when-is-true kw refl)))
+    part false b = le-refl (whenTrue false kw)
 
 awarded-effect : (o : Opening) (L : Ledger) (c : Call) → TiersSound (L .tiers) → AwardedBound o L → accepted o L c ≡ true → AwardedBound o (effect o L c)
-unfolding effect withLoads withRights withPriors withPapers withTiers migrated afterOpen afterNominate afterClose awardsSum contribution nothing
+unfolding effect withLoads withRights withPriors withEvidence withTiers migrated afterOpen afterNominate afterClose awardsSum contribution noContribution
 awarded-effect o L (load h s term contract n blocks) k old e p m = let a = awarded-adds o p m L (load h s term contract n blocks) e in let b = old p m in omega arith
 awarded-effect o L (carry h q kw) k old e p m = let a = awarded-adds o p m L (carry h q kw) e in let b = old p m in omega arith
 awarded-effect o L (prior h q a l) k old e p m = let a = awarded-adds o p m L (prior h q a l) e in let b = old p m in omega arith
@@ -157,7 +157,7 @@ bounded-empty o =
       sound = sound-empty;
       within = λ isOpen. absurd (let z : ⊥ = omega arith in z);
       once = once-empty o;
-      nominations = λ b t. le-trans (le-of-eq (sum-zero (o .holders) (λ h l. sum-zero (o .paths) (λ p i. count-zero (endsAt o b p))))) zero-le;
+      nominations = λ b t. le-trans (le-of-eq (sum-zero (o .holders) (λ h l. sum-zero (o .paths) (λ p i. when-zero (endsAt o b p))))) zero-le;
       awards = λ p m. le-trans (le-of-eq (sum-zero (o .holders) (λ h l. refl))) zero-le;
     }
 

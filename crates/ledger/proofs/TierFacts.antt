@@ -1,4 +1,4 @@
--- What is known of a migrate, open, nominate, award or close that is accepted: the fact behind each cause that it does not meet. Assumes nothing.
+-- What is known of a migrate, open, nominate, award or close that is accepted: what each cause that it does not meet rules out. Assumes nothing.
 use Prim.Native.Nat.{ℕ, suc, _+_, _≤_, _<_}
 use mathlib.Core.Path.{_≡_, refl}
 use mathlib.Core.Bool.{Bool, true, false, _&&_, _||_}
@@ -7,38 +7,38 @@ use mathlib.Core.Logic.{_⊎_, inl, inr}
 use lib.ListN.{length}
 use lib.Dec.{leb, eqb}
 use borrow.Author.Tests.{ltb-false, leb-true, leb-false, eqb-true, not-true, not-false}
-use Rattle.migration.specs.declared.netting.ClassLine.{ClassLine}
+use Rattle.netting.specs.declared.netting.ClassLine.{ClassLine}
 use Rattle.tariff.specs.Sum.{anyOf}
 use Rattle.tariff.specs.Terms.{firstTierOf}
-use Rattle.migration.specs.Migration.{netted, lostBy}
+use Rattle.netting.specs.Migration.{netted, lostBy}
 use Rattle.tariff.proofs.Tests.{or-unmet, and-both, none-below}
 use Rattle.ledger.specs.Opening.{Opening, pathSink, pathBase}
 use Rattle.ledger.specs.Ledger.{Ledger}
 use Rattle.ledger.specs.Call.{migrate, openTier, nominate, award, closeTier}
-use Rattle.tariff.specs.Ranges.{wrongTerm, mostKw}
-use Rattle.migration.specs.ClassRanges.{wrongClassLine}
-use Rattle.ledger.specs.Ranges.{noHolder, noSink, noPath, strangerIn, wrongMigration, wrongTier}
-use Rattle.ledger.specs.Calendar.{beforeTier, migrationInTime, tierInTurn}
+use Rattle.tariff.specs.Ranges.{termOutOfRange, maxKw}
+use Rattle.netting.specs.ClassRanges.{classLineOutOfRange}
+use Rattle.ledger.specs.Ranges.{unknownHolder, unknownSink, unknownPath, unknownHolderIn, migrationOutOfRange, tierOutOfRange}
+use Rattle.ledger.specs.Calendar.{beforeTier, migrationInTime, isNextTier}
 use Rattle.ledger.specs.Limits.{nominatedAt, tierLimit}
-use Rattle.ledger.specs.Moves.{loadBefore}
-use Rattle.ledger.specs.Causes.{callCauses, migrateCauses, openCauses, nominateCauses, awardCauses, closeCauses, losesTooMuch, sinkNotFor, isSubLap, notBetweenSuppliers, beyondVerified, beyondRenewable, beyondLimit, beyondNominated}
+use Rattle.ledger.specs.Migration.{loadBefore}
+use Rattle.ledger.specs.Causes.{callCauses, migrateCauses, openCauses, nominateCauses, awardCauses, closeCauses, losesTooMuch, kindIneligible, isSubLap, lineNotBetweenLses, exceedsVerified, exceedsPrior, exceedsLimit, exceedsNominated}
 use Rattle.ledger.specs.Season.{accepted}
 use Rattle.ledger.proofs.Unmet.{unmet, accepted-zero, is-within, kw-in-range, open-number, none-open, before-tier}
 
 pub record MigrateFacts (o : Opening) (L : Ledger) (term sink : ℕ) (lines : List ClassLine) : Type 0 where
   pub sinkInBook : sink < o .sinks
-  pub holders : strangerIn o lines ≡ false
+  pub holders : unknownHolderIn o lines ≡ false
   pub termInRange : term ≤ 3
   pub few : length lines ≤ 64
-  pub ranges : anyOf lines wrongClassLine ≡ false
-  pub idle : L .tiers .openNow ≡ 0
+  pub ranges : anyOf lines classLineOutOfRange ≡ false
+  pub idle : L .tiers .currentTier ≡ 0
   pub early : L .tiers .lastClosed < firstTierOf term
   pub monthAfter3 : (term ≡ 0) ⊎ (3 ≤ L .tiers .lastClosed)
-  pub suppliers : anyOf lines (notBetweenSuppliers o) ≡ false
+  pub suppliers : anyOf lines (lineNotBetweenLses o) ≡ false
   pub fits : (i : ℕ) → i < o .holders → lostBy (o .holders) (netted lines) i ≤ loadBefore L term sink i
 
 pub migrate-facts : (o : Opening) (L : Ledger) (term sink : ℕ) (lines : List ClassLine) → accepted o L (migrate term sink lines) ≡ true → MigrateFacts o L term sink lines
-unfolding callCauses migrateCauses noSink wrongMigration wrongTerm migrationInTime losesTooMuch
+unfolding callCauses migrateCauses unknownSink migrationOutOfRange termOutOfRange migrationInTime losesTooMuch
 migrate-facts o L term sink lines e =
     let r2 = unmet 1 _ _ (accepted-zero o L (migrate term sink lines) e) in
     let r3 = unmet 2 _ _ (r2 .1) in
@@ -70,11 +70,11 @@ migrate-facts o L term sink lines e =
 pub record OpenFacts (L : Ledger) (tier : ℕ) : Type 0 where
   pub low : 1 ≤ tier
   pub high : tier ≤ 9
-  pub idle : L .tiers .openNow ≡ 0
+  pub idle : L .tiers .currentTier ≡ 0
   pub next : tier ≡ suc (L .tiers .lastClosed)
 
 pub open-facts : (o : Opening) (L : Ledger) (tier : ℕ) → accepted o L (openTier tier) ≡ true → OpenFacts L tier
-unfolding callCauses openCauses wrongTier tierInTurn
+unfolding callCauses openCauses tierOutOfRange isNextTier
 open-facts o L tier e =
     let r3 = unmet 2 _ _ (accepted-zero o L (openTier tier) e) in
     let r4 = unmet 3 _ _ (r3 .1) in
@@ -91,16 +91,16 @@ pub record NominateFacts (o : Opening) (L : Ledger) (h p kw : ℕ) : Type 0 wher
   pub holder : h < o .holders
   pub path : p < o .paths
   pub low : 1 ≤ kw
-  pub high : kw ≤ mostKw
-  pub isOpen : 1 ≤ L .tiers .openNow
-  pub sinkForIt : sinkNotFor o h (pathSink o p) ≡ false
-  pub notSubLap : (eqb (L .tiers .openNow) 1 && isSubLap o (pathSink o p)) ≡ false
-  pub verified : beyondVerified o L (L .tiers .openNow) h p kw ≡ false
-  pub renewable : beyondRenewable L (L .tiers .openNow) h p kw ≡ false
-  pub withinLimit : nominatedAt o L h (pathBase o p) (L .tiers .openNow) + kw ≤ tierLimit o L (L .tiers .openNow) h (pathBase o p)
+  pub high : kw ≤ maxKw
+  pub isOpen : 1 ≤ L .tiers .currentTier
+  pub sinkEligible : kindIneligible o h (pathSink o p) ≡ false
+  pub notSubLap : (eqb (L .tiers .currentTier) 1 && isSubLap o (pathSink o p)) ≡ false
+  pub verified : exceedsVerified o L (L .tiers .currentTier) h p kw ≡ false
+  pub remaining : exceedsPrior L (L .tiers .currentTier) h p kw ≡ false
+  pub withinLimit : nominatedAt o L h (pathBase o p) (L .tiers .currentTier) + kw ≤ tierLimit o L (L .tiers .currentTier) h (pathBase o p)
 
 pub nominate-facts : (o : Opening) (L : Ledger) (h p kw : ℕ) → accepted o L (nominate h p kw) ≡ true → NominateFacts o L h p kw
-unfolding callCauses nominateCauses noHolder noPath beyondLimit
+unfolding callCauses nominateCauses unknownHolder unknownPath exceedsLimit
 nominate-facts o L h p kw e =
     let r2 = unmet 1 _ _ (accepted-zero o L (nominate h p kw) e) in
     let r3 = unmet 2 _ _ (r2 .1) in
@@ -118,10 +118,10 @@ nominate-facts o L h p kw e =
       low = range .0;
       high = range .1;
       isOpen = open-number L (r4 .0);
-      sinkForIt = for-it .0;
+      sinkEligible = for-it .0;
       notSubLap = for-it .1;
       verified = r11 .0;
-      renewable = r12 .0;
+      remaining = r12 .0;
       withinLimit = ltb-false _ _ (r13 .0);
     }
 
@@ -129,12 +129,12 @@ pub record AwardFacts (o : Opening) (L : Ledger) (h p kw : ℕ) : Type 0 where
   pub holder : h < o .holders
   pub path : p < o .paths
   pub low : 1 ≤ kw
-  pub high : kw ≤ mostKw
-  pub isOpen : 1 ≤ L .tiers .openNow
-  pub withinNominated : L .tiers .awards h p (L .tiers .openNow) + kw ≤ L .tiers .nominated h p (L .tiers .openNow)
+  pub high : kw ≤ maxKw
+  pub isOpen : 1 ≤ L .tiers .currentTier
+  pub withinNominated : L .tiers .awards h p (L .tiers .currentTier) + kw ≤ L .tiers .nominated h p (L .tiers .currentTier)
 
 pub award-facts : (o : Opening) (L : Ledger) (h p kw : ℕ) → accepted o L (award h p kw) ≡ true → AwardFacts o L h p kw
-unfolding callCauses awardCauses noHolder noPath beyondNominated
+unfolding callCauses awardCauses unknownHolder unknownPath exceedsNominated
 award-facts o L h p kw e =
     let r2 = unmet 1 _ _ (accepted-zero o L (award h p kw) e) in
     let r3 = unmet 2 _ _ (r2 .1) in
@@ -151,6 +151,6 @@ award-facts o L h p kw e =
       withinNominated = ltb-false _ _ (r14 .0);
     }
 
-pub close-fact : (o : Opening) (L : Ledger) → accepted o L closeTier ≡ true → 1 ≤ L .tiers .openNow
+pub close-fact : (o : Opening) (L : Ledger) → accepted o L closeTier ≡ true → 1 ≤ L .tiers .currentTier
 unfolding callCauses closeCauses
 close-fact o L e = open-number L (unmet 3 _ _ (accepted-zero o L closeTier e) .0)

@@ -8,13 +8,13 @@ use native.Mathlib.Nat.{le-refl, le-trans}
 use native.Mathlib.Omega.{arith}
 use lib.Dec.{eqb}
 use borrow.Author.Tests.{eqb-true, eqb-false, ne-eqb}
-use Rattle.tariff.specs.Sum.{countIf}
-use Rattle.tariff.proofs.Sums.{count-true, count-false}
+use Rattle.tariff.specs.Sum.{whenTrue}
+use Rattle.tariff.proofs.Sums.{when-is-true, when-is-false}
 use Rattle.tariff.proofs.Tests.{and-both, and-right-false, decided}
 use Rattle.ledger.specs.Opening.{Opening}
-use Rattle.ledger.specs.Ledger.{Ledger, Tiers, emptyLedger, withLoads, withRights, withPriors, withPapers, withTiers}
+use Rattle.ledger.specs.Ledger.{Ledger, Tiers, emptyLedger, withLoads, withRights, withPriors, withEvidence, withTiers}
 use Rattle.ledger.specs.Call.{Call, load, carry, prior, verify, migrate, openTier, nominate, award, closeTier}
-use Rattle.ledger.specs.Moves.{migrated}
+use Rattle.ledger.specs.Migration.{migrated}
 use Rattle.ledger.specs.Effects.{same3, plusAt3, afterOpen, afterNominate, awardsAfter, afterClose, effect}
 use Rattle.ledger.specs.Season.{accepted, step, after}
 use Rattle.ledger.proofs.Steps.{step-keeps, after-keeps}
@@ -23,19 +23,19 @@ use Rattle.ledger.proofs.TierFacts.{OpenFacts, open-facts, NominateFact
 -- the open tier, if there is one, comes right after the last closed; none is past 9; a tier that is neither open nor closed has no nomination, and 0 is no tier;
 -- awards are within nominations; and in a closed tier they are the nominations
 pub record TiersSound (T : Tiers) : Type 0 where
-  pub inTurn : (T .openNow ≡ 0) ⊎ (T .openNow ≡ suc (T .lastClosed))
-  pub openLast : T .openNow ≤ 9
+  pub isNext : (T .currentTier ≡ 0) ⊎ (T .currentTier ≡ suc (T .lastClosed))
+  pub openLast : T .currentTier ≤ 9
   pub closedLast : T .lastClosed ≤ 9
-  pub fresh : (h p t : ℕ) → T .lastClosed < t → (t ≡ T .openNow → ⊥) → T .nominated h p t ≡ 0
+  pub fresh : (h p t : ℕ) → T .lastClosed < t → (t ≡ T .currentTier → ⊥) → T .nominated h p t ≡ 0
   pub noTierZero : (h p : ℕ) → T .nominated h p 0 ≡ 0
   pub awardsWithin : (h p t : ℕ) → T .awards h p t ≤ T .nominated h p t
   pub closedEven : (h p t : ℕ) → t ≤ T .lastClosed → T .nominated h p t ≡ T .awards h p t
 
 -- an open tier's number is one more than the last closed
-pub open-is-next : {T : Tiers} → TiersSound T → 1 ≤ T .openNow → T .openNow ≡ suc (T .lastClosed)
-open-is-next {T} s l = go (s .inTurn)
+pub open-is-next : {T : Tiers} → TiersSound T → 1 ≤ T .currentTier → T .currentTier ≡ suc (T .lastClosed)
+open-is-next {T} s l = go (s .isNext)
   where
-    go : (T .openNow ≡ 0) ⊎ (T .openNow ≡ suc (T .lastClosed)) → T .openNow ≡ suc (T .lastClosed)
+    go : (T .currentTier ≡ 0) ⊎ (T .currentTier ≡ suc (T .lastClosed)) → T .currentTier ≡ suc (T .lastClosed)
     go (inl e) = omega arith
     go (inr e) = e
 
@@ -43,7 +43,7 @@ open-is-next {T} s l = go (s .inTurn)
 pub other-tier : (x q k kw : ℕ) (f : ℕ → ℕ → ℕ → ℕ) (h p t : ℕ) → (t ≡ k → ⊥) → plusAt3 x q k kw f h p t ≡ f h p t
 unfolding plusAt3 same3
 other-tier x q k kw f h p t ne =
-    let none = count-false kw (and-right-false (eqb h x && eqb p q) (ne-eqb t k ne)) in
+    let none = when-is-false kw (and-right-false (eqb h x && eqb p q) (ne-eqb t k ne)) in
     omega arith
 
 pub added-more : (x q k kw : ℕ) (f : ℕ → ℕ → ℕ → ℕ) (h p t : ℕ) → f h p t ≤ plusAt3 x q k kw f h p t
@@ -54,7 +54,7 @@ sound-open : (L : Ledger) (tier : ℕ) → TiersSound (L .tiers) → OpenFacts L
 unfolding afterOpen
 sound-open L tier s f =
     record {
-      inTurn = inr (f .next);
+      isNext = inr (f .next);
       openLast = f .high;
       closedLast = s .closedLast;
       fresh = λ h p t l ne. s .fresh h p t l (λ e. omega (arith, e, f .idle));
@@ -68,13 +68,13 @@ unfolding afterNominate
 sound-nominate o L x q kw s f =
     let next = open-is-next s (f .isOpen) in
     record {
-      inTurn = s .inTurn;
+      isNext = s .isNext;
       openLast = s .openLast;
       closedLast = s .closedLast;
-      fresh = λ h p t l ne. other-tier x q (L .tiers .openNow) kw (L .tiers .nominated) h p t ne ∙ s .fresh h p t l ne;
-      noTierZero = λ h p. other-tier x q (L .tiers .openNow) kw (L .tiers .nominated) h p 0 (λ e. omega (arith, e)) ∙ s .noTierZero h p;
-      awardsWithin = λ h p t. le-trans (s .awardsWithin h p t) (added-more x q (L .tiers .openNow) kw (L .tiers .nominated) h p t);
-      closedEven = λ h p t l. other-tier x q (L .tiers .openNow) kw (L .tiers .nominated) h p t (λ e. omega (arith, e)) ∙ s .closedEven h p t l;
+      fresh = λ h p t l ne. other-tier x q (L .tiers .currentTier) kw (L .tiers .nominated) h p t ne ∙ s .fresh h p t l ne;
+      noTierZero = λ h p. other-tier x q (L .tiers .currentTier) kw (L .tiers .nominated) h p 0 (λ e. omega (arith, e)) ∙ s .noTierZero h p;
+      awardsWithin = λ h p t. le-trans (s .awardsWithin h p t) (added-more x q (L .tiers .currentTier) kw (L .tiers .nominated) h p t);
+      closedEven = λ h p t l. other-tier x q (L .tiers .currentTier) kw (L .tiers .nominated) h p t (λ e. omega (arith, e)) ∙ s .closedEven h p t l;
     }
 
 -- the place where a figure was added is the one place that is the same in all three numbers
@@ -90,53 +90,53 @@ award-within : (x q k kw : ℕ) (a n : ℕ → ℕ → ℕ → ℕ) → a x q k 
 unfolding plusAt3
 award-within x q k kw a n fits h p t old = go (decided (same3 x q k h p t))
   where
-    go : (same3 x q k h p t ≡ true) ⊎ (same3 x q k h p t ≡ false) → a h p t + countIf (same3 x q k h p t) kw ≤ n h p t
+    go : (same3 x q k h p t ≡ true) ⊎ (same3 x q k h p t ≡ false) → a h p t + whenTrue (same3 x q k h p t) kw ≤ n h p t
     go (inl e) =
         let w = same-place x q k h p t e in
-        let here = count-true kw e in
+        let here = when-is-true kw e in
         let av : a h p t ≡ a x q k = λ i. a (w .0 i) (w .1 i) (w .2 i) in
         let nv : n h p t ≡ n x q k = λ i. n (w .0 i) (w .1 i) (w .2 i) in
         omega arith
-    go (inr e) = let none = count-false kw e in omega arith
+    go (inr e) = let none = when-is-false kw e in omega arith
 
 sound-award : (o : Opening) (L : Ledger) (x q kw : ℕ) → TiersSound (L .tiers) → AwardFacts o L x q kw → TiersSound (awardsAfter (L .tiers) x q kw)
 unfolding awardsAfter
 sound-award o L x q kw s f =
     let next = open-is-next s (f .isOpen) in
     record {
-      inTurn = s .inTurn;
+      isNext = s .isNext;
       openLast = s .openLast;
       closedLast = s .closedLast;
       fresh = s .fresh;
       noTierZero = s .noTierZero;
-      awardsWithin = λ h p t. award-within x q (L .tiers .openNow) kw (L .tiers .awards) (L .tiers .nominated) (f .withinNominated) h p t (s .awardsWithin h p t);
-      closedEven = λ h p t l. s .closedEven h p t l ∙ sym (other-tier x q (L .tiers .openNow) kw (L .tiers .awards) h p t (λ e. omega (arith, e)));
+      awardsWithin = λ h p t. award-within x q (L .tiers .currentTier) kw (L .tiers .awards) (L .tiers .nominated) (f .withinNominated) h p t (s .awardsWithin h p t);
+      closedEven = λ h p t l. s .closedEven h p t l ∙ sym (other-tier x q (L .tiers .currentTier) kw (L .tiers .awards) h p t (λ e. omega (arith, e)));
     }
 
-sound-close : (L : Ledger) → TiersSound (L .tiers) → 1 ≤ L .tiers .openNow → TiersSound (afterClose (L .tiers))
+sound-close : (L : Ledger) → TiersSound (L .tiers) → 1 ≤ L .tiers .currentTier → TiersSound (afterClose (L .tiers))
 unfolding afterClose
 sound-close L s isOpen =
     let next = open-is-next s isOpen in
     record {
-      inTurn = inl refl;
+      isNext = inl refl;
       openLast = zero-le;
       closedLast = s .openLast;
-      fresh = λ h p t l ne. rw (ne-eqb t (L .tiers .openNow) (λ e. omega (arith, e))) (s .fresh h p t (omega arith) (λ e. omega (arith, e)));
-      noTierZero = λ h p. rw (ne-eqb 0 (L .tiers .openNow) (λ e. omega (arith, e))) (s .noTierZero h p);
-      awardsWithin = λ h p t. within h p t (eqb t (L .tiers .openNow));
-      closedEven = λ h p t l. even h p t l (eqb t (L .tiers .openNow)) refl;
+      fresh = λ h p t l ne. rw (ne-eqb t (L .tiers .currentTier) (λ e. omega (arith, e))) (s .fresh h p t (omega arith) (λ e. omega (arith, e)));
+      noTierZero = λ h p. rw (ne-eqb 0 (L .tiers .currentTier) (λ e. omega (arith, e))) (s .noTierZero h p);
+      awardsWithin = λ h p t. within h p t (eqb t (L .tiers .currentTier));
+      closedEven = λ h p t l. even h p t l (eqb t (L .tiers .currentTier)) refl;
     }
   where
     within : (h p t : ℕ) (b : Bool) → L .tiers .awards h p t ≤ cond b (L .tiers .awards h p t) (L .tiers .nominated h p t)
     within h p t true = le-refl (L .tiers .awards h p t)
     within h p t false = s .awardsWithin h p t
 
-    even : (h p t : ℕ) → t ≤ L .tiers .openNow → (b : Bool) → eqb t (L .tiers .openNow) ≡ b → cond b (L .tiers .awards h p t) (L .tiers .nominated h p t) ≡ L .tiers .awards h p t
+    even : (h p t : ℕ) → t ≤ L .tiers .currentTier → (b : Bool) → eqb t (L .tiers .currentTier) ≡ b → cond b (L .tiers .awards h p t) (L .tiers .nominated h p t) ≡ L .tiers .awards h p t
     even h p t l true e = refl
-    even h p t l false e = s .closedEven h p t (let ne = eqb-false t (L .tiers .openNow) e in let next = open-is-next s isOpen in omega (arith, ne))
+    even h p t l false e = s .closedEven h p t (let ne = eqb-false t (L .tiers .currentTier) e in let next = open-is-next s isOpen in omega (arith, ne))
 
 pub sound-effect : (o : Opening) (L : Ledger) (c : Call) → TiersSound (L .tiers) → accepted o L c ≡ true → TiersSound (effect o L c .tiers)
-unfolding effect withLoads withRights withPriors withPapers withTiers migrated
+unfolding effect withLoads withRights withPriors withEvidence withTiers migrated
 sound-effect o L (load h s term contract n blocks) k e = k
 sound-effect o L (carry h p kw) k e = k
 sound-effect o L (prior h p a l) k e = k
@@ -154,7 +154,7 @@ pub sound-empty : TiersSound (emptyLedger .tiers)
 unfolding emptyLedger
 sound-empty =
     record {
-      inTurn = inl refl;
+      isNext = inl refl;
       openLast = zero-le;
       closedLast = zero-le;
       fresh = λ h p t l ne. refl;

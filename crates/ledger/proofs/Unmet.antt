@@ -12,7 +12,7 @@ use Rattle.ledger.specs.Opening.{Opening}
 use Rattle.ledger.specs.Ledger.{Ledger}
 use Rattle.ledger.specs.Call.{Call}
 use Rattle.ledger.specs.Numbers.{Cause, cause, firstMet}
-use Rattle.tariff.specs.Ranges.{within, wrongKw, mostKw}
+use Rattle.tariff.specs.Ranges.{within, kwOutOfRange, maxKw}
 use Rattle.ledger.specs.Calendar.{tierIsOpen, beforeTier}
 use Rattle.ledger.specs.Causes.{refusal, callCauses}
 use Rattle.ledger.specs.Season.{accepted}
@@ -30,22 +30,22 @@ accepted-zero o L c e = eqb-true (firstMet (callCauses o L c)) 0 e
 pub is-within : (low high x : ℕ) → not (within low high x) ≡ false → (low ≤ x) × (x ≤ high)
 is-within low high x e = within-bounds low high x (not-false _ e)
 
-pub kw-in-range : (kw : ℕ) → wrongKw kw ≡ false → (1 ≤ kw) × (kw ≤ mostKw)
-unfolding wrongKw
-kw-in-range kw e = is-within 1 mostKw kw e
+pub kw-in-range : (kw : ℕ) → kwOutOfRange kw ≡ false → (1 ≤ kw) × (kw ≤ maxKw)
+unfolding kwOutOfRange
+kw-in-range kw e = is-within 1 maxKw kw e
 
 -- a tier is open: the number of the open one is not 0
-pub open-number : (L : Ledger) → not (tierIsOpen L) ≡ false → 1 ≤ L .tiers .openNow
+pub open-number : (L : Ledger) → not (tierIsOpen L) ≡ false → 1 ≤ L .tiers .currentTier
 unfolding tierIsOpen
 open-number L e =
-    let ne = eqb-false (L .tiers .openNow) 0 (not-true (eqb (L .tiers .openNow) 0) (not-false (not (eqb (L .tiers .openNow) 0)) e)) in
+    let ne = eqb-false (L .tiers .currentTier) 0 (not-true (eqb (L .tiers .currentTier) 0) (not-false (not (eqb (L .tiers .currentTier) 0)) e)) in
     omega (arith, ne)
 
-pub none-open : (L : Ledger) → tierIsOpen L ≡ false → L .tiers .openNow ≡ 0
+pub none-open : (L : Ledger) → tierIsOpen L ≡ false → L .tiers .currentTier ≡ 0
 unfolding tierIsOpen
-none-open L e = eqb-true (L .tiers .openNow) 0 (not-false (eqb (L .tiers .openNow) 0) e)
+none-open L e = eqb-true (L .tiers .currentTier) 0 (not-false (eqb (L .tiers .currentTier) 0) e)
 
-pub before-tier : (tier : ℕ) (L : Ledger) → not (beforeTier tier L) ≡ false → (L .tiers .openNow ≡ 0) × (L .tiers .lastClosed < tier)
+pub before-tier : (tier : ℕ) (L : Ledger) → not (beforeTier tier L) ≡ false → (L .tiers .currentTier ≡ 0) × (L .tiers .lastClosed < tier)
 unfolding beforeTier
 before-tier tier L e =
     let both = and-both (not (tierIsOpen L)) (ltb (L .tiers .lastClosed) tier) (not-false (not (tierIsOpen L) && ltb (L .tiers .lastClosed) tier) e) in

@@ -7,15 +7,15 @@ use native.Mathlib.Nat.{le-trans, le-of-eq}
 use native.Mathlib.Omega.{arith}
 use lib.Dec.{eqb}
 use borrow.Author.Tests.{eqb-true}
-use Rattle.tariff.specs.Sum.{countIf}
-use Rattle.tariff.proofs.Sums.{count-true, count-false, count-zero, sum-zero}
+use Rattle.tariff.specs.Sum.{whenTrue}
+use Rattle.tariff.proofs.Sums.{when-is-true, when-is-false, when-zero, sum-zero}
 use Rattle.tariff.proofs.Tests.{and-both, decided}
 use Rattle.tariff.proofs.Limits.{limit-reads-before}
 use Rattle.ledger.specs.Opening.{Opening, endsAt, pathBase}
-use Rattle.ledger.specs.Ledger.{Ledger, withLoads, withRights, withPriors, withPapers, withTiers}
+use Rattle.ledger.specs.Ledger.{Ledger, withLoads, withRights, withPriors, withEvidence, withTiers}
 use Rattle.ledger.specs.Call.{Call, load, carry, prior, verify, migrate, openTier, nominate, award, closeTier}
 use Rattle.ledger.specs.Limits.{sumAtBase, longTermAt, priorYearAt, awardsAt, nominatedAt, limitSums, tierLimit}
-use Rattle.ledger.specs.Moves.{migrated}
+use Rattle.ledger.specs.Migration.{migrated}
 use Rattle.ledger.specs.Effects.{afterOpen, afterNominate, awardsAfter, holdingsAfter, afterClose, effect}
 use Rattle.ledger.specs.Season.{accepted, step}
 use Rattle.ledger.proofs.Steps.{step-keeps}
@@ -25,11 +25,11 @@ use Rattle.ledger.proofs.TiersSound.{TiersSound}
 use Rattle.ledger.proofs.AtBase.{base-plus, base-other}
 
 -- no call of these is accepted while a tier is open
-pub closed-only : (L : Ledger) → L .tiers .openNow ≡ 0 → 1 ≤ L .tiers .openNow → ⊥
+pub closed-only : (L : Ledger) → L .tiers .currentTier ≡ 0 → 1 ≤ L .tiers .currentTier → ⊥
 closed-only L e l = omega arith
 
 -- the limit of an open tier does not change while it is open
-pub limit-steady : (o : Opening) (L : Ledger) (c : Call) (h b : ℕ) → accepted o L c ≡ true → 1 ≤ L .tiers .openNow → tierLimit o (effect o L c) (L .tiers .openNow) h b ≡ tierLimit o L (L .tiers .openNow) h b
+pub limit-steady : (o : Opening) (L : Ledger) (c : Call) (h b : ℕ) → accepted o L c ≡ true → 1 ≤ L .tiers .currentTier → tierLimit o (effect o L c) (L .tiers .currentTier) h b ≡ tierLimit o L (L .tiers .currentTier) h b
 unfolding effect withTiers withRights tierLimit limitSums longTermAt priorYearAt awardsAt afterOpen afterNominate awardsAfter holdingsAfter afterClose
 limit-steady o L (load x s term contract n blocks) h b e isOpen = absurd (closed-only L (load-facts o L x s term contract n blocks e .idle) isOpen)
 limit-steady o L (carry x p kw) h b e isOpen = absurd (closed-only L (carry-facts o L x p kw e .idle) isOpen)
@@ -39,60 +39,60 @@ limit-steady o L (migrate term sink lines) h b e isOpen = absurd (closed-only L 
 limit-steady o L (openTier tier) h b e isOpen = absurd (closed-only L (open-facts o L tier e .idle) isOpen)
 limit-steady o L (nominate x q kw) h b e isOpen = refl
 limit-steady o L (award x q kw) h b e isOpen =
-    limit-reads-before (L .tiers .openNow) (limitSums o (effect o L (award x q kw)) (L .tiers .openNow) h b) (limitSums o L (L .tiers .openNow) h b) isOpen
+    limit-reads-before (L .tiers .currentTier) (limitSums o (effect o L (award x q kw)) (L .tiers .currentTier) h b) (limitSums o L (L .tiers .currentTier) h b) isOpen
     (record {
       load = refl;
       carried = refl;
       prior = refl;
-      tier1 = λ l. base-other o b x q (L .tiers .openNow) kw h 1 (L .tiers .awards) (λ q. omega (arith, q));
-      tier2 = λ l. base-other o b x q (L .tiers .openNow) kw h 2 (L .tiers .awards) (λ q. omega (arith, q));
-      tier3 = λ l. base-other o b x q (L .tiers .openNow) kw h 3 (L .tiers .awards) (λ q. omega (arith, q));
-      before = base-other o b x q (L .tiers .openNow) kw h (L .tiers .openNow - 1) (L .tiers .awards) (λ q. omega (arith, q));
+      tier1 = λ l. base-other o b x q (L .tiers .currentTier) kw h 1 (L .tiers .awards) (λ q. omega (arith, q));
+      tier2 = λ l. base-other o b x q (L .tiers .currentTier) kw h 2 (L .tiers .awards) (λ q. omega (arith, q));
+      tier3 = λ l. base-other o b x q (L .tiers .currentTier) kw h 3 (L .tiers .awards) (λ q. omega (arith, q));
+      before = base-other o b x q (L .tiers .currentTier) kw h (L .tiers .currentTier - 1) (L .tiers .awards) (λ q. omega (arith, q));
     })
 limit-steady o L closeTier h b e isOpen = refl
 
 -- what every holder has nominated at every base in the open tier is within the tier's limit
 abbrev pub WithinLimit : Opening → Ledger → Type 0
-WithinLimit o L = 1 ≤ L .tiers .openNow → (h b : ℕ) → nominatedAt o L h b (L .tiers .openNow) ≤ tierLimit o L (L .tiers .openNow) h b
+WithinLimit o L = 1 ≤ L .tiers .currentTier → (h b : ℕ) → nominatedAt o L h b (L .tiers .currentTier) ≤ tierLimit o L (L .tiers .currentTier) h b
 
 -- a tier that has just opened has no nominations
 pub opened-empty : (o : Opening) (L : Ledger) (tier h b : ℕ) → TiersSound (L .tiers) → accepted o L (openTier tier) ≡ true → nominatedAt o (effect o L (openTier tier)) h b tier ≡ 0
 unfolding nominatedAt sumAtBase effect withTiers afterOpen
 opened-empty o L tier h b k e =
     let f = open-facts o L tier e in
-    sum-zero (o .paths) (λ p l. ap (countIf (endsAt o b p)) (k .fresh h p tier (omega arith) (λ q. omega (arith, q))) ∙ count-zero (endsAt o b p))
+    sum-zero (o .paths) (λ p l. ap (whenTrue (endsAt o b p)) (k .fresh h p tier (omega arith) (λ q. omega (arith, q))) ∙ when-zero (endsAt o b p))
 
 -- what a nomination adds at a base, where it was accepted
-pub nominate-adds : (o : Opening) (L : Ledger) (x q kw h b : ℕ) → accepted o L (nominate x q kw) ≡ true → nominatedAt o (effect o L (nominate x q kw)) h b (L .tiers .openNow) ≡ nominatedAt o L h b (L .tiers .openNow) + countIf (eqb h x && endsAt o b q) kw
+pub nominate-adds : (o : Opening) (L : Ledger) (x q kw h b : ℕ) → accepted o L (nominate x q kw) ≡ true → nominatedAt o (effect o L (nominate x q kw)) h b (L .tiers .currentTier) ≡ nominatedAt o L h b (L .tiers .currentTier) + whenTrue (eqb h x && endsAt o b q) kw
 unfolding nominatedAt effect withTiers afterNominate
-nominate-adds o L x q kw h b e = base-plus o b x q (L .tiers .openNow) kw h (L .tiers .nominated) (nominate-facts o L x q kw e .path)
+nominate-adds o L x q kw h b e = base-plus o b x q (L .tiers .currentTier) kw h (L .tiers .nominated) (nominate-facts o L x q kw e .path)
 
 -- an award changes no nomination
 pub award-leaves : (o : Opening) (L : Ledger) (x q kw h b t : ℕ) → nominatedAt o (effect o L (award x q kw)) h b t ≡ nominatedAt o L h b t
 unfolding nominatedAt effect withTiers withRights awardsAfter
 award-leaves o L x q kw h b t = refl
 
-nominate-within : (o : Opening) (L : Ledger) (x q kw h b : ℕ) → accepted o L (nominate x q kw) ≡ true → nominatedAt o L h b (L .tiers .openNow) ≤ tierLimit o L (L .tiers .openNow) h b → nominatedAt o L h b (L .tiers .openNow) + countIf (eqb h x && endsAt o b q) kw ≤ tierLimit o L (L .tiers .openNow) h b
+nominate-within : (o : Opening) (L : Ledger) (x q kw h b : ℕ) → accepted o L (nominate x q kw) ≡ true → nominatedAt o L h b (L .tiers .currentTier) ≤ tierLimit o L (L .tiers .currentTier) h b → nominatedAt o L h b (L .tiers .currentTier) + whenTrue (eqb h x && endsAt o b q) kw ≤ tierLimit o L (L .tiers .currentTier) h b
 unfolding endsAt
 nominate-within o L x q kw h b e old = go (decided (eqb h x && endsAt o b q))
   where
     k : ℕ
-    k = L .tiers .openNow
+    k = L .tiers .currentTier
 
-    go : (eqb h x && endsAt o b q ≡ true) ⊎ (eqb h x && endsAt o b q ≡ false) → nominatedAt o L h b k + countIf (eqb h x && endsAt o b q) kw ≤ tierLimit o L k h b
+    go : (eqb h x && endsAt o b q ≡ true) ⊎ (eqb h x && endsAt o b q ≡ false) → nominatedAt o L h b k + whenTrue (eqb h x && endsAt o b q) kw ≤ tierLimit o L k h b
     go (inl t) =
         let both = and-both (eqb h x) (endsAt o b q) t in
-        let here = count-true kw t in
+        let here = when-is-true kw t in
         let hx = eqb-true h x (both .0) in
         let bq = sym (eqb-true (pathBase o q) b (both .1)) in
         let fact = nominate-facts o L x q kw e .withinLimit in
         let nom : nominatedAt o L h b k ≡ nominatedAt o L x (pathBase o q) k = λ i. nominatedAt o L (hx i) (bq i) k in
         let lim : tierLimit o L k h b ≡ tierLimit o L k x (pathBase o q) = λ i. tierLimit o L k (hx i) (bq i) in
         omega arith
-    go (inr t) = let none = count-false kw t in omega arith
+    go (inr t) = let none = when-is-false kw t in omega arith
 
 pub within-effect : (o : Opening) (L : Ledger) (c : Call) → TiersSound (L .tiers) → WithinLimit o L → accepted o L c ≡ true → WithinLimit o (effect o L c)
-unfolding effect withLoads withRights withPriors withPapers withTiers migrated afterOpen afterNominate awardsAfter afterClose
+unfolding effect withLoads withRights withPriors withEvidence withTiers migrated afterOpen afterNominate awardsAfter afterClose
 within-effect o L (load x s term contract n blocks) k w e isOpen = absurd (closed-only L (load-facts o L x s term contract n blocks e .idle) isOpen)
 within-effect o L (carry x p kw) k w e isOpen = absurd (closed-only L (carry-facts o L x p kw e .idle) isOpen)
 within-effect o L (prior x p a l) k w e isOpen = absurd (closed-only L (prior-facts o L x p a l e .idle) isOpen)
@@ -105,7 +105,7 @@ within-effect o L (nominate x q kw) k w e isOpen =
     (le-trans (nominate-within o L x q kw h b e (w isOpen h b)) (le-of-eq (sym (limit-steady o L (nominate x q kw) h b e isOpen))))
 within-effect o L (award x q kw) k w e isOpen =
     λ h b.
-    le-trans (le-of-eq (award-leaves o L x q kw h b (L .tiers .openNow)))
+    le-trans (le-of-eq (award-leaves o L x q kw h b (L .tiers .currentTier)))
     (le-trans (w isOpen h b) (le-of-eq (sym (limit-steady o L (award x q kw) h b e isOpen))))
 within-effect o L closeTier k w e isOpen = absurd (let z : ⊥ = omega arith in z)
 

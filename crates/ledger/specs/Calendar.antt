@@ -8,7 +8,7 @@ use Rattle.ledger.specs.Ledger.{Ledger}
 
 -- a tier is open: only nominate, award, close and queries run, and these three calls only then
 unfoldable pub tierIsOpen : Ledger → Bool
-tierIsOpen L = not (eqb (L .tiers .openNow) 0)
+tierIsOpen L = not (eqb (L .tiers .currentTier) 0)
 
 -- no tier is open, and this one has never been
 unfoldable pub beforeTier : ℕ → Ledger → Bool
@@ -23,5 +23,5 @@ unfoldable pub migrationInTime : ℕ → Ledger → Bool
 migrationInTime term L = beforeTier (firstTierOf term) L && (eqb term 0 || leb lastSeasonTier (L .tiers .lastClosed))
 
 -- open: no other tier is, and this is the one after the last closed
-unfoldable pub tierInTurn : ℕ → Ledger → Bool
-tierInTurn tier L = not (tierIsOpen L) && eqb tier (suc (L .tiers .lastClosed))
+unfoldable pub isNextTier : ℕ → Ledger → Bool
+isNextTier tier L = not (tierIsOpen L) && eqb tier (suc (L .tiers .lastClosed))

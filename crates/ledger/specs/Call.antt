@@ -1,8 +1,8 @@
--- What can be asked of a book: nine calls and three queries (01, Posting, Migration, Tiers). Every number is allowed; the causes say which are refused.
+-- The requests that a book takes: nine calls and three queries (01, Posting, Migration, Tiers). Every number is allowed; the causes say which are refused.
 use Prim.Native.Nat.{ℕ}
 use mathlib.Core.List.{List}
 use Rattle.tariff.specs.Load.{Block}
-use Rattle.migration.specs.declared.netting.ClassLine.{ClassLine}
+use Rattle.netting.specs.declared.netting.ClassLine.{ClassLine}
 
 pub data Call : Type 0 where
   load : (holder sink term contract hours : ℕ) → List Block → Call

@@ -3,130 +3,130 @@ use Prim.Native.Nat.{ℕ, _+_}
 use mathlib.Core.Bool.{Bool, cond, not, _&&_, _||_}
 use mathlib.Core.List.{List, [], _∷_}
 use lib.Dec.{ltb, eqb}
-use Rattle.migration.specs.declared.netting.ClassLine.{ClassLine}
+use Rattle.netting.specs.declared.netting.ClassLine.{ClassLine}
 use Rattle.tariff.specs.Sum.{anyOf, anyBelow}
 use Rattle.tariff.specs.Load.{Block, blocksBroken, tooManyMissing}
 use Rattle.tariff.specs.Terms.{termOf}
-use Rattle.migration.specs.Migration.{netted, lostBy}
-use Rattle.ledger.specs.Opening.{Opening, loadServing, outsideEntity, subLap, schedulingPoint, holderKind, sinkKind, pathSource, pathSink, pathBase}
+use Rattle.netting.specs.Migration.{netted, lostBy}
+use Rattle.ledger.specs.Opening.{Opening, lse, obaalse, subLap, schedulingPoint, holderKind, sinkKind, pathSource, pathSink, pathBase}
 use Rattle.ledger.specs.Call.{Call, load, carry, prior, verify, migrate, openTier, nominate, award, closeTier, Query, limitOf, heldOn, netOn}
 use Rattle.ledger.specs.Ledger.{Ledger}
-use Rattle.ledger.specs.Calendar.{tierIsOpen, beforeTier, loadInTime, migrationInTime, tierInTurn}
+use Rattle.ledger.specs.Calendar.{tierIsOpen, beforeTier, loadInTime, migrationInTime, isNextTier}
 use Rattle.ledger.specs.Limits.{nominatedAt, tierLimit}
-use Rattle.ledger.specs.Verification.{verifiedKw, drawn}
-use Rattle.ledger.specs.Moves.{loadBefore}
-use Rattle.ledger.specs.Numbers.{notInBook, outOfRange, notAtThisTime, postedBefore, brokenBlocks, hoursMissing, notSuppliers, lossAboveLoad, sinkNotForIt, aboveVerified, aboveRenewable, aboveLimit, aboveNominated, Cause, cause, firstMet}
-use Rattle.tariff.specs.Ranges.{wrongKw, wrongMonth, wrongEvidence}
-use Rattle.ledger.specs.Ranges.{noHolder, noSource, noSink, noPath, strangerIn, wrongLoad, wrongPrior, wrongMigration, wrongTier}
+use Rattle.ledger.specs.Verification.{verifiedKw, sourceUsage}
+use Rattle.ledger.specs.Migration.{loadBefore}
+use Rattle.ledger.specs.Numbers.{notInBook, outOfRange, notAtThisTime, postedBefore, brokenBlocks, hoursMissing, notBetweenLses, lossAboveLoad, sinkIneligible, aboveVerified, abovePrior, aboveLimit, aboveNominated, Cause, cause, firstMet}
+use Rattle.tariff.specs.Ranges.{kwOutOfRange, monthOutOfRange, evidenceOutOfRange}
+use Rattle.ledger.specs.Ranges.{unknownHolder, unknownSource, unknownSink, unknownPath, unknownHolderIn, loadOutOfRange, priorOutOfRange, migrationOutOfRange, tierOutOfRange}
 
--- cause 8: a class line from a holder to itself, or with a holder outside the balancing area
-unfoldable pub notBetweenSuppliers : Opening → ClassLine → Bool
-notBetweenSuppliers o l =
+-- cause 8: a class line from a holder to itself, or one that names an OBAALSE
+unfoldable pub lineNotBetweenLses : Opening → ClassLine → Bool
+lineNotBetweenLses o l =
     eqb (l .from) (l .to)
-    || eqb (holderKind o (l .from)) outsideEntity
-    || eqb (holderKind o (l .to)) outsideEntity
+    || eqb (holderKind o (l .from)) obaalse
+    || eqb (holderKind o (l .to)) obaalse
 
 -- cause 9: some loser's m together exceed its load at the sink and term
 unfoldable pub losesTooMuch : Opening → Ledger → ℕ → ℕ → List ClassLine → Bool
 losesTooMuch o L term sink lines =
     anyBelow (o .holders) (λ i. ltb (loadBefore L term sink i) (lostBy (o .holders) (netted lines) i))
 
--- cause 10: a scheduling point is not for a load-serving entity, and nothing else is for an outside entity
-unfoldable pub sinkNotFor : Opening → ℕ → ℕ → Bool
-sinkNotFor o h s = cond (eqb (holderKind o h) loadServing) (eqb (sinkKind o s) schedulingPoint) (not (eqb (sinkKind o s) schedulingPoint))
+-- cause 10: a scheduling point is not for an LSE, and nothing else is for an OBAALSE
+unfoldable pub kindIneligible : Opening → ℕ → ℕ → Bool
+kindIneligible o h s = cond (eqb (holderKind o h) lse) (eqb (sinkKind o s) schedulingPoint) (not (eqb (sinkKind o s) schedulingPoint))
 
 -- cause 10: a Sub-LAP, which takes no load and no tier 1 nomination
 unfoldable pub isSubLap : Opening → ℕ → Bool
 isSubLap o s = eqb (sinkKind o s) subLap
 
--- cause 11: with kw more, an outside entity draws more from the path's source than it has verified for the tier's term
-unfoldable pub beyondVerified : Opening → Ledger → ℕ → ℕ → ℕ → ℕ → Bool
-beyondVerified o L tier h p kw =
-    eqb (holderKind o h) outsideEntity && ltb (verifiedKw L h (pathSource o p) (termOf tier)) (drawn o L tier h (pathSource o p) + kw)
+-- cause 11: with kw more, an OBAALSE uses more of the path's source than it has verified for the tier's term
+unfoldable pub exceedsVerified : Opening → Ledger → ℕ → ℕ → ℕ → ℕ → Bool
+exceedsVerified o L tier h p kw =
+    eqb (holderKind o h) obaalse && ltb (verifiedKw L h (pathSource o p) (termOf tier)) (sourceUsage o L tier h (pathSource o p) + kw)
 
 -- cause 12: with kw more, the holder's tier 1 nominations on the path exceed its a − l
-unfoldable pub beyondRenewable : Ledger → ℕ → ℕ → ℕ → ℕ → Bool
-beyondRenewable L tier h p kw = eqb tier 1 && ltb (L .priors .renewable h p) (L .tiers .nominated h p tier + kw)
+unfoldable pub exceedsPrior : Ledger → ℕ → ℕ → ℕ → ℕ → Bool
+exceedsPrior L tier h p kw = eqb tier 1 && ltb (L .priors .remaining h p) (L .tiers .nominated h p tier + kw)
 
 -- cause 13: with kw more, the holder's nominations at the path's base exceed the limit
-unfoldable pub beyondLimit : Opening → Ledger → ℕ → ℕ → ℕ → ℕ → Bool
-beyondLimit o L tier h p kw = ltb (tierLimit o L tier h (pathBase o p)) (nominatedAt o L h (pathBase o p) tier + kw)
+unfoldable pub exceedsLimit : Opening → Ledger → ℕ → ℕ → ℕ → ℕ → Bool
+exceedsLimit o L tier h p kw = ltb (tierLimit o L tier h (pathBase o p)) (nominatedAt o L h (pathBase o p) tier + kw)
 
 -- cause 14: with kw more, the holder's awards on the path exceed its nominations in the tier
-unfoldable pub beyondNominated : Ledger → ℕ → ℕ → ℕ → ℕ → Bool
-beyondNominated L tier h p kw = ltb (L .tiers .nominated h p tier) (L .tiers .awards h p tier + kw)
+unfoldable pub exceedsNominated : Ledger → ℕ → ℕ → ℕ → ℕ → Bool
+exceedsNominated L tier h p kw = ltb (L .tiers .nominated h p tier) (L .tiers .awards h p tier + kw)
 
 module _ (o : Opening) (L : Ledger) where
   unfoldable pub loadCauses : ℕ → ℕ → ℕ → ℕ → ℕ → List Block → List Cause
   loadCauses h s term contract n blocks =
-      cause notInBook (noHolder o h || noSink o s)
-      ∷ cause outOfRange (wrongLoad term contract n blocks)
+      cause notInBook (unknownHolder o h || unknownSink o s)
+      ∷ cause outOfRange (loadOutOfRange term contract n blocks)
       ∷ cause notAtThisTime (not (loadInTime term L))
       ∷ cause postedBefore (L .loads .posted h s term)
       ∷ cause brokenBlocks (blocksBroken n blocks)
       ∷ cause hoursMissing (tooManyMissing n blocks)
-      ∷ cause sinkNotForIt (sinkNotFor o h s || isSubLap o s)
+      ∷ cause sinkIneligible (kindIneligible o h s || isSubLap o s)
       ∷ []
 
   unfoldable pub carryCauses : ℕ → ℕ → ℕ → List Cause
   carryCauses h p kw =
-      cause notInBook (noHolder o h || noPath o p)
-      ∷ cause outOfRange (wrongKw kw)
+      cause notInBook (unknownHolder o h || unknownPath o p)
+      ∷ cause outOfRange (kwOutOfRange kw)
       ∷ cause notAtThisTime (not (beforeTier 1 L))
       ∷ cause postedBefore (L .rights .posted h p)
-      ∷ cause sinkNotForIt (sinkNotFor o h (pathSink o p))
+      ∷ cause sinkIneligible (kindIneligible o h (pathSink o p))
       ∷ []
 
   unfoldable pub priorCauses : ℕ → ℕ → ℕ → ℕ → List Cause
   priorCauses h p a l =
-      cause notInBook (noHolder o h || noPath o p)
-      ∷ cause outOfRange (wrongPrior a l)
+      cause notInBook (unknownHolder o h || unknownPath o p)
+      ∷ cause outOfRange (priorOutOfRange a l)
       ∷ cause notAtThisTime (not (beforeTier 1 L))
       ∷ cause postedBefore (L .priors .posted h p)
-      ∷ cause sinkNotForIt (sinkNotFor o h (pathSink o p))
+      ∷ cause sinkIneligible (kindIneligible o h (pathSink o p))
       ∷ []
 
   unfoldable pub verifyCauses : ℕ → ℕ → ℕ → ℕ → ℕ → ℕ → ℕ → List Cause
   verifyCauses h s kind capacity right first last =
-      cause notInBook (noHolder o h || noSource o s)
-      ∷ cause outOfRange (wrongEvidence kind capacity right first last)
+      cause notInBook (unknownHolder o h || unknownSource o s)
+      ∷ cause outOfRange (evidenceOutOfRange kind capacity right first last)
       ∷ cause notAtThisTime (tierIsOpen L)
-      ∷ cause postedBefore (L .papers .posted h s kind)
+      ∷ cause postedBefore (L .evidence .posted h s kind)
       ∷ []
 
   unfoldable pub migrateCauses : ℕ → ℕ → List ClassLine → List Cause
   migrateCauses term sink lines =
-      cause notInBook (noSink o sink || strangerIn o lines)
-      ∷ cause outOfRange (wrongMigration term lines)
+      cause notInBook (unknownSink o sink || unknownHolderIn o lines)
+      ∷ cause outOfRange (migrationOutOfRange term lines)
       ∷ cause notAtThisTime (not (migrationInTime term L))
-      ∷ cause notSuppliers (anyOf lines (notBetweenSuppliers o))
+      ∷ cause notBetweenLses (anyOf lines (lineNotBetweenLses o))
       ∷ cause lossAboveLoad (losesTooMuch o L term sink lines)
       ∷ []
 
   unfoldable pub openCauses : ℕ → List Cause
   openCauses tier =
-      cause outOfRange (wrongTier tier)
-      ∷ cause notAtThisTime (not (tierInTurn tier L))
+      cause outOfRange (tierOutOfRange tier)
+      ∷ cause notAtThisTime (not (isNextTier tier L))
       ∷ []
 
   unfoldable pub nominateCauses : ℕ → ℕ → ℕ → List Cause
   nominateCauses h p kw =
-      let tier = L .tiers .openNow in
-      cause notInBook (noHolder o h || noPath o p)
-      ∷ cause outOfRange (wrongKw kw)
+      let tier = L .tiers .currentTier in
+      cause notInBook (unknownHolder o h || unknownPath o p)
+      ∷ cause outOfRange (kwOutOfRange kw)
       ∷ cause notAtThisTime (not (tierIsOpen L))
-      ∷ cause sinkNotForIt (sinkNotFor o h (pathSink o p) || (eqb tier 1 && isSubLap o (pathSink o p)))
-      ∷ cause aboveVerified (beyondVerified o L tier h p kw)
-      ∷ cause aboveRenewable (beyondRenewable L tier h p kw)
-      ∷ cause aboveLimit (beyondLimit o L tier h p kw)
+      ∷ cause sinkIneligible (kindIneligible o h (pathSink o p) || (eqb tier 1 && isSubLap o (pathSink o p)))
+      ∷ cause aboveVerified (exceedsVerified o L tier h p kw)
+      ∷ cause abovePrior (exceedsPrior L tier h p kw)
+      ∷ cause aboveLimit (exceedsLimit o L tier h p kw)
       ∷ []
 
   unfoldable pub awardCauses : ℕ → ℕ → ℕ → List Cause
   awardCauses h p kw =
-      cause notInBook (noHolder o h || noPath o p)
-      ∷ cause outOfRange (wrongKw kw)
+      cause notInBook (unknownHolder o h || unknownPath o p)
+      ∷ cause outOfRange (kwOutOfRange kw)
       ∷ cause notAtThisTime (not (tierIsOpen L))
-      ∷ cause aboveNominated (beyondNominated L (L .tiers .openNow) h p kw)
+      ∷ cause aboveNominated (exceedsNominated L (L .tiers .currentTier) h p kw)
       ∷ []
 
   unfoldable pub closeCauses : List Cause
@@ -150,20 +150,20 @@ module _ (o : Opening) (L : Ledger) where
   -- the limit query: of the open tier, else 4
   unfoldable pub limitCauses : ℕ → ℕ → List Cause
   limitCauses h s =
-      cause notInBook (noHolder o h || noSink o s)
+      cause notInBook (unknownHolder o h || unknownSink o s)
       ∷ cause notAtThisTime (not (tierIsOpen L))
       ∷ []
 
   unfoldable pub heldCauses : ℕ → ℕ → ℕ → List Cause
   heldCauses h p m =
-      cause notInBook (noHolder o h || noPath o p)
-      ∷ cause outOfRange (wrongMonth m)
+      cause notInBook (unknownHolder o h || unknownPath o p)
+      ∷ cause outOfRange (monthOutOfRange m)
       ∷ []
 
   unfoldable pub netCauses : ℕ → ℕ → List Cause
   netCauses p m =
-      cause notInBook (noPath o p)
-      ∷ cause outOfRange (wrongMonth m)
+      cause notInBook (unknownPath o p)
+      ∷ cause outOfRange (monthOutOfRange m)
       ∷ []
 
   unfoldable pub queryCauses : Query → List Cause

@@ -3,14 +3,14 @@ use Prim.Native.Nat.{ℕ, _+_, _-_}
 use mathlib.Core.Bool.{Bool, cond, _&&_, _||_}
 use lib.Dec.{eqb}
 use Rattle.tariff.specs.declared.evidence.Entry.{Entry}
-use Rattle.tariff.specs.Sum.{countIf}
+use Rattle.tariff.specs.Sum.{whenTrue}
 use Rattle.tariff.specs.Load.{loadPosted}
 use Rattle.tariff.specs.Terms.{termOf, hasMonth}
 use Rattle.tariff.specs.Evidence.{entryOf}
 use Rattle.ledger.specs.Opening.{Opening}
 use Rattle.ledger.specs.Call.{Call, load, carry, prior, verify, migrate, openTier, nominate, award, closeTier}
-use Rattle.ledger.specs.Ledger.{Ledger, Loads, Rights, Priors, Papers, Tiers, withLoads, withRights, withPriors, withPapers, withTiers}
-use Rattle.ledger.specs.Moves.{migrated}
+use Rattle.ledger.specs.Ledger.{Ledger, Loads, Rights, Priors, EvidenceRecord, Tiers, withLoads, withRights, withPriors, withEvidence, withTiers}
+use Rattle.ledger.specs.Migration.{migrated}
 
 -- the same two, or three, numbers
 unfoldable pub same2 : ℕ → ℕ → ℕ → ℕ → Bool
@@ -21,14 +21,14 @@ same3 i j k x y z = eqb x i && eqb y j && eqb z k
 
 -- figures with kw added in one place
 unfoldable pub plusAt2 : ℕ → ℕ → ℕ → (ℕ → ℕ → ℕ) → ℕ → ℕ → ℕ
-plusAt2 i j kw f x y = f x y + countIf (same2 i j x y) kw
+plusAt2 i j kw f x y = f x y + whenTrue (same2 i j x y) kw
 
 unfoldable pub plusAt3 : ℕ → ℕ → ℕ → ℕ → (ℕ → ℕ → ℕ → ℕ) → ℕ → ℕ → ℕ → ℕ
-plusAt3 i j k kw f x y z = f x y z + countIf (same3 i j k x y z) kw
+plusAt3 i j k kw f x y z = f x y z + whenTrue (same3 i j k x y z) kw
 
 -- holdings with kw added for a holder and path, in each month of a term
 unfoldable pub plusInTerm : ℕ → ℕ → ℕ → ℕ → (ℕ → ℕ → ℕ → ℕ) → ℕ → ℕ → ℕ → ℕ
-plusInTerm term h p kw f x y m = f x y m + countIf (same2 h p x y && hasMonth term m) kw
+plusInTerm term h p kw f x y m = f x y m + whenTrue (same2 h p x y && hasMonth term m) kw
 
 -- load adds the load posted
 unfoldable pub afterLoad : Loads → ℕ → ℕ → ℕ → ℕ → Loads
@@ -52,12 +52,12 @@ unfoldable pub afterPrior : Priors → ℕ → ℕ → ℕ → ℕ → Priors
 afterPrior x h p a l =
     record {
       allocated = plusAt2 h p a (x .allocated);
-      renewable = plusAt2 h p (a - l) (x .renewable);
+      remaining = plusAt2 h p (a - l) (x .remaining);
       posted = λ i j. same2 h p i j || x .posted i j;
     }
 
 -- verify files its entry
-unfoldable pub afterVerify : Papers → ℕ → ℕ → ℕ → Entry → Papers
+unfoldable pub afterVerify : EvidenceRecord → ℕ → ℕ → ℕ → Entry → EvidenceRecord
 afterVerify x h s kind filed =
     record {
       entry = λ i j k. cond (same3 h s kind i j k) filed (x .entry i j k);
@@ -71,17 +71,17 @@ afterOpen x tier =
       nominated = x .nominated;
       awards = x .awards;
       lastClosed = x .lastClosed;
-      openNow = tier;
+      currentTier = tier;
     }
 
 -- nominate adds its kW in the open tier
 unfoldable pub afterNominate : Tiers → ℕ → ℕ → ℕ → Tiers
 afterNominate x h p kw =
     record {
-      nominated = plusAt3 h p (x .openNow) kw (x .nominated);
+      nominated = plusAt3 h p (x .currentTier) kw (x .nominated);
       awards = x .awards;
       lastClosed = x .lastClosed;
-      openNow = x .openNow;
+      currentTier = x .currentTier;
     }
 
 -- award adds its kW to the open tier's awards ..
@@ -89,9 +89,9 @@ unfoldable pub awardsAfter : Tiers → ℕ → ℕ → ℕ → Tiers
 awardsAfter x h p kw =
     record {
       nominated = x .nominated;
-      awards = plusAt3 h p (x .openNow) kw (x .awards);
+      awards = plusAt3 h p (x .currentTier) kw (x .awards);
       lastClosed = x .lastClosed;
-      openNow = x .openNow;
+      currentTier = x .currentTier;
     }
 
 -- .. and to the awarded holding of the tier's month, or of all three
@@ -107,10 +107,10 @@ holdingsAfter x tier h p kw =
 unfoldable pub afterClose : Tiers → Tiers
 afterClose x =
     record {
-      nominated = λ h p t. cond (eqb t (x .openNow)) (x .awards h p t) (x .nominated h p t);
+      nominated = λ h p t. cond (eqb t (x .currentTier)) (x .awards h p t) (x .nominated h p t);
       awards = x .awards;
-      lastClosed = x .openNow;
-      openNow = 0;
+      lastClosed = x .currentTier;
+      currentTier = 0;
     }
 
 -- the ledger after an accepted call
@@ -119,9 +119,9 @@ effect o L (load h s term contract n blocks) = withLoads L (afterLoad (L .loads)
 effect o L (carry h p kw) = withRights L (afterCarry (L .rights) h p kw)
 effect o L (prior h p a l) = withPriors L (afterPrior (L .priors) h p a l)
 effect o L (verify h s kind capacity right first last) =
-    withPapers L (afterVerify (L .papers) h s kind (entryOf kind capacity right first last))
+    withEvidence L (afterVerify (L .evidence) h s kind (entryOf kind capacity right first last))
 effect o L (migrate term sink lines) = migrated o L term sink lines
 effect o L (openTier tier) = withTiers L (afterOpen (L .tiers) tier)
 effect o L (nominate h p kw) = withTiers L (afterNominate (L .tiers) h p kw)
-effect o L (award h p kw) = withTiers (withRights L (holdingsAfter (L .rights) (L .tiers .openNow) h p kw)) (awardsAfter (L .tiers) h p kw)
+effect o L (award h p kw) = withTiers (withRights L (holdingsAfter (L .rights) (L .tiers .currentTier) h p kw)) (awardsAfter (L .tiers) h p kw)
 effect o L closeTier = withTiers L (afterClose (L .tiers))

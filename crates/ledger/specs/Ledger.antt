@@ -18,11 +18,11 @@ pub record Rights : Type 0 where
 -- by holder and path: last year's allocation a, what of it is left beside Long Term rights (a − l), and whether a prior was posted
 pub record Priors : Type 0 where
   pub allocated : ℕ → ℕ → ℕ
-  pub renewable : ℕ → ℕ → ℕ
+  pub remaining : ℕ → ℕ → ℕ
   pub posted : ℕ → ℕ → Bool
 
 -- by holder, source and kind of evidence: the entry, and whether one was posted
-pub record Papers : Type 0 where
+pub record EvidenceRecord : Type 0 where
   pub entry : ℕ → ℕ → ℕ → Entry
   pub posted : ℕ → ℕ → ℕ → Bool
 
@@ -31,13 +31,13 @@ pub record Tiers : Type 0 where
   pub nominated : ℕ → ℕ → ℕ → ℕ
   pub awards : ℕ → ℕ → ℕ → ℕ
   pub lastClosed : ℕ
-  pub openNow : ℕ
+  pub currentTier : ℕ
 
 pub record Ledger : Type 0 where
   pub loads : Loads
   pub rights : Rights
   pub priors : Priors
-  pub papers : Papers
+  pub evidence : EvidenceRecord
   pub tiers : Tiers
 
 -- all starts at 0 or empty
@@ -46,23 +46,23 @@ emptyLedger =
     record {
       loads = record { kw = λ h s t. 0; posted = λ h s t. false };
       rights = record { carried = λ h p m. 0; awarded = λ h p m. 0; posted = λ h p. false };
-      priors = record { allocated = λ h p. 0; renewable = λ h p. 0; posted = λ h p. false };
-      papers = record { entry = λ h s k. noEntry; posted = λ h s k. false };
-      tiers = record { nominated = λ h p t. 0; awards = λ h p t. 0; lastClosed = 0; openNow = 0 };
+      priors = record { allocated = λ h p. 0; remaining = λ h p. 0; posted = λ h p. false };
+      evidence = record { entry = λ h s k. noEntry; posted = λ h s k. false };
+      tiers = record { nominated = λ h p t. 0; awards = λ h p t. 0; lastClosed = 0; currentTier = 0 };
     }
 
 -- a ledger with one of its parts replaced
 unfoldable pub withLoads : Ledger → Loads → Ledger
-withLoads L x = record { loads = x; rights = L .rights; priors = L .priors; papers = L .papers; tiers = L .tiers }
+withLoads L x = record { loads = x; rights = L .rights; priors = L .priors; evidence = L .evidence; tiers = L .tiers }
 
 unfoldable pub withRights : Ledger → Rights → Ledger
-withRights L x = record { loads = L .loads; rights = x; priors = L .priors; papers = L .papers; tiers = L .tiers }
+withRights L x = record { loads = L .loads; rights = x; priors = L .priors; evidence = L .evidence; tiers = L .tiers }
 
 unfoldable pub withPriors : Ledger → Priors → Ledger
-withPriors L x = record { loads = L .loads; rights = L .rights; priors = x; papers = L .papers; tiers = L .tiers }
+withPriors L x = record { loads = L .loads; rights = L .rights; priors = x; evidence = L .evidence; tiers = L .tiers }
 
-unfoldable pub withPapers : Ledger → Papers → Ledger
-withPapers L x = record { loads = L .loads; rights = L .rights; priors = L .priors; papers = x; tiers = L .tiers }
+unfoldable pub withEvidence : Ledger → EvidenceRecord → Ledger
+withEvidence L x = record { loads = L .loads; rights = L .rights; priors = L .priors; evidence = x; tiers = L .tiers }
 
 unfoldable pub withTiers : Ledger → Tiers → Ledger
-withTiers L x = record { loads = L .loads; rights = L .rights; priors = L .priors; papers = L .papers; tiers = x }
+withTiers L x = record { loads = L .loads; rights = L .rights; priors = L .priors; evidence = L .evidence; tiers = x }

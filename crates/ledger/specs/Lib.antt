@@ -1,4 +1,4 @@
--- The plain ledger of document 01: what the book is opened with, what it is asked, what refuses a call, and what an accepted call does.
+-- The plain ledger of document 01: what the book is opened with, the calls and queries, what refuses a call, and what an accepted call does.
 pub mod Numbers
 pub mod Opening
 pub mod Call
@@ -6,8 +6,8 @@ pub mod Ledger
 pub mod Calendar
 pub mod Limits
 pub mod Verification
-pub mod Moves
-pub mod Taken
+pub mod Migration
+pub mod Balance
 pub mod Ranges
 pub mod Causes
 pub mod Effects

@@ -1,15 +1,15 @@
 -- The sums that a limit is made of, and the limit of a holder at a base in a tier (01, Limits).
 use Prim.Native.Nat.{ℕ, _-_}
-use Rattle.tariff.specs.Sum.{countIf, sumTo}
+use Rattle.tariff.specs.Sum.{whenTrue, sumTo}
 use Rattle.tariff.specs.Terms.{termOf, carriedMonth}
 use Rattle.tariff.specs.declared.limit.Sums.{Sums}
-use Rattle.tariff.specs.Limit.{limit}
+use Rattle.tariff.specs.Limit.{limitOfSums}
 use Rattle.ledger.specs.Opening.{Opening, endsAt}
 use Rattle.ledger.specs.Ledger.{Ledger}
 
 -- f summed over the paths whose sink has this base
 unfoldable pub sumAtBase : Opening → ℕ → (ℕ → ℕ) → ℕ
-sumAtBase o b f = sumTo (o .paths) (λ p. countIf (endsAt o b p) (f p))
+sumAtBase o b f = sumTo (o .paths) (λ p. whenTrue (endsAt o b p) (f p))
 
 -- LT: the holder's carried holding there in a month
 unfoldable pub longTermAt : Opening → Ledger → ℕ → ℕ → ℕ → ℕ
@@ -41,4 +41,4 @@ limitSums o L tier h b =
 
 -- the limit on what a holder nominates at a base in a tier
 unfoldable pub tierLimit : Opening → Ledger → ℕ → ℕ → ℕ → ℕ
-tierLimit o L tier h b = limit tier (limitSums o L tier h b)
+tierLimit o L tier h b = limitOfSums tier (limitSums o L tier h b)

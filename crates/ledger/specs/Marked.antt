@@ -2,13 +2,13 @@
 use Prim.Native.Nat.{ℕ, zero, suc}
 use mathlib.Core.List.{List, [], _∷_, _++_}
 use lib.ListN.{length, replicate}
-use Rattle.migration.specs.declared.netting.ClassLine.{ClassLine}
+use Rattle.netting.specs.declared.netting.ClassLine.{ClassLine}
 use Rattle.tariff.specs.Load.{Block, metric, loadPosted}
 use Rattle.tariff.specs.Eligible.{seasonalEligible, priorityEligible}
-use Rattle.migration.specs.Migration.{netted}
-use Rattle.ledger.specs.Opening.{Opening, loadServing, outsideEntity, defaultLap, schedulingPoint}
+use Rattle.netting.specs.Migration.{netted}
+use Rattle.ledger.specs.Opening.{Opening, lse, obaalse, defaultLap, schedulingPoint}
 use Rattle.ledger.specs.Call.{load, carry, prior, verify, migrate, openTier, nominate, award, closeTier, limitOf, heldOn, netOn}
-use Rattle.ledger.specs.Season.{Ask, call, query, Answer, done, value, refused, season}
+use Rattle.ledger.specs.Season.{Request, call, query, Answer, done, value, refused, season}
 
 pub record Case : Type 0 where
   -- what the definitions give
@@ -42,30 +42,30 @@ unfoldable pub classLine : ℕ → ℕ → ℕ → ℕ → ClassLine
 classLine i j customers watts = record { from = i; to = j; class = 1; customers = customers; watts = watts }
 
 -- a load of kw in each of 100 hours, at sink 0
-unfoldable pub steadyLoad : ℕ → ℕ → ℕ → Ask
+unfoldable pub steadyLoad : ℕ → ℕ → ℕ → Request
 steadyLoad h term kw = call (load h 0 term 0 100 (block 0 100 kw ∷ []))
 
 -- tiers that open and close with nothing nominated
-unfoldable pub passTier : ℕ → List Ask
+unfoldable pub passTier : ℕ → List Request
 passTier tier = call (openTier tier) ∷ call closeTier ∷ []
 
 -- a tier in which holder 0 nominates and is awarded kw on a path
-unfoldable pub fullTier : ℕ → ℕ → ℕ → List Ask
+unfoldable pub fullTier : ℕ → ℕ → ℕ → List Request
 fullTier tier p kw = call (openTier tier) ∷ call (nominate 0 p kw) ∷ call (award 0 p kw) ∷ call closeTier ∷ []
 
 -- case 1, up to tier 1's limit query and from there to the end
 unfoldable pub opening1 : Opening
-opening1 = oneSink (loadServing ∷ []) 2 defaultLap
+opening1 = oneSink (lse ∷ []) 2 defaultLap
 
-unfoldable pub asks1 : List Ask
-asks1 =
+unfoldable pub requests1 : List Request
+requests1 =
     call (load 0 0 0 0 400 (block 0 398 1000 ∷ block 398 2 5000 ∷ []))
     ∷ call (carry 0 0 100)
     ∷ call (prior 0 1 300 20)
     ∷ call (openTier 1)
     ∷ []
 
-unfoldable pub rest1 : List Ask
+unfoldable pub rest1 : List Request
 rest1 =
     query (limitOf 0 0)
     ∷ call (nominate 0 1 201)
@@ -80,7 +80,7 @@ unfoldable pub answers1 : List Answer
 answers1 = done ∷ done ∷ done ∷ done ∷ done ∷ value 200 ∷ refused 13 ∷ done ∷ done ∷ refused 14 ∷ done ∷ value 150 ∷ []
 
 unfoldable pub case1 : Case
-case1 = record { given = season opening1 (asks1 ++ rest1); marked = answers1 }
+case1 = record { given = season opening1 (requests1 ++ rest1); marked = answers1 }
 
 -- case 2: 397 hours at 1,000 kW and 3 at 5,000: the metric is 5,000, and so is the month's limit
 unfoldable pub blocks2 : List Block
@@ -91,7 +91,7 @@ case2 =
     record {
       given =
           value (metric blocks2)
-          ∷ season (oneSink (loadServing ∷ []) 0 defaultLap)
+          ∷ season (oneSink (lse ∷ []) 0 defaultLap)
           (call (load 0 0 1 0 400 blocks2) ∷ (passTier 1 ++ passTier 2 ++ passTier 3 ++ (call (openTier 4) ∷ query (limitOf 0 0) ∷ [])));
       marked = value 5000 ∷ (replicate 9 done ++ (value 5000 ∷ []));
     }
@@ -101,7 +101,7 @@ unfoldable pub case3 : Case
 case3 =
     record {
       given =
-          season (oneSink (loadServing ∷ loadServing ∷ []) 0 defaultLap)
+          season (oneSink (lse ∷ lse ∷ []) 0 defaultLap)
           (call (load 0 0 0 0 100 (block 0 98 1000 ∷ [])) ∷ call (load 1 0 0 0 100 (block 0 97 1000 ∷ [])) ∷ []);
       marked = done ∷ done ∷ refused 7 ∷ [];
     }
@@ -117,7 +117,7 @@ case5 =
       given =
           value (seasonalEligible 3)
           ∷ value (priorityEligible 3)
-          ∷ season (oneSink (loadServing ∷ []) 0 defaultLap)
+          ∷ season (oneSink (lse ∷ []) 0 defaultLap)
           (steadyLoad 0 0 3
           ∷ (passTier 1 ++ (call (openTier 2) ∷ query (limitOf 0 0) ∷ call closeTier ∷ call (openTier 3) ∷ query (limitOf 0 0) ∷ [])));
       marked = value 2 ∷ value 1 ∷ (replicate 5 done ++ (value 1 ∷ done ∷ done ∷ value 2 ∷ []));
@@ -125,13 +125,13 @@ case5 =
 
 -- case 6: in case 1's tier 1, 281 on path 1 is above a − l and above the limit: 12, not 13
 unfoldable pub case6 : Case
-case6 = record { given = season opening1 (asks1 ++ (call (nominate 0 1 281) ∷ [])); marked = replicate 5 done ++ (refused 12 ∷ []) }
+case6 = record { given = season opening1 (requests1 ++ (call (nominate 0 1 281) ∷ [])); marked = replicate 5 done ++ (refused 12 ∷ []) }
 
 -- case 7: after case 1, tier 2's limit is 250
 unfoldable pub case7 : Case
 case7 =
     record {
-      given = season opening1 (asks1 ++ rest1 ++ (call (openTier 2) ∷ query (limitOf 0 0) ∷ []));
+      given = season opening1 (requests1 ++ rest1 ++ (call (openTier 2) ∷ query (limitOf 0 0) ∷ []));
       marked = answers1 ++ (done ∷ value 250 ∷ []);
     }
 
@@ -140,7 +140,7 @@ unfoldable pub case8 : Case
 case8 =
     record {
       given =
-          season (oneSink (loadServing ∷ loadServing ∷ loadServing ∷ []) 1 defaultLap)
+          season (oneSink (lse ∷ lse ∷ lse ∷ []) 1 defaultLap)
           (steadyLoad 0 0 1000
           ∷ call (carry 0 0 100)
           ∷ call (migrate 0 0 (classLine 0 1 500 1000 ∷ classLine 0 2 500 1000 ∷ []))
@@ -156,7 +156,7 @@ unfoldable pub case9 : Case
 case9 =
     record {
       given =
-          season (oneSink (loadServing ∷ loadServing ∷ []) 1 defaultLap)
+          season (oneSink (lse ∷ lse ∷ []) 1 defaultLap)
           (steadyLoad 0 0 1000
           ∷ call (carry 0 0 1)
           ∷ call (migrate 0 0 (classLine 0 1 999 1000 ∷ []))
@@ -175,7 +175,7 @@ case10 =
     record {
       given =
           value (netted lines10 0 1)
-          ∷ season (oneSink (loadServing ∷ loadServing ∷ []) 1 defaultLap)
+          ∷ season (oneSink (lse ∷ lse ∷ []) 1 defaultLap)
           (steadyLoad 0 0 1000 ∷ call (carry 0 0 1000) ∷ call (migrate 0 0 lines10) ∷ query (heldOn 0 0 1) ∷ []);
       marked = value 0 ∷ (replicate 4 done ++ (value 1000 ∷ []));
     }
@@ -185,7 +185,7 @@ unfoldable pub case11 : Case
 case11 =
     record {
       given =
-          season (oneSink (outsideEntity ∷ []) 1 schedulingPoint)
+          season (oneSink (obaalse ∷ []) 1 schedulingPoint)
           (steadyLoad 0 0 1000
           ∷ call (prior 0 0 1000 0)
           ∷ call (verify 0 0 1 1000 3333 1 3)
@@ -201,7 +201,7 @@ unfoldable pub case12 : Case
 case12 =
     record {
       given =
-          season (oneSink (loadServing ∷ []) 1 defaultLap)
+          season (oneSink (lse ∷ []) 1 defaultLap)
           (steadyLoad 0 0 1000
           ∷ steadyLoad 0 1 700
           ∷ call (carry 0 0 100)

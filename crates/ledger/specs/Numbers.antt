@@ -19,24 +19,24 @@ abbrev pub postedBefore : ℕ
 postedBefore = 5
 
 -- a class line from a holder to itself, or with a holder of kind 2
-abbrev pub notSuppliers : ℕ
-notSuppliers = 8
+abbrev pub notBetweenLses : ℕ
+notBetweenLses = 8
 
 -- a loser's m together exceed its load
 abbrev pub lossAboveLoad : ℕ
 lossAboveLoad = 9
 
 -- the sink is not for this holder, or not for this call
-abbrev pub sinkNotForIt : ℕ
-sinkNotForIt = 10
+abbrev pub sinkIneligible : ℕ
+sinkIneligible = 10
 
 -- above the verified kW of the source
 abbrev pub aboveVerified : ℕ
 aboveVerified = 11
 
 -- above the path's a − l in tier 1
-abbrev pub aboveRenewable : ℕ
-aboveRenewable = 12
+abbrev pub abovePrior : ℕ
+abovePrior = 12
 
 -- above the tier's limit
 abbrev pub aboveLimit : ℕ

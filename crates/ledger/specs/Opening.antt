@@ -20,12 +20,12 @@ pub record Opening : Type 0 where
   pub pathSources : List ℕ
   pub pathSinks : List ℕ
 
--- holder kind 1 is a load-serving entity, 2 a qualified entity outside the balancing area
-abbrev pub loadServing : ℕ
-loadServing = 1
+-- holder kind 1 is a load-serving entity (LSE), 2 a qualified entity outside the balancing area (OBAALSE)
+abbrev pub lse : ℕ
+lse = 1
 
-abbrev pub outsideEntity : ℕ
-outsideEntity = 2
+abbrev pub obaalse : ℕ
+obaalse = 2
 
 -- sink kind 1 is a Default LAP, 2 a Sub-LAP, 3 a custom LAP or node, 4 a scheduling point
 abbrev pub defaultLap : ℕ
@@ -79,7 +79,7 @@ listsFit o =
     && eqb (length (o .pathSinks)) (o .paths)
 
 unfoldable pub holderLegal : Opening → ℕ → Bool
-holderLegal o h = eqb (holderKind o h) loadServing || eqb (holderKind o h) outsideEntity
+holderLegal o h = eqb (holderKind o h) lse || eqb (holderKind o h) obaalse
 
 -- a Sub-LAP names a lower-numbered parent that is a Default LAP
 unfoldable pub parentLegal : Opening → ℕ → Bool

@@ -4,50 +4,50 @@ use mathlib.Core.Bool.{Bool, not, _||_}
 use mathlib.Core.List.{List}
 use lib.ListN.{length}
 use lib.Dec.{leb, ltb}
-use Rattle.migration.specs.declared.netting.ClassLine.{ClassLine}
+use Rattle.netting.specs.declared.netting.ClassLine.{ClassLine}
 use Rattle.tariff.specs.Sizes.{maxHours, lastTier, maxClassLines}
 use Rattle.tariff.specs.Sum.{anyOf}
 use Rattle.tariff.specs.Load.{Block}
-use Rattle.tariff.specs.Ranges.{mostKw, within, wrongKw, wrongTerm}
-use Rattle.migration.specs.ClassRanges.{wrongClassLine}
+use Rattle.tariff.specs.Ranges.{maxKw, within, kwOutOfRange, termOutOfRange}
+use Rattle.netting.specs.ClassRanges.{classLineOutOfRange}
 use Rattle.ledger.specs.Opening.{Opening}
 
 -- cause 2: a number that is not below its count
 
-unfoldable pub noHolder : Opening → ℕ → Bool
-noHolder o h = leb (o .holders) h
+unfoldable pub unknownHolder : Opening → ℕ → Bool
+unknownHolder o h = leb (o .holders) h
 
-unfoldable pub noSource : Opening → ℕ → Bool
-noSource o s = leb (o .sources) s
+unfoldable pub unknownSource : Opening → ℕ → Bool
+unknownSource o s = leb (o .sources) s
 
-unfoldable pub noSink : Opening → ℕ → Bool
-noSink o s = leb (o .sinks) s
+unfoldable pub unknownSink : Opening → ℕ → Bool
+unknownSink o s = leb (o .sinks) s
 
-unfoldable pub noPath : Opening → ℕ → Bool
-noPath o p = leb (o .paths) p
+unfoldable pub unknownPath : Opening → ℕ → Bool
+unknownPath o p = leb (o .paths) p
 
 -- a class line names a holder that is not in the book
-unfoldable pub strangerIn : Opening → List ClassLine → Bool
-strangerIn o lines = anyOf lines (λ l. noHolder o (l .from) || noHolder o (l .to))
+unfoldable pub unknownHolderIn : Opening → List ClassLine → Bool
+unknownHolderIn o lines = anyOf lines (λ l. unknownHolder o (l .from) || unknownHolder o (l .to))
 
 -- cause 3, beside the ranges of the tariff's own numbers
 
 -- load: contract load 0 to the most kW, hours 1 to 2,208, at most 2,208 blocks, none above the most kW
-unfoldable pub wrongLoad : ℕ → ℕ → ℕ → List Block → Bool
-wrongLoad term contract n blocks =
-    wrongTerm term
-    || ltb mostKw contract
+unfoldable pub loadOutOfRange : ℕ → ℕ → ℕ → List Block → Bool
+loadOutOfRange term contract n blocks =
+    termOutOfRange term
+    || ltb maxKw contract
     || not (within 1 maxHours n)
     || ltb maxHours (length blocks)
-    || anyOf blocks (λ b. ltb mostKw (b .kw))
+    || anyOf blocks (λ b. ltb maxKw (b .kw))
 
 -- prior: of a kW allocated, l went to Long Term, 0 ≤ l ≤ a
-unfoldable pub wrongPrior : ℕ → ℕ → Bool
-wrongPrior a l = wrongKw a || ltb a l
+unfoldable pub priorOutOfRange : ℕ → ℕ → Bool
+priorOutOfRange a l = kwOutOfRange a || ltb a l
 
 -- migrate: at most 64 class lines
-unfoldable pub wrongMigration : ℕ → List ClassLine → Bool
-wrongMigration term lines = wrongTerm term || ltb maxClassLines (length lines) || anyOf lines wrongClassLine
+unfoldable pub migrationOutOfRange : ℕ → List ClassLine → Bool
+migrationOutOfRange term lines = termOutOfRange term || ltb maxClassLines (length lines) || anyOf lines classLineOutOfRange
 
-unfoldable pub wrongTier : ℕ → Bool
-wrongTier tier = not (within 1 lastTier tier)
+unfoldable pub tierOutOfRange : ℕ → Bool
+tierOutOfRange tier = not (within 1 lastTier tier)

@@ -36,10 +36,10 @@ unfoldable pub net : Opening → Ledger → ℕ → ℕ → ℕ
 net o L p m = sumTo (o .holders) (λ h. held L h p m)
 
 -- what a query answers where it meets no cause; a limit is that of the sink's base in the open tier
-unfoldable pub figure : Opening → Ledger → Query → ℕ
-figure o L (limitOf h s) = tierLimit o L (L .tiers .openNow) h (base o s)
-figure o L (heldOn h p m) = held L h p m
-figure o L (netOn p m) = net o L p m
+unfoldable pub queryValue : Opening → Ledger → Query → ℕ
+queryValue o L (limitOf h s) = tierLimit o L (L .tiers .currentTier) h (base o s)
+queryValue o L (heldOn h p m) = held L h p m
+queryValue o L (netOn p m) = net o L p m
 
 -- an answer: accepted, with a list of values, or refused with a number
 pub data Answer : Type 0 where
@@ -53,24 +53,24 @@ done = values []
 abbrev pub value : ℕ → Answer
 value v = values (v ∷ [])
 
--- whoever writes a script asks calls and queries in any order
-pub data Ask : Type 0 where
-  call : Call → Ask
-  query : Query → Ask
+-- a request is a call or a query; a script makes them in any order
+pub data Request : Type 0 where
+  call : Call → Request
+  query : Query → Request
 
-unfoldable pub answer : Opening → Ledger → Ask → Answer
+unfoldable pub answer : Opening → Ledger → Request → Answer
 answer o L (call c) = cond (accepted o L c) done (refused (refusal o L c))
-answer o L (query q) = cond (eqb (queryRefusal o L q) 0) (value (figure o L q)) (refused (queryRefusal o L q))
+answer o L (query q) = cond (eqb (queryRefusal o L q) 0) (value (queryValue o L q)) (refused (queryRefusal o L q))
 
 -- a query changes nothing
-unfoldable pub stepAsk : Opening → Ledger → Ask → Ledger
-stepAsk o L (call c) = step o L c
-stepAsk o L (query q) = L
+unfoldable pub stepRequest : Opening → Ledger → Request → Ledger
+stepRequest o L (call c) = step o L c
+stepRequest o L (query q) = L
 
-unfoldable pub answers : Opening → Ledger → List Ask → List Answer
+unfoldable pub answers : Opening → Ledger → List Request → List Answer
 answers o L [] = []
-answers o L (a ∷ asks) = answer o L a ∷ answers o (stepAsk o L a) asks
+answers o L (a ∷ requests) = answer o L a ∷ answers o (stepRequest o L a) requests
 
--- a whole season: the opening's answer, and those of what is asked after it; nothing is answered past a refused opening
-unfoldable pub season : Opening → List Ask → List Answer
-season o asks = cond (legal o) (done ∷ answers o emptyLedger asks) (refused (openingRefusal o) ∷ [])
+-- a whole season: the opening's answer, and those of the requests after it; nothing is answered past a refused opening
+unfoldable pub season : Opening → List Request → List Answer
+season o requests = cond (legal o) (done ∷ answers o emptyLedger requests) (refused (openingRefusal o) ∷ [])

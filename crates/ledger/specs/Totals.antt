@@ -3,7 +3,7 @@ use Prim.Native.Nat.{ℕ, _+_}
 use mathlib.Core.Bool.{Bool, true, false, cond, _&&_}
 use mathlib.Core.List.{List, [], _∷_}
 use lib.Dec.{eqb}
-use Rattle.tariff.specs.Sum.{countIf}
+use Rattle.tariff.specs.Sum.{whenTrue}
 use Rattle.tariff.specs.Load.{loadPosted}
 use Rattle.tariff.specs.Terms.{termOf, hasMonth}
 use Rattle.ledger.specs.Opening.{Opening, endsAt}
@@ -14,7 +14,7 @@ use Rattle.ledger.specs.Season.{accepted, step}
 -- an amount of each accepted call, read beside the ledger before it, summed along a list
 unfoldable pub sumAccepted : (Ledger → Call → ℕ) → Opening → Ledger → List Call → ℕ
 sumAccepted amount o L [] = 0
-sumAccepted amount o L (c ∷ cs) = countIf (accepted o L c) (amount L c) + sumAccepted amount o (step o L c) cs
+sumAccepted amount o L (c ∷ cs) = whenTrue (accepted o L c) (amount L c) + sumAccepted amount o (step o L c) cs
 
 -- what an accepted call adds to each sum of the list, and whether it ends the open tier
 pub record Contribution : Type 0 where
@@ -35,20 +35,20 @@ none x = 0
 abbrev neither : ℕ → ℕ → ℕ
 neither x y = 0
 
-unfoldable pub nothing : Contribution
-nothing = record { carried = none; awarded = neither; posted = neither; nominated = neither; closes = false }
+unfoldable pub noContribution : Contribution
+noContribution = record { carried = none; awarded = neither; posted = neither; nominated = neither; closes = false }
 
 -- 01, The plain ledger: a load posts at its sink and term, a carry brings in on its path, an award counts on its path in tiers 1 to 3 for every month and else for
 -- the tier's own, a nomination counts at its path's base, a close ends the tier; the other calls add nothing
 unfoldable pub contribution : Opening → Ledger → Call → Contribution
-contribution o L (load h s term contract n blocks) = record { carried = none; awarded = neither; posted = λ q t. countIf (eqb q s && eqb t term) (loadPosted contract blocks); nominated = neither; closes = false }
-contribution o L (carry h p kw) = record { carried = λ q. countIf (eqb q p) kw; awarded = neither; posted = neither; nominated = neither; closes = false }
-contribution o L (prior h p a l) = nothing
-contribution o L (verify h s kind capacity right first last) = nothing
-contribution o L (migrate term sink lines) = nothing
-contribution o L (openTier tier) = nothing
-contribution o L (nominate h p kw) = record { carried = none; awarded = neither; posted = neither; nominated = λ x b. countIf (eqb x h && endsAt o b p) kw; closes = false }
-contribution o L (award h p kw) = record { carried = none; awarded = λ q m. countIf (eqb q p && hasMonth (termOf (L .tiers .openNow)) m) kw; posted = neither; nominated = neither; closes = false }
+contribution o L (load h s term contract n blocks) = record { carried = none; awarded = neither; posted = λ q t. whenTrue (eqb q s && eqb t term) (loadPosted contract blocks); nominated = neither; closes = false }
+contribution o L (carry h p kw) = record { carried = λ q. whenTrue (eqb q p) kw; awarded = neither; posted = neither; nominated = neither; closes = false }
+contribution o L (prior h p a l) = noContribution
+contribution o L (verify h s kind capacity right first last) = noContribution
+contribution o L (migrate term sink lines) = noContribution
+contribution o L (openTier tier) = noContribution
+contribution o L (nominate h p kw) = record { carried = none; awarded = neither; posted = neither; nominated = λ x b. whenTrue (eqb x h && endsAt o b p) kw; closes = false }
+contribution o L (award h p kw) = record { carried = none; awarded = λ q m. whenTrue (eqb q p && hasMonth (termOf (L .tiers .currentTier)) m) kw; posted = neither; nominated = neither; closes = false }
 contribution o L closeTier = record { carried = none; awarded = neither; posted = neither; nominated = neither; closes = true }
 
 -- MW carried in on a path, MW awarded on a path for a month, load posted at a sink and term, from the book's opening on

@@ -1,9 +1,9 @@
--- Source verification of a holder outside the balancing area (01, Tiers, Nominate; cause 11).
+-- Source verification of an OBAALSE (01, Tiers, Nominate; cause 11).
 use Prim.Native.Nat.{ℕ, _+_}
 use mathlib.Core.Bool.{Bool, _&&_, _||_}
 use lib.Dec.{leb, eqb}
 use Rattle.tariff.specs.Sizes.{lastSeasonTier, ownership, contract}
-use Rattle.tariff.specs.Sum.{countIf, sumTo}
+use Rattle.tariff.specs.Sum.{whenTrue, sumTo}
 use Rattle.tariff.specs.Terms.{termOf}
 use Rattle.tariff.specs.Evidence.{entryKw}
 use Rattle.ledger.specs.Opening.{Opening, comesFrom}
@@ -11,20 +11,20 @@ use Rattle.ledger.specs.Ledger.{Ledger}
 
 -- f summed over the paths from this source
 unfoldable pub sumFromSource : Opening → ℕ → (ℕ → ℕ) → ℕ
-sumFromSource o s f = sumTo (o .paths) (λ p. countIf (comesFrom o s p) (f p))
+sumFromSource o s f = sumTo (o .paths) (λ p. whenTrue (comesFrom o s p) (f p))
 
 -- the verified kW for a term: ownership (kind 1) and contract (kind 2) add
 unfoldable pub verifiedKw : Ledger → ℕ → ℕ → ℕ → ℕ
-verifiedKw L h s term = entryKw term (L .papers .entry h s ownership) + entryKw term (L .papers .entry h s contract)
+verifiedKw L h s term = entryKw term (L .evidence .entry h s ownership) + entryKw term (L .evidence .entry h s contract)
 
 -- of the tiers before this one, those whose awards use up its evidence: of the same term, and for a month tiers 1 to 3
-unfoldable pub drawsOnSame : ℕ → ℕ → Bool
-drawsOnSame tier n = leb 1 n && (eqb (termOf n) (termOf tier) || leb n lastSeasonTier)
+unfoldable pub usesSameEvidence : ℕ → ℕ → Bool
+usesSameEvidence tier n = leb 1 n && (eqb (termOf n) (termOf tier) || leb n lastSeasonTier)
 
 -- the holder's awards from the source in those tiers
-unfoldable pub drawnBefore : Opening → Ledger → ℕ → ℕ → ℕ → ℕ
-drawnBefore o L tier h s = sumTo tier (λ n. countIf (drawsOnSame tier n) (sumFromSource o s (λ p. L .tiers .awards h p n)))
+unfoldable pub usedBefore : Opening → Ledger → ℕ → ℕ → ℕ → ℕ
+usedBefore o L tier h s = sumTo tier (λ n. whenTrue (usesSameEvidence tier n) (sumFromSource o s (λ p. L .tiers .awards h p n)))
 
 -- what the holder uses of its evidence for the source in this tier: its nominations, and those awards
-unfoldable pub drawn : Opening → Ledger → ℕ → ℕ → ℕ → ℕ
-drawn o L tier h s = sumFromSource o s (λ p. L .tiers .nominated h p tier) + drawnBefore o L tier h s
+unfoldable pub sourceUsage : Opening → Ledger → ℕ → ℕ → ℕ → ℕ
+sourceUsage o L tier h s = sumFromSource o s (λ p. L .tiers .nominated h p tier) + usedBefore o L tier h s

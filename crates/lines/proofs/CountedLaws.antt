@@ -12,24 +12,24 @@ use lib.Dec.{eqb}
 use borrow.Author.Tests.{eq-eqb, ne-eqb}
 use Rattle.tariff.proofs.Tests.{and-left-false}
 use Rattle.lines.specs.declared.rows.Row.{Row}
-use Rattle.lines.specs.declared.counted.Counted.{Counted}
+use Rattle.lines.specs.declared.counted.CountedLines.{CountedLines}
 use Rattle.lines.specs.declared.lines.NextRow.{NextRow}
 use Rattle.lines.specs.Text.{linesOf}
 use Rattle.lines.specs.Rows.{rowsOf, allOfKind, counted}
 use Rattle.lines.specs.Reading.{firstBytes, nextRow}
 use Rattle.lines.specs.Counted.{bytesOfLines, rowsCounted, countedOf, keptFields, columnLength, columnsPut, roomWith}
-use Rattle.lines.proofs.RowSteps.{first-row, used-within}
+use Rattle.lines.proofs.RowSteps.{first-row, consumed-within}
 use Rattle.lines.proofs.RoomLaws.{row-kept, room-long}
 use Rattle.lines.proofs.KeptFields.{take-more, drop-more, in-list, kinds-more}
 
 -- one line more takes the bytes of the line that comes next
-bytes-more : (k : ℕ) (s : List ℕ) → bytesOfLines (suc k) s ≡ bytesOfLines k s + nextRow (drop (bytesOfLines k s) s) .used
+bytes-more : (k : ℕ) (s : List ℕ) → bytesOfLines (suc k) s ≡ bytesOfLines k s + nextRow (drop (bytesOfLines k s) s) .consumed
 unfolding bytesOfLines
 bytes-more zero s = omega arith
 bytes-more (suc k) s =
-    let u = nextRow s .used in
+    let u = nextRow s .consumed in
     let later = bytes-more k (drop u s) in
-    let same = ap (λ t. nextRow t .used) (drop-drop (bytesOfLines k (drop u s)) u s) in
+    let same = ap (λ t. nextRow t .consumed) (drop-drop (bytesOfLines k (drop u s)) u s) in
     omega arith
 
 -- past the last byte there is nothing more
@@ -44,76 +44,76 @@ bytes-all zero n [] a b = sym (nothing-left n)
 bytes-all zero n (x ∷ s) a b = absurd (let z : ⊥ = omega arith in z)
 bytes-all (suc m) zero s a b = absurd (let z : ⊥ = omega arith in z)
 bytes-all (suc m) (suc n) s a b =
-    let u = nextRow s .used in
+    let u = nextRow s .consumed in
     let left = length-drop u s in
     ap (λ t. u + t) (bytes-all m n (drop u s) (omega arith) (omega arith))
 
 -- what is known when k lines have been read
-pub record SoFar (s : List ℕ) (kind count k used : ℕ) (whole : Bool) : Type 0 where
+pub record SoFar (s : List ℕ) (kind count k consumed : ℕ) (complete : Bool) : Type 0 where
   pub upTo : k ≤ count
-  pub left : rowsOf (drop used s) ≡ drop k (rowsOf s)
+  pub left : rowsOf (drop consumed s) ≡ drop k (rowsOf s)
   pub inRows : k ≤ length (rowsOf s)
-  pub bytes : used ≡ bytesOfLines k s
-  pub inBytes : used ≤ length s
-  pub kinds : whole ≡ allOfKind kind (take k (rowsOf s))
+  pub bytes : consumed ≡ bytesOfLines k s
+  pub inBytes : consumed ≤ length s
+  pub kinds : complete ≡ allOfKind kind (take k (rowsOf s))
 
 pub none-read : (s : List ℕ) (kind count : ℕ) → SoFar s kind count 0 0 true
 unfolding bytesOfLines allOfKind
 none-read s kind count = record { upTo = zero-le; left = refl; inRows = zero-le; bytes = refl; inBytes = zero-le; kinds = refl }
 
-module _ (s : List ℕ) (kind count k used : ℕ) (whole : Bool) (f : SoFar s kind count k used whole) where
+module _ (s : List ℕ) (kind count k consumed : ℕ) (complete : Bool) (f : SoFar s kind count k consumed complete) where
   abbrev rest : List ℕ
-  rest = drop used s
+  rest = drop consumed s
 
   abbrev next : Row
   next = nextRow rest .row
 
-  module _ (some : used < length s) where
+  module _ (some : consumed < length s) where
     left-some : 1 ≤ length rest
-    left-some = let len = length-drop used s in omega arith
+    left-some = let len = length-drop consumed s in omega arith
 
     -- the next row is the k-th
-    here : drop k (rowsOf s) ≡ (next ∷ rowsOf (drop (nextRow rest .used) rest))
+    here : drop k (rowsOf s) ≡ (next ∷ rowsOf (drop (nextRow rest .consumed) rest))
     here = sym (f .left) ∙ first-row rest left-some
 
     row-below : k < length (rowsOf s)
-    row-below = in-list k (rowsOf s) next (rowsOf (drop (nextRow rest .used) rest)) here
+    row-below = in-list k (rowsOf s) next (rowsOf (drop (nextRow rest .consumed) rest)) here
 
     -- a line that is counted finds room in columns that have it for all of these
     pub line-fits : (n : ℕ) → length (rowsCounted count s) ≤ n → k < count → k < n
     unfolding rowsCounted
     line-fits n fits l = let all = length-take count (rowsOf s) in let below = row-below in omega arith
 
-    next-within : used + nextRow rest .used ≤ length s
-    next-within = let u = used-within rest in let len = length-drop used s in omega arith
+    next-within : consumed + nextRow rest .consumed ≤ length s
+    next-within = let u = consumed-within rest in let len = length-drop consumed s in omega arith
 
     one-more : take (suc k) (rowsOf s) ≡ take k (rowsOf s) ++ (next ∷ [])
-    one-more = take-more k (rowsOf s) next (rowsOf (drop (nextRow rest .used) rest)) here
+    one-more = take-more k (rowsOf s) next (rowsOf (drop (nextRow rest .consumed) rest)) here
 
-    read-more : k < count → SoFar s kind count (k + 1) (used + nextRow rest .used) (whole && eqb (next .kind) kind)
+    read-more : k < count → SoFar s kind count (k + 1) (consumed + nextRow rest .consumed) (complete && eqb (next .kind) kind)
     read-more l =
         record {
           upTo = omega arith;
-          left = ap rowsOf (sym (drop-drop (nextRow rest .used) used s)) ∙ sym (drop-more k (rowsOf s) next (rowsOf (drop (nextRow rest .used) rest)) here) ∙ ap (λ n. drop n (rowsOf s)) (sym (add-one k));
+          left = ap rowsOf (sym (drop-drop (nextRow rest .consumed) consumed s)) ∙ sym (drop-more k (rowsOf s) next (rowsOf (drop (nextRow rest .consumed) rest)) here) ∙ ap (λ n. drop n (rowsOf s)) (sym (add-one k));
           inRows = let below = row-below in omega arith;
-          bytes = (λ i. f .bytes i + nextRow (drop (f .bytes i) s) .used) ∙ sym (bytes-more k s) ∙ ap (λ n. bytesOfLines n s) (sym (add-one k));
+          bytes = (λ i. f .bytes i + nextRow (drop (f .bytes i) s) .consumed) ∙ sym (bytes-more k s) ∙ ap (λ n. bytesOfLines n s) (sym (add-one k));
           inBytes = next-within;
           kinds = (λ i. f .kinds i && eqb (next .kind) kind) ∙ sym (kinds-more kind (take k (rowsOf s)) next) ∙ ap (allOfKind kind) (sym one-more) ∙ ap (λ n. allOfKind kind (take n (rowsOf s))) (sym (add-one k));
         }
 
     -- the same of a row that was read there, from the part of the bytes that begins there
-    module _ (x : NextRow) (read : x ≡ nextRow (take (length s - used) rest)) where
+    module _ (x : NextRow) (read : x ≡ nextRow (take (length s - consumed) rest)) where
       e : x ≡ nextRow rest
-      e = read ∙ ap nextRow (take-all (length s - used) rest (let len = length-drop used s in omega arith))
+      e = read ∙ ap nextRow (take-all (length s - consumed) rest (let len = length-drop consumed s in omega arith))
 
-      pub turn : k < count → SoFar s kind count (k + 1) (used + x .used) (whole && eqb (x .row .kind) kind)
-      turn l = subst (λ y. SoFar s kind count (k + 1) (used + y .used) (whole && eqb (y .row .kind) kind)) (sym e) (read-more l)
+      pub turn : k < count → SoFar s kind count (k + 1) (consumed + x .consumed) (complete && eqb (x .row .kind) kind)
+      turn l = subst (λ y. SoFar s kind count (k + 1) (consumed + y .consumed) (complete && eqb (y .row .kind) kind)) (sym e) (read-more l)
 
       -- the rows with one more
       pub turn-rows : take (k + 1) (rowsOf s) ≡ take k (rowsOf s) ++ (x .row ∷ [])
       turn-rows = ap (λ n. take n (rowsOf s)) (add-one k) ∙ one-more ∙ ap (λ y. take k (rowsOf s) ++ (y .row ∷ [])) (sym e)
 
-      -- its fields are kept behind those before it
+      -- its fields are kept after those before it
       pub turn-kept : (room old new : List ℕ) → length (rowsCounted count s) ≤ columnLength room → k < count → old ≡ roomWith (take k (rowsOf s)) room → new ≡ columnsPut keptFields 0 (columnLength room) k (x .row) old → new ≡ roomWith (take (k + 1) (rowsOf s)) room
       turn-kept room old new fits l kept stored =
           let many = length-take-le k (rowsOf s) (f .inRows) in
@@ -123,8 +123,8 @@ module _ (s : List ℕ) (kind count k used : ℕ) (whole : Bool) (f : SoFar s ki
           ∙ row-kept (take k (rowsOf s)) (x .row) room (omega arith)
           ∙ ap (λ rows. roomWith rows room) (sym turn-rows)
 
-      pub turn-within : used + x .used ≤ length s
-      turn-within = le-trans (le-of-eq (ap (λ y. used + y .used) e)) next-within
+      pub turn-within : consumed + x .consumed ≤ length s
+      turn-within = le-trans (le-of-eq (ap (λ y. consumed + y .consumed) e)) next-within
 
   -- the room keeps its length
   pub room-length : (room old : List ℕ) → length (rowsCounted count s) ≤ columnLength room → old ≡ roomWith (take k (rowsOf s)) room → length old ≡ length room
@@ -137,7 +137,7 @@ module _ (s : List ℕ) (kind count k used : ℕ) (whole : Bool) (f : SoFar s ki
       ap length kept ∙ room-long (take k (rowsOf s)) room (omega arith)
 
   -- where the bytes run out the lines that are left are all there are
-  module _ (none : length s ≤ used) (short : k < count) where
+  module _ (none : length s ≤ consumed) (short : k < count) where
     all-rows : length (rowsOf s) ≤ k
     unfolding rowsOf linesOf
     all-rows =
@@ -150,31 +150,31 @@ module _ (s : List ℕ) (kind count k used : ℕ) (whole : Bool) (f : SoFar s ki
     unfolding rowsCounted
     rows-cut = take-all k (rowsOf s) all-rows ∙ sym (take-all count (rowsOf s) (let few = all-rows in omega arith))
 
-    pub cut-short : _≡_ {A = Counted} (record { whole = false; used = used }) (countedOf kind count s)
+    pub cut-short : _≡_ {A = CountedLines} (record { complete = false; consumed = consumed }) (countedOf kind count s)
     unfolding countedOf counted rowsCounted
     cut-short =
         let few = all-rows in
         let all = ap length (take-all count (rowsOf s) (omega arith)) in
-        λ i. record { whole = sym (and-left-false (allOfKind kind (take count (rowsOf s))) (ne-eqb (length (take count (rowsOf s))) count (λ e. omega (arith, e)))) i; used = (f .bytes ∙ bytes-all k count s (let same = f .bytes in omega arith) (omega arith)) i }
+        λ i. record { complete = sym (and-left-false (allOfKind kind (take count (rowsOf s))) (ne-eqb (length (take count (rowsOf s))) count (λ e. omega (arith, e)))) i; consumed = (f .bytes ∙ bytes-all k count s (let same = f .bytes in omega arith) (omega arith)) i }
 
     pub room-all : (room old : List ℕ) → old ≡ roomWith (take k (rowsOf s)) room → old ≡ roomWith (rowsCounted count s) room
     room-all room old e = e ∙ ap (λ rows. roomWith rows room) rows-cut
 
   -- where all are read
   module _ (done : count ≤ k) where
-    reached-count : k ≡ count
-    reached-count = let up = f .upTo in omega arith
+    at-count : k ≡ count
+    at-count = let up = f .upTo in omega arith
 
-    pub all-read : _≡_ {A = Counted} (record { whole = whole; used = used }) (countedOf kind count s)
+    pub all-read : _≡_ {A = CountedLines} (record { complete = complete; consumed = consumed }) (countedOf kind count s)
     unfolding countedOf counted rowsCounted
     all-read =
-        let same = reached-count in
+        let same = at-count in
         let many = length-take-le count (rowsOf s) (let few = f .inRows in omega arith) in
-        λ i. record { whole = (f .kinds ∙ ap (λ n. allOfKind kind (take n (rowsOf s))) same ∙ sym (ap (λ t. t && allOfKind kind (take count (rowsOf s))) (eq-eqb (length (take count (rowsOf s))) count many))) i; used = (f .bytes ∙ ap (λ n. bytesOfLines n s) same) i }
+        λ i. record { complete = (f .kinds ∙ ap (λ n. allOfKind kind (take n (rowsOf s))) same ∙ sym (ap (λ t. t && allOfKind kind (take count (rowsOf s))) (eq-eqb (length (take count (rowsOf s))) count many))) i; consumed = (f .bytes ∙ ap (λ n. bytesOfLines n s) same) i }
 
     pub rows-read : take k (rowsOf s) ≡ rowsCounted count s
     unfolding rowsCounted
-    rows-read = ap (λ n. take n (rowsOf s)) reached-count
+    rows-read = ap (λ n. take n (rowsOf s)) at-count
 
     pub room-read : (room old : List ℕ) → old ≡ roomWith (take k (rowsOf s)) room → old ≡ roomWith (rowsCounted count s) room
     room-read room old e = e ∙ ap (λ rows. roomWith rows room) rows-read

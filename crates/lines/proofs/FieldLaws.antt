@@ -10,8 +10,8 @@ use borrow.Author.Tests.{le-leb, lt-leb, leb-true, ltb-true, ltb-false, ne-eqb}
 use lib.ListN.{length, getD, take, drop, set, length-map, length-drop, drop-of-length-le, List·getD-eq-default, List·getD-append}
 use lib.Seq.{take-all, sets, sets-eq, length-sets, getD-append-add, getD-drop, drop-drop}
 use lib.Dec.{eqb, leb, ltb}
-use Rattle.tariff.specs.Sum.{listTo, anyOf}
-use Rattle.tariff.proofs.Lists.{length-list-to, at-list-to, list-is}
+use Rattle.tariff.specs.Sum.{tabulate, anyOf}
+use Rattle.tariff.proofs.Lists.{length-tabulate, at-tabulate, list-is}
 use Rattle.tariff.proofs.Tests.{decided, both-ways, and-both, and-left-false, and-right-false}
 use Rattle.lines.specs.declared.text.Field.{Field}
 use Rattle.lines.specs.declared.rows.Fields.{Fields}
@@ -20,7 +20,7 @@ use Rattle.lines.specs.Rows.{maxFields, allNumbers}
 use Rattle.lines.specs.Reading.{lengthUpTo, leading, leadingDigits, fieldAt, fieldsAfter, lineText, fieldEnds, hasFeed, fieldsIf, fieldsRead, noFields}
 use Rattle.lines.proofs.TextLaws.{at-byte}
 use Rattle.lines.proofs.LineFields.{fieldLength, firstField, first-length, line-fields, feed-after, up-to-after}
-use Rattle.lines.proofs.LeadingLaws.{leading-field, field-leading, field-goes-on}
+use Rattle.lines.proofs.LeadingLaws.{leading-field, field-leading, field-continues}
 use Rattle.lines.proofs.NumberLaws.{digit-inside, digits-more, number-fits, field-valid, field-invalid}
 
 -- a part of a line up to its end
@@ -29,7 +29,7 @@ rest-whole text from = take-all (length text - from) (drop from text) (let left 
 
 -- no number read yet
 unfoldable pub zeros : List ℕ
-zeros = listTo maxFields (λ k. 0)
+zeros = tabulate maxFields (λ k. 0)
 
 -- fields and their numbers, none where a test fails
 unfoldable pub fieldsWhere : Bool → ℕ → List ℕ → ℕ → Fields
@@ -45,14 +45,14 @@ readFrom count numbers at bytes = restIf (fieldEnds bytes && hasFeed bytes) coun
 
 long : length zeros ≡ maxFields
 unfolding zeros
-long = length-list-to maxFields (λ k. 0)
+long = length-tabulate maxFields (λ k. 0)
 
 zeros-at : (k : ℕ) → getD zeros k 0 ≡ 0
 unfolding zeros
-zeros-at k = ⊎-elim (λ b. at-list-to {A = ℕ} maxFields (λ k. 0) 0 k (ltb-true k maxFields b)) (λ b. let past = ltb-false k maxFields b in List·getD-eq-default {A = ℕ} zeros 0 {n = k} (omega (arith, long))) (decided (ltb k maxFields))
+zeros-at k = ⊎-elim (λ b. at-tabulate {A = ℕ} maxFields (λ k. 0) 0 k (ltb-true k maxFields b)) (λ b. let past = ltb-false k maxFields b in List·getD-eq-default {A = ℕ} zeros 0 {n = k} (omega (arith, long))) (decided (ltb k maxFields))
 
 -- numbers stored from the first place on are the numbers, and 0 past the last
-stored : (values : List ℕ) → length values ≤ maxFields → sets zeros 0 values ≡ listTo maxFields (λ k. getD values k 0)
+stored : (values : List ℕ) → length values ≤ maxFields → sets zeros 0 values ≡ tabulate maxFields (λ k. getD values k 0)
 stored values l = list-is maxFields (λ k. getD values k 0) (sets zeros 0 values) (length-sets zeros 0 values ∙ long) (λ k b. ap (λ xs. getD xs k 0) (sets-eq values zeros 0 (omega (arith, long))) ∙ at k)
   where
     at : (k : ℕ) → getD (values ++ drop (0 + length values) zeros) k 0 ≡ getD values k 0
@@ -74,7 +74,7 @@ started readable fields end =
     go (readable && allNumbers fields && leb (length fields) maxFields) refl
     ∙ ap (λ n. fieldsWhere (readable && allNumbers fields && leb n maxFields) n (sets zeros 0 (map valueOf fields)) end) none
   where
-    go : (t : Bool) → (readable && allNumbers fields && leb (length fields) maxFields) ≡ t → fieldsWhere t (length fields) (listTo maxFields (λ k. getD (map valueOf fields) k 0)) end ≡ fieldsWhere t (length fields) (sets zeros 0 (map valueOf fields)) end
+    go : (t : Bool) → (readable && allNumbers fields && leb (length fields) maxFields) ≡ t → fieldsWhere t (length fields) (tabulate maxFields (λ k. getD (map valueOf fields) k 0)) end ≡ fieldsWhere t (length fields) (sets zeros 0 (map valueOf fields)) end
     go true e =
         let few = leb-true (length fields) maxFields (and-both (readable && allNumbers fields) (leb (length fields) maxFields) e .1) in
         let same = length-map fields valueOf in
@@ -143,7 +143,7 @@ module _ (count : ℕ) (numbers : List ℕ) (at : ℕ) (bytes : List ℕ) where
   number-ends q = go (decided (isNumber (firstField bytes)))
     where
       go : (isNumber (firstField bytes) ≡ true) ⊎ (isNumber (firstField bytes) ≡ false) → isNumber (firstField bytes) ≡ false
-      go (inl is) = absurd (both-ways (number-fits (firstField bytes) is) (field-goes-on isDigit digit-inside allDigits digits-more maxDigits bytes q))
+      go (inl is) = absurd (both-ways (number-fits (firstField bytes) is) (field-continues isDigit digit-inside allDigits digits-more maxDigits bytes q))
       go (inr none) = none
 
   comma-number : isNumber (leadingDigits bytes) ≡ true → readFrom count numbers at (comma ∷ bytes) ≡ readFrom (count + 1) (set numbers count (valueOf (leadingDigits bytes))) (at + 1 + length (leadingDigits bytes)) (drop (length (leadingDigits bytes)) bytes)
@@ -193,8 +193,8 @@ module _ (rest : List ℕ) (start at count : ℕ) (numbers : List ℕ) (passed :
       pub stops-at-none : f .valid ≡ false → noFields ≡ fieldsRead start (drop start rest)
       stops-at-none v = sym (here comma l e ∙ comma-no-number count numbers at _ (field-invalid _ _ f read v))
 
-      pub goes-on : f .valid ≡ true → fieldsRead start (drop start rest) ≡ readFrom (count + 1) (set numbers count (f .value)) (f .end) (drop (f .end) rest)
-      goes-on v =
+      pub continues : f .valid ≡ true → fieldsRead start (drop start rest) ≡ readFrom (count + 1) (set numbers count (f .value)) (f .end) (drop (f .end) rest)
+      continues v =
           let number = field-valid _ _ f read v in
           here comma l e
           ∙ comma-number count numbers at (drop (at + 1) rest) (number .0)

@@ -48,7 +48,7 @@ unfolding allOfKind
 kinds-more kind [] r = and-true (eqb (r .kind) kind)
 kinds-more kind (x ∷ rows) r = ap (λ t. eqb (x .kind) kind && t) (kinds-more kind rows r) ∙ sym (and-assoc (eqb (x .kind) kind) (allOfKind kind rows) (eqb (r .kind) kind))
 
--- the next row's field stored behind those of the rows before it
+-- the next row's field stored after those of the rows before it
 pub field-more : (j : ℕ) (rows : List Row) (r : Row) (numbers : List ℕ) → length rows < length numbers → set (withField j rows numbers) (length rows) (field j r) ≡ withField j (rows ++ (r ∷ [])) numbers
 unfolding withField
 field-more j rows r numbers l =

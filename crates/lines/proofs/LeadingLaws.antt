@@ -22,11 +22,11 @@ module _ (length from most : ℕ) (l : from ≤ length) where
     where
       go : (t : Bool) → ltb most (length - from) ≡ t → (from ≤ cond t (from + most) length) × (cond t (from + most) length ≤ length) × (cond t (from + most) length ≤ from + most)
       go true e = let more = ltb-true most (length - from) e in (omega arith, omega arith, omega arith)
-      go false e = let less = ltb-false most (length - from) e in (omega arith, omega arith, omega arith)
+      go false e = let below = ltb-false most (length - from) e in (omega arith, omega arith, omega arith)
 
-  limit-reached : (i : ℕ) → readingLimit length from most ≤ i → (length ≤ i) ⊎ (from + most ≤ i)
+  limit-met : (i : ℕ) → readingLimit length from most ≤ i → (length ≤ i) ⊎ (from + most ≤ i)
   unfolding readingLimit
-  limit-reached i = go (ltb most (length - from))
+  limit-met i = go (ltb most (length - from))
     where
       go : (t : Bool) → cond t (from + most) length ≤ i → (length ≤ i) ⊎ (from + most ≤ i)
       go true p = inr p
@@ -99,7 +99,7 @@ module _ (test : ℕ → Bool) (bytes : List ℕ) (from most i : ℕ) where
 
   leading-ends : from ≤ length bytes → readingLimit (length bytes) from most ≤ i → leading test (from + most - i) (drop i bytes) ≡ []
   unfolding leading
-  leading-ends l p = go (limit-reached (length bytes) from most l i p)
+  leading-ends l p = go (limit-met (length bytes) from most l i p)
     where
       go : (length bytes ≤ i) ⊎ (from + most ≤ i) → leading test (from + most - i) (drop i bytes) ≡ []
       go (inl q) = ap (leading test (from + most - i)) (drop-of-length-le bytes q)
@@ -201,8 +201,8 @@ module _ (test : ℕ → Bool) (inside : (b : ℕ) → test b ≡ true → (eqb 
           absurd (both-ways (and-both (test b) (all tail) (sym (all-more b tail) ∙ both .1) .0) p)
 
   -- where the field goes on after them, it is too long or has another byte
-  pub field-goes-on : (most : ℕ) (bytes : List ℕ) → fieldEnds (drop (length (leading test most bytes)) bytes) ≡ false → (leb (length (firstField bytes)) most && all (firstField bytes)) ≡ false
-  field-goes-on most bytes e = go (decided (leb (length (firstField bytes)) most && all (firstField bytes)))
+  pub field-continues : (most : ℕ) (bytes : List ℕ) → fieldEnds (drop (length (leading test most bytes)) bytes) ≡ false → (leb (length (firstField bytes)) most && all (firstField bytes)) ≡ false
+  field-continues most bytes e = go (decided (leb (length (firstField bytes)) most && all (firstField bytes)))
     where
       go : ((leb (length (firstField bytes)) most && all (firstField bytes)) ≡ true) ⊎ ((leb (length (firstField bytes)) most && all (firstField bytes)) ≡ false) → (leb (length (firstField bytes)) most && all (firstField bytes)) ≡ false
       go (inl fit) = absurd (both-ways (ap (λ n. fieldEnds (drop n bytes)) (ap length (field-leading most bytes fit) ∙ first-length bytes) ∙ field-ended bytes) e)

@@ -64,7 +64,7 @@ first-of b bytes = ⊎-elim (λ t. end-at (ltb-true n (length rest) t)) (λ t. w
         with-end (take n rest) (line-ended rest l ∙ ap (λ k. ended (take n rest) ∷ linesOf (drop k rest)) after) (omega arith)
 
 module _ (b : ℕ) (bytes : List ℕ) where
-  pub next-rows : rowsOf (b ∷ bytes) ≡ nextRow (b ∷ bytes) .row ∷ rowsOf (drop (nextRow (b ∷ bytes) .used) (b ∷ bytes))
+  pub next-rows : rowsOf (b ∷ bytes) ≡ nextRow (b ∷ bytes) .row ∷ rowsOf (drop (nextRow (b ∷ bytes) .consumed) (b ∷ bytes))
   unfolding rowsOf nextRow firstRow firstBytes linesOf
   next-rows = go (first-of b bytes)
     where
@@ -75,7 +75,7 @@ module _ (b : ℕ) (bytes : List ℕ) where
       go (with-end text e l) = both _ e refl
       go (without l e) = both _ e (ap (λ left. rowOf (unended (b ∷ bytes)) ∷ map rowOf (linesOf left)) (sym (drop-length (b ∷ bytes))))
 
-  pub next-some : 1 ≤ nextRow (b ∷ bytes) .used
+  pub next-some : 1 ≤ nextRow (b ∷ bytes) .consumed
   unfolding nextRow firstBytes
   next-some = go (first-of b bytes)
     where
@@ -83,7 +83,7 @@ module _ (b : ℕ) (bytes : List ℕ) where
       go (with-end text e l) = subst (λ ls. 1 ≤ firstBytes ls) (sym e) (omega arith)
       go (without l e) = subst (λ ls. 1 ≤ firstBytes ls) (sym e) (omega arith)
 
-  pub next-fits : nextRow (b ∷ bytes) .used ≤ length (b ∷ bytes)
+  pub next-fits : nextRow (b ∷ bytes) .consumed ≤ length (b ∷ bytes)
   unfolding nextRow firstBytes
   next-fits = go (first-of b bytes)
     where

@@ -12,7 +12,7 @@ use lib.Seq.{getD-drop, take-all}
 use lib.Dec.{eqb, leb}
 use Rattle.tariff.specs.Ranges.{within}
 use Rattle.tariff.proofs.Tests.{decided, both-ways, and-both, and-join, and-left-false, and-right-false}
-use Rattle.lines.specs.declared.text.Numeral.the-variants.{No, Value}
+use Rattle.lines.specs.declared.text.Numeral.the-variants.{Invalid, Value}
 use Rattle.lines.specs.declared.text.Token.{Token}
 use Rattle.lines.specs.declared.text.Field.{Field}
 use Rattle.lines.specs.Text.{lineFeed, comma, isDigit, allDigits, maxDigits, isNumber, valueAfter, valueOf}
@@ -40,8 +40,8 @@ power-more v d from i q l m =
 pub power-none : (from : ℕ) → 0 < 10 ^ (from - from)
 power-none from = let none : from - from ≡ 0 = omega arith in subst (λ k. 0 < 10 ^ k) (sym none) (omega arith)
 
-pub power-most : (v i n : ℕ) → v < 10 ^ i → i ≤ n → v < 10 ^ n
-power-most v i n l m = let p : 10 ^ i ≤ 10 ^ n = pow-le-pow-right (zero-lt-suc 9) m in omega arith
+pub power-max : (v i n : ℕ) → v < 10 ^ i → i ≤ n → v < 10 ^ n
+power-max v i n l m = let p : 10 ^ i ≤ 10 ^ n = pow-le-pow-right (zero-lt-suc 9) m in omega arith
 
 -- one digit, or a first byte other than 0: no leading zero
 one-digit : (field : List ℕ) → 1 ≤ length field → length field ≤ 1 → (eqb (length field) 1 || not (eqb (getD field 0 0) 48)) ≡ true
@@ -174,7 +174,7 @@ digits-within bytes from digits read l =
     let left = length-drop from bytes in
     (omega arith, omega arith)
 
--- what is found at a place tells whether its digits are a number, and which
+-- what is found at a place says whether its digits are a number, and which
 module _ (from : ℕ) (bytes : List ℕ) (f : Field) (read : f ≡ fieldAt from bytes) where
   field : Bool → Field
   field t = cond t (record { valid = true; value = valueOf (leadingDigits bytes); end = from + length (leadingDigits bytes) }) noField
@@ -197,9 +197,9 @@ module _ (from : ℕ) (bytes : List ℕ) (f : Field) (read : f ≡ fieldAt from 
 
 -- all digits of a field are read, or it is no number
 module _ (bytes : List ℕ) (f : Field) (read : f ≡ fieldAt 0 bytes) where
-  none : (isNumber bytes ≡ true → ⊥) → No ≡ numeral bytes
+  none : (isNumber bytes ≡ true → ⊥) → Invalid ≡ numeral bytes
   unfolding numeral
-  none other = sym (ap (λ t. cond t (Value (valueOf bytes)) No) (go (decided (isNumber bytes))))
+  none other = sym (ap (λ t. cond t (Value (valueOf bytes)) Invalid) (go (decided (isNumber bytes))))
     where
       go : (isNumber bytes ≡ true) ⊎ (isNumber bytes ≡ false) → isNumber bytes ≡ false
       go (inl is) = absurd (other is)
@@ -210,10 +210,10 @@ module _ (bytes : List ℕ) (f : Field) (read : f ≡ fieldAt 0 bytes) where
   unfolding leadingDigits
   all-digits is = let both = and-both (leb (length bytes) maxDigits) (allDigits bytes) (number-fits bytes is) in all-leading isDigit allDigits digits-none digits-more maxDigits bytes (leb-true (length bytes) maxDigits (both .0)) (both .1)
 
-  pub numeral-invalid : f .valid ≡ false → No ≡ numeral bytes
+  pub numeral-invalid : f .valid ≡ false → Invalid ≡ numeral bytes
   numeral-invalid v = none (λ is. both-ways (ap isNumber (all-digits is) ∙ is) (field-invalid 0 bytes f read v))
 
-  pub numeral-part : f .valid ≡ true → f .end < length bytes → No ≡ numeral bytes
+  pub numeral-part : f .valid ≡ true → f .end < length bytes → Invalid ≡ numeral bytes
   numeral-part v l = none (λ is. let all = ap length (all-digits is) in let end = field-valid 0 bytes f read v .2 in omega arith)
 
   pub numeral-read : f .valid ≡ true → length bytes ≤ f .end → Value (f .value) ≡ numeral bytes
@@ -222,4 +222,4 @@ module _ (bytes : List ℕ) (f : Field) (read : f ≡ fieldAt 0 bytes) where
       let found = field-valid 0 bytes f read v in
       let end = found .2 in
       let all : leading isDigit maxDigits bytes ≡ bytes = leading-take isDigit maxDigits bytes ∙ take-all (length (leading isDigit maxDigits bytes)) bytes (omega arith) in
-      ap Value (found .1 ∙ ap valueOf all) ∙ sym (ap (λ t. cond t (Value (valueOf bytes)) No) (sym (ap isNumber all) ∙ found .0))
+      ap Value (found .1 ∙ ap valueOf all) ∙ sym (ap (λ t. cond t (Value (valueOf bytes)) Invalid) (sym (ap isNumber all) ∙ found .0))

@@ -8,7 +8,7 @@ use native.Mathlib.Omega.{arith}
 use borrow.Author.Tests.{eq-eqb, ne-eqb, leb-true, leb-false, le-leb}
 use lib.ListN.{length, getD, drop}
 use lib.Dec.{leb}
-use Rattle.tariff.specs.Sum.{listTo}
+use Rattle.tariff.specs.Sum.{tabulate}
 use Rattle.tariff.proofs.Tests.{decided, both-ways, and-both, and-join}
 use Rattle.lines.specs.declared.text.Token.{Token}
 use Rattle.lines.specs.declared.rows.Fields.{Fields}
@@ -17,13 +17,13 @@ use Rattle.lines.specs.Rows.{maxFields, kindOf, allNumbers, row, unreada
 use Rattle.lines.specs.Reading.{lengthUpTo, leading, fieldsAfter, lineText, fieldEnds, hasFeed, fieldsIf, fieldsRead, noFields, firstRow, firstBytes, nextRow, unreadableLine}
 use Rattle.lines.specs.Words.{maxLetters, isLetter, allLetters, letterKey, keyLimit, leadingLetters, wordAt, isWord, wordKey}
 use Rattle.lines.proofs.LineFields.{fieldLength, firstField, first-length, line-fields, feed-after, up-to-after, feed-found}
-use Rattle.lines.proofs.LeadingLaws.{leading-few, leading-all, leading-field, field-goes-on}
+use Rattle.lines.proofs.LeadingLaws.{leading-few, leading-all, leading-field, field-continues}
 use Rattle.lines.proofs.WordLaws.{letter-inside, letters-none, letters-more, key-small, no-form, no-word}
 use Rattle.lines.proofs.NextRowLaws.{ended-bytes, ended-row, unended-row}
 
 -- the values of fields, 0 past the last
 values : List (List ℕ) → List ℕ
-values fields = listTo maxFields (λ k. getD (map valueOf fields) k 0)
+values fields = tabulate maxFields (λ k. getD (map valueOf fields) k 0)
 
 -- a row of no kind
 no-kind : (kind : ℕ) (numbers : List ℕ) → 0 ≡ kind → rowIf kind numbers ≡ unreadableRow
@@ -38,7 +38,7 @@ no-row word fields e = go (allNumbers fields)
     go true = no-kind (kindOf word (length fields)) (map valueOf fields) e
     go false = refl
 
--- what the reading of fields tells
+-- what the reading of fields gives
 record Readable (readable : Bool) (fields : List (List ℕ)) (end : ℕ) (f : Fields) : Type 0 where
   before-feed : readable ≡ true
   all-numbers : allNumbers fields ≡ true
@@ -118,17 +118,17 @@ module _ (rest : List ℕ) (word : Token) (f : Fields) (spelt : word ≡ wordAt 
     feed-at = up-to-after rest ∙ ap (λ n. n + lengthUpTo lineFeed (drop n rest)) width
 
   -- or goes on, and is none
-  goes-on : fieldEnds bytes ≡ false → rowOfFields (fieldsOf (lineText rest)) ≡ unreadableRow
+  continues : fieldEnds bytes ≡ false → rowOfFields (fieldsOf (lineText rest)) ≡ unreadableRow
   unfolding isWord letters bytes
-  goes-on e = ap rowOfFields (line-fields rest) ∙ no-row (firstField rest) _ (no-word (firstField rest) _ (field-goes-on isLetter letter-inside allLetters letters-more maxLetters rest e))
+  continues e = ap rowOfFields (line-fields rest) ∙ no-row (firstField rest) _ (no-word (firstField rest) _ (field-continues isLetter letter-inside allLetters letters-more maxLetters rest e))
 
   pub fields-unread : f .readable ≡ false → unreadableLine rest ≡ nextRow rest
   unfolding unreadableLine nextRow
-  fields-unread r = ap (λ q. record { row = q; used = firstBytes (linesOf rest) }) (sym (go (decided (hasFeed rest)) (decided (fieldEnds bytes))))
+  fields-unread r = ap (λ q. record { row = q; consumed = firstBytes (linesOf rest) }) (sym (go (decided (hasFeed rest)) (decided (fieldEnds bytes))))
     where
       go : (hasFeed rest ≡ true) ⊎ (hasFeed rest ≡ false) → (fieldEnds bytes ≡ true) ⊎ (fieldEnds bytes ≡ false) → firstRow (linesOf rest) ≡ unreadableRow
       go (inr none) e = unended-row rest none
-      go (inl fd) (inr e) = ended-row rest fd ∙ goes-on e
+      go (inl fd) (inr e) = ended-row rest fd ∙ continues e
       go (inl fd) (inl e) = ended-row rest fd ∙ ap rowOfFields (parted e) ∙ are-unreadable _ fields _ f read-there letters (and-join e (sym (fed e) ∙ fd)) r
 
   module _ (r : f .readable ≡ true) where
@@ -161,10 +161,10 @@ module _ (rest : List ℕ) (word : Token) (f : Fields) (spelt : word ≡ wordAt 
 
       pub word-unknown : kind ≡ 0 → unreadableLine rest ≡ nextRow rest
       unfolding unreadableLine nextRow
-      word-unknown z = ap (λ q. record { row = q; used = firstBytes (linesOf rest) }) (sym (first ∙ no-kind kind (map valueOf fields) (sym z)))
+      word-unknown z = ap (λ q. record { row = q; consumed = firstBytes (linesOf rest) }) (sym (first ∙ no-kind kind (map valueOf fields) (sym z)))
 
-      pub row-read : (kind ≡ 0 → ⊥) → record { row = record { kind = kind; fields = f .numbers }; used = f .end + 1 } ≡ nextRow rest
+      pub row-read : (kind ≡ 0 → ⊥) → record { row = record { kind = kind; fields = f .numbers }; consumed = f .end + 1 } ≡ nextRow rest
       unfolding nextRow rowIf row values
       row-read z =
-          ap₂ (λ ns n. record { row = record { kind = kind; fields = ns }; used = n }) (facts .valued) (ended-bytes rest (f .end) at-feed end-within)
-          ∙ ap (λ q. record { row = q; used = firstBytes (linesOf rest) }) (sym (first ∙ ap (λ t. cond t unreadableRow (row kind (map valueOf fields))) (ne-eqb kind 0 z)))
+          ap₂ (λ ns n. record { row = record { kind = kind; fields = ns }; consumed = n }) (facts .valued) (ended-bytes rest (f .end) at-feed end-within)
+          ∙ ap (λ q. record { row = q; consumed = firstBytes (linesOf rest) }) (sym (first ∙ ap (λ t. cond t unreadableRow (row kind (map valueOf fields))) (ne-eqb kind 0 z)))

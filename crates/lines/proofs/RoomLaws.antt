@@ -31,7 +31,7 @@ with-field-long j n rows room few fits =
     let column = length-take-le n room fits in
     omega arith
 
--- and so does what is left behind the first of them
+-- and so does what is left after the first of them
 one-less : (more n : ℕ) (room : List ℕ) → suc more * n ≤ length room → more * n ≤ length (drop n room)
 one-less more n room fits = let left = length-drop n room in let all = suc-mul more n in omega arith
 
@@ -74,12 +74,12 @@ column-part j count room = ap (λ n. take n (drop (j * (length room / keptFields
 here : (w r : List ℕ) (k v : ℕ) → k < length w → set (w ++ r) k v ≡ set w k v ++ r
 here w r k v l = set-append-left w r k v l
 
-behind : (w x : List ℕ) (m v : ℕ) → set (w ++ x) (length w + m) v ≡ w ++ set x m v
-behind [] x m v = ap (λ i. set x i v) (zero-add m)
-behind (a ∷ w) x m v = ap (λ i. set (a ∷ (w ++ x)) i v) (let same : suc (length w) + m ≡ suc (length w + m) = omega arith in same) ∙ ap (λ t. a ∷ t) (behind w x m v)
+after : (w x : List ℕ) (m v : ℕ) → set (w ++ x) (length w + m) v ≡ w ++ set x m v
+after [] x m v = ap (λ i. set x i v) (zero-add m)
+after (a ∷ w) x m v = ap (λ i. set (a ∷ (w ++ x)) i v) (let same : suc (length w) + m ≡ suc (length w + m) = omega arith in same) ∙ ap (λ t. a ∷ t) (after w x m v)
 
 inside : (w x y : List ℕ) (m at v : ℕ) → at ≡ length w + m → set x m v ≡ y → set (w ++ x) at v ≡ w ++ y
-inside w x y m at v place e = ap (λ i. set (w ++ x) i v) place ∙ behind w x m v ∙ ap (λ t. w ++ t) e
+inside w x y m at v place e = ap (λ i. set (w ++ x) i v) place ∙ after w x m v ∙ ap (λ t. w ++ t) e
 
 -- the fields of one line, each in its column
 module _ (a b c d e rest : List ℕ) (n k : ℕ) (r : Row) (la : length a ≡ n) (lb : length b ≡ n) (lc : length c ≡ n) (ld : length d ≡ n) (le : length e ≡ n) (l : k < n) where
@@ -119,7 +119,7 @@ line-stored n k r room fits l =
     ∙ stores-are (take n room) (take n b) (take n c) (take n d) (take n e) (drop n e) n k r
     (length-take-le n room (omega arith)) (length-take-le n b (omega arith)) (length-take-le n c (omega arith)) (length-take-le n d (omega arith)) (length-take-le n e (omega arith)) l
 
--- a row put behind those that the columns have
+-- a row put after those that the columns have
 put-more : (more j n : ℕ) (rows : List Row) (r : Row) (room : List ℕ) → length rows < n → more * n ≤ length room → columnsPut more j n (length rows) r (columnsWith more j n rows room) ≡ columnsWith more j n (rows ++ (r ∷ [])) room
 unfolding columnsPut columnsWith
 put-more zero j n rows r room l fits = refl

@@ -9,15 +9,15 @@ use Rattle.lines.specs.Rows.{rowsOf}
 use Rattle.lines.specs.Reading.{firstBytes, nextRow}
 use Rattle.lines.proofs.NextRowLaws.{next-rows, next-some, next-fits}
 
-pub first-row : (s : List ℕ) → 1 ≤ length s → rowsOf s ≡ (nextRow s .row ∷ rowsOf (drop (nextRow s .used) s))
+pub first-row : (s : List ℕ) → 1 ≤ length s → rowsOf s ≡ (nextRow s .row ∷ rowsOf (drop (nextRow s .consumed) s))
 first-row [] l = absurd (let z : ⊥ = omega arith in z)
 first-row (b ∷ bytes) l = next-rows b bytes
 
-pub used-some : (s : List ℕ) → 1 ≤ length s → 1 ≤ nextRow s .used
-used-some [] l = absurd (let z : ⊥ = omega arith in z)
-used-some (b ∷ bytes) l = next-some b bytes
+pub consumed-some : (s : List ℕ) → 1 ≤ length s → 1 ≤ nextRow s .consumed
+consumed-some [] l = absurd (let z : ⊥ = omega arith in z)
+consumed-some (b ∷ bytes) l = next-some b bytes
 
-pub used-within : (s : List ℕ) → nextRow s .used ≤ length s
+pub consumed-within : (s : List ℕ) → nextRow s .consumed ≤ length s
 unfolding nextRow linesOf firstBytes
-used-within [] = zero-le
-used-within (b ∷ bytes) = next-fits b bytes
+consumed-within [] = zero-le
+consumed-within (b ∷ bytes) = next-fits b bytes

@@ -4,7 +4,7 @@ use mathlib.Core.Bool.{Bool, _&&_}
 use mathlib.Core.List.{List, map}
 use lib.ListN.{getD}
 use Rattle.tariff.specs.Sizes.{maxPlaces}
-use Rattle.tariff.specs.Sum.{listTo}
+use Rattle.tariff.specs.Sum.{tabulate}
 use Rattle.lines.specs.declared.rows.Row.{Row}
 use Rattle.lines.specs.declared.book_lines.Pairs.{Pairs}
 use Rattle.lines.specs.declared.book_lines.BookLists.{BookLists}
@@ -13,7 +13,7 @@ use Rattle.lines.specs.Counted.{bytesOfLines, rowsCounted}
 
 -- the first 16 of some numbers, 0 past the last
 unfoldable pub firstPlaces : List ℕ → List ℕ
-firstPlaces numbers = listTo maxPlaces (λ k. getD numbers k 0)
+firstPlaces numbers = tabulate maxPlaces (λ k. getD numbers k 0)
 
 -- a field of each of the first 16 rows
 unfoldable pub firstFields : ℕ → List Row → List ℕ

@@ -4,9 +4,9 @@ use mathlib.Core.Bool.{Bool, true, false, cond, _&&_, _||_}
 use mathlib.Core.List.{List, [], _∷_, map}
 use lib.ListN.{length, getD, take}
 use lib.Dec.{eqb, leb, ltb}
-use Rattle.tariff.specs.Sum.{listTo, anyOf}
+use Rattle.tariff.specs.Sum.{tabulate, anyOf}
 use Rattle.lines.specs.declared.text.Numeral.{Numeral}
-use Rattle.lines.specs.declared.text.Numeral.the-variants.{No, Value}
+use Rattle.lines.specs.declared.text.Numeral.the-variants.{Invalid, Value}
 use Rattle.lines.specs.declared.text.Token.{Token}
 use Rattle.lines.specs.declared.text.Field.{Field}
 use Rattle.lines.specs.declared.rows.Row.{Row}
@@ -31,7 +31,7 @@ chunkBytes = 128
 
 -- what a field writes: a number, or none
 unfoldable pub numeral : List ℕ → Numeral
-numeral field = cond (isNumber field) (Value (valueOf field)) No
+numeral field = cond (isNumber field) (Value (valueOf field)) Invalid
 
 -- where a reading of at most so many bytes from a place on stops: after so many, or with the bytes
 unfoldable pub readingLimit : ℕ → ℕ → ℕ → ℕ
@@ -76,13 +76,13 @@ unfoldable pub hasFeed : List ℕ → Bool
 hasFeed bytes = anyOf bytes (λ b. eqb b lineFeed)
 
 unfoldable pub noFields : Fields
-noFields = record { readable = false; count = 0; numbers = listTo maxFields (λ k. 0); end = 0 }
+noFields = record { readable = false; count = 0; numbers = tabulate maxFields (λ k. 0); end = 0 }
 
 -- fields, if each of them is a number and a row has room for them: how many, their values, 0 past the last, and where their line ends
 unfoldable pub fieldsIf : Bool → List (List ℕ) → ℕ → Fields
 fieldsIf readable fields end =
     cond (readable && allNumbers fields && leb (length fields) maxFields)
-    (record { readable = true; count = length fields; numbers = listTo maxFields (λ k. getD (map valueOf fields) k 0); end = end })
+    (record { readable = true; count = length fields; numbers = tabulate maxFields (λ k. getD (map valueOf fields) k 0); end = end })
     noFields
 
 -- the fields from a place on, where a word has ended, if an LF ends their line
@@ -101,8 +101,8 @@ firstBytes (ended text ∷ lines) = length text + 1
 firstBytes (unended text ∷ lines) = length text
 
 unfoldable pub nextRow : List ℕ → NextRow
-nextRow rest = record { row = firstRow (linesOf rest); used = firstBytes (linesOf rest) }
+nextRow rest = record { row = firstRow (linesOf rest); consumed = firstBytes (linesOf rest) }
 
 -- the first line passed over
 unfoldable pub unreadableLine : List ℕ → NextRow
-unreadableLine rest = record { row = unreadableRow; used = firstBytes (linesOf rest) }
+unreadableLine rest = record { row = unreadableRow; consumed = firstBytes (linesOf rest) }

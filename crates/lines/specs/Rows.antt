@@ -5,7 +5,7 @@ use mathlib.Core.Bool.{Bool, true, false, cond, _&&_}
 use mathlib.Core.List.{List, [], _∷_, map}
 use lib.ListN.{length, getD, take, drop}
 use lib.Dec.{eqb}
-use Rattle.tariff.specs.Sum.{listTo}
+use Rattle.tariff.specs.Sum.{tabulate}
 use Rattle.lines.specs.declared.rows.Row.{Row}
 use Rattle.lines.specs.Text.{bytesOf, Line, ended, unended, linesOf, fieldsOf, isNumber, valueOf}
 
@@ -120,7 +120,7 @@ maxFields = 7
 
 -- a line's kind and its numbers, 0 past the last
 unfoldable pub row : ℕ → List ℕ → Row
-row kind numbers = record { kind = kind; fields = listTo maxFields (λ k. getD numbers k 0) }
+row kind numbers = record { kind = kind; fields = tabulate maxFields (λ k. getD numbers k 0) }
 
 unfoldable pub unreadableRow : Row
 unreadableRow = row unreadable []

@@ -15,7 +15,7 @@ maxBytes = 65536
 abbrev pub maxLines : ℕ
 maxLines = 4096
 
--- the bytes of output that a run asks for each line
+-- the bytes of output that a run needs for each line
 abbrev pub bytesPerLine : ℕ
 bytesPerLine = 16
 

@@ -66,7 +66,7 @@ fn read_pairs(rest: &[u8], kind: u64, count: u64) -> Pairs
         let next_seconds = place(seconds, k, fields[1]);
         firsts = next_firsts;
         seconds = next_seconds;
-        consumed += next.used;
+        consumed += next.consumed;
         k += 1;
     }
     Pairs {

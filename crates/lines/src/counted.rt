@@ -7,9 +7,9 @@ ghost use lib.ListN.{length};
 ghost use Rattle.lines.specs.Counted.{rowsCounted, countedOf, keptFields, columnLength, columnsPut, columnOf, roomWith};
 
 // Whether there are as many lines as counted, all of one kind, and how many bytes they take.
-pub struct Counted {
-    pub whole: bool,
-    pub used: usize,
+pub struct CountedLines {
+    pub complete: bool,
+    pub consumed: usize,
 }
 
 // How many fields of a line are kept.
@@ -41,25 +41,28 @@ pub fn column(room: &[u64], j: usize, count: usize) -> &[u64]
 }
 
 // Reads as many lines as are counted, or all that are left, and keeps the first five fields of each.
-pub fn read_counted(rest: &[u8], kind: u64, count: u64, room: &mut [u64]) -> Counted
+pub fn read_counted(rest: &[u8], kind: u64, count: u64, room: &mut [u64]) -> CountedLines
     requires room { ⌜ length (rowsCounted count (now rest)) ≤ columnLength (now room) ⌝ }
     ensures counted { λ r. ⌜ r ≡ countedOf kind count (now (rest .entry)) ⌝ }
     ensures kept { λ _. ⌜ now (room .exit) ≡ roomWith (rowsCounted count (now (rest .entry))) (now (room .entry)) ⌝ }
 {
     let column = room.len() / KEPT_FIELDS;
-    let mut whole = true;
-    let mut used = 0;
+    let mut complete = true;
+    let mut consumed = 0;
     let mut k = 0;
     while (k as u64) < count {
-        if rest.len() <= used {
-            return Counted { whole: false, used };
+        if rest.len() <= consumed {
+            return CountedLines {
+                complete: false,
+                consumed,
+            };
         }
-        let next = next_row(&rest[used..]);
+        let next = next_row(&rest[consumed..]);
         let row = next.row;
-        whole = whole & (row.kind == kind);
+        complete = complete & (row.kind == kind);
         keep_row(room, column, k, row);
-        used += next.used;
+        consumed += next.consumed;
         k += 1;
     }
-    Counted { whole, used }
+    CountedLines { complete, consumed }
 }

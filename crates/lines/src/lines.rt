@@ -12,7 +12,7 @@ ghost use Rattle.lines.specs.Reading.{nextRow, unreadableLine};
 // The row of the next line, and how many bytes that line takes, its LF included.
 pub struct NextRow {
     pub row: Row,
-    pub used: usize,
+    pub consumed: usize,
 }
 
 // A line that cannot be read: it is passed over with its LF, or to the end where none is left.
@@ -24,10 +24,13 @@ fn unreadable_line(rest: &[u8]) -> NextRow
     if length < rest.len() {
         return NextRow {
             row,
-            used: length + 1,
+            consumed: length + 1,
         };
     }
-    NextRow { row, used: length }
+    NextRow {
+        row,
+        consumed: length,
+    }
 }
 
 // The next line of what is left of a script, read in one pass. Where no LF ends it, it cannot be read, and is all that is left.
@@ -49,6 +52,6 @@ pub fn next_row(rest: &[u8]) -> NextRow
             kind,
             fields: numbers,
         },
-        used: fields.end + 1,
+        consumed: fields.end + 1,
     }
 }

@@ -11,7 +11,7 @@ pub const MAX_BYTES: usize = 65536;
 // The most lines that a run takes, and so the room for a field of each.
 pub const MAX_LINES: usize = 4096;
 
-// The bytes of output that a run asks for each line of its script.
+// The bytes of output that a run needs for each line of its script.
 pub const BYTES_PER_LINE: u64 = 16;
 
 // The most digits of a number.
@@ -24,7 +24,7 @@ const CHUNK_BYTES: usize = 128;
 
 // What a field writes: a number, or none.
 pub enum Numeral {
-    No,
+    Invalid,
     Value(u64),
 }
 
@@ -177,10 +177,10 @@ pub fn read_number(field: &[u8]) -> Numeral
 {
     let number = read_field(field, 0);
     if !number.valid {
-        return Numeral::No;
+        return Numeral::Invalid;
     }
     if number.end < field.len() {
-        return Numeral::No;
+        return Numeral::Invalid;
     }
     Numeral::Value(number.value)
 }

@@ -83,7 +83,7 @@ pub fn kind_of(key: u64, count: u64) -> u64
     requires { ⌜ (key < keyLimit) × (count ≤ maxFields) ⌝ }
     ensures { λ r. ⌜ ((word : List ℕ) → key ≡ wordKey word → r ≡ kindOf word count) ⌝ }
 {
-    // A table that a loop reads by its name is made anew at each turn.
+    // A table that a loop reads by its name is made anew at each pass.
     let forms = FORMS;
     let form = key * COUNT_LIMIT + count;
     let mut k: usize = 0;

@@ -11,8 +11,8 @@ use lib.Seq.{getD-drop}
 use lib.Dec.{ltb, eqb}
 use borrow.Author.Tests.{ltb-true, ltb-false, lt-ltb, le-ltb, eqb-true, eqb-false}
 use Rattle.tariff.proofs.Tests.{decided}
-use Rattle.tariff.proofs.Lists.{at-list-to}
-use Rattle.migration.specs.Netting.{holderAt, columnCells}
+use Rattle.tariff.proofs.Lists.{at-tabulate}
+use Rattle.netting.specs.Netting.{holderAt, columnCells}
 use Rattle.ledger.specs.Effects.{same3}
 use Rattle.slots.specs.Cells.{HasCell, readAt, storedAt, Shows}
 use Rattle.slots.specs.Layout.{figureSlots, lastClosedAt, figureCount}
@@ -22,7 +22,7 @@ use Rattle.migrate.specs.Columns.{HasColumn, inColumn, columnAt, columnS
 -- what stands in a column
 pub column-holder : (f : List ℕ) (p slot i : ℕ) → i < 8 → holderAt (columnAt f p slot) i ≡ inColumn f p slot i
 unfolding holderAt columnAt columnCells
-column-holder f p slot i l = at-list-to 8 (inColumn f p slot) 0 i l
+column-holder f p slot i l = at-tabulate 8 (inColumn f p slot) 0 i l
 
 pub column-cell : (f : List ℕ) (p slot h : ℕ) → HasColumn f p slot → h < 8 → HasCell figureSlots h p slot
 column-cell f p slot h c l = record { holder = l; place = c .place; inRow = c .inRow }
@@ -80,7 +80,7 @@ self-shown f long =
     record {
       sized = long ∙ sym (ap (λ n. lastClosedAt + n) (length-drop lastClosedAt f ∙ ap (λ n. n - lastClosedAt) long));
       each = λ h p slot c. refl;
-      behind = λ k. sym (getD-drop lastClosedAt f k 0);
+      tail = λ k. sym (getD-drop lastClosedAt f k 0);
     }
 
 -- a transferred array is as long as it was

@@ -11,19 +11,19 @@ use borrow.Author.Tests.{ltb-true, ltb-false, ne-eqb}
 use Rattle.tariff.specs.Sizes.{lastMonth, lastTerm}
 use Rattle.tariff.specs.declared.evidence.Entry.{Entry}
 use Rattle.tariff.specs.Sum.{sumTo}
-use Rattle.tariff.specs.Ranges.{mostKw}
+use Rattle.tariff.specs.Ranges.{maxKw}
 use Rattle.tariff.proofs.Sums.{sum-ext}
 use Rattle.tariff.proofs.Tests.{and-right-false, decided}
-use Rattle.migration.specs.declared.netting.ClassLine.{ClassLine}
-use Rattle.migration.specs.Migration.{netted, lostBy, share, shares, shifted}
-use Rattle.migration.specs.Netting.{pairAt, holderAt, classLinesOf, linesFit, SameLengths}
+use Rattle.netting.specs.declared.netting.ClassLine.{ClassLine}
+use Rattle.netting.specs.Migration.{netted, lostBy, share, shares, transferred}
+use Rattle.netting.specs.Netting.{pairAt, holderAt, classLinesOf, linesFit, SameLengths}
 use Rattle.ledger.specs.Opening.{Opening}
 use Rattle.ledger.specs.Ledger.{Ledger}
 use Rattle.ledger.specs.Call.{Call}
 use Rattle.ledger.specs.Season.{after}
-use Rattle.ledger.specs.Moves.{loadBefore, loadAfter, columnAfter}
+use Rattle.ledger.specs.Migration.{loadBefore, loadAfter, columnAfter}
 use Rattle.ledger.proofs.Conserved.{carriedSum, awardedSum, loadSum}
-use Rattle.ledger.proofs.Bounds.{mostTogether, figures-fit}
+use Rattle.ledger.proofs.Bounds.{maxTogether, figures-fit}
 use Rattle.ledger.proofs.TierFacts.{MigrateFacts}
 use Rattle.ledger.proofs.Outside.{awarded-outside, netted-outside}
 use Rattle.records.specs.Opening.{openingIn}
@@ -87,24 +87,24 @@ module _ (o f : List ℕ) (m : List Bool) (e : List Entry) (r : Reachable o f m 
 
   -- what is transferred is what the ledger moves
   pub load-after : (v : ℕ → ℕ) (h : ℕ) → h < 8 → loadColumn x v h ≡ loadAfter O lines v h
-  unfolding transferOf loadColumn loadAfter shifted
+  unfolding transferOf loadColumn loadAfter transferred
   load-after v h l =
       λ i. v h - sum-ext {f = λ j. pairAt (x .m) h j} {g = λ j. netted lines h j} (O .holders) (λ j k. m-is h j l (let n = few in omega arith)) i + sum-ext {f = λ j. pairAt (x .m) j h} {g = λ j. netted lines j h} (O .holders) (λ j k. m-is j h (let n = few in omega arith) l) i
 
   pub column-after : (v : ℕ → ℕ) (h : ℕ) → h < 8 → shareColumn x v h ≡ columnAfter O L term sink lines v h
-  unfolding transferOf shareColumn columnAfter shifted shares
+  unfolding transferOf shareColumn columnAfter transferred shares
   column-after v h l =
       λ i. v h - sum-ext {f = λ j. share (v h) (pairAt (x .m) h j) (holderAt (x .load) h)} {g = λ j. share (v h) (netted lines h j) (loadBefore L term sink h)} (O .holders) (λ j k. ap₂ (share (v h)) (m-is h j l (let n = few in omega arith)) (load-is h l)) i + sum-ext {f = λ j. share (v j) (pairAt (x .m) j h) (holderAt (x .load) j)} {g = λ j. share (v j) (netted lines j h) (loadBefore L term sink j)} (O .holders) (λ j k. ap₂ (share (v j)) (m-is j h (let n = few in omega arith) l) (load-is j (let n = few in omega arith))) i
 
   -- the holders' records at one place together
-  together : (p slot : ℕ) (v : ℕ → ℕ) (most : ℕ) → ((i : ℕ) → i < 8 → inColumn f p slot i ≡ v i) → sumTo (O .holders) v ≤ most → most ≤ 80 * mostKw → ColumnFits x (inColumn f p slot)
+  together : (p slot : ℕ) (v : ℕ → ℕ) (most : ℕ) → ((i : ℕ) → i < 8 → inColumn f p slot i ≡ v i) → sumTo (O .holders) v ≤ most → most ≤ 80 * maxKw → ColumnFits x (inColumn f p slot)
   unfolding transferOf
   together p slot v most is within l = le-trans (le-of-eq (sum-ext {f = inColumn f p slot} {g = v} (O .holders) (λ i k. is i (let n = few in omega arith)))) (le-trans within l)
 
-  awarded-sum : (p k : ℕ) → awardedSum O p k L ≤ 10 * mostTogether
-  awarded-sum p k = known o f m e r (λ O L. awardedSum O p k L ≤ 10 * mostTogether) (λ O ok cs. go O cs (decided (ltb p (O .paths))) (λ l. figures-fit O ok cs .awardedFit p k l))
+  awarded-sum : (p k : ℕ) → awardedSum O p k L ≤ 10 * maxTogether
+  awarded-sum p k = known o f m e r (λ O L. awardedSum O p k L ≤ 10 * maxTogether) (λ O ok cs. go O cs (decided (ltb p (O .paths))) (λ l. figures-fit O ok cs .awardedFit p k l))
     where
-      go : (O : Opening) (cs : List Call) → (ltb p (O .paths) ≡ true) ⊎ (ltb p (O .paths) ≡ false) → (p < O .paths → awardedSum O p k (after O cs) ≤ 10 * mostTogether) → awardedSum O p k (after O cs) ≤ 10 * mostTogether
+      go : (O : Opening) (cs : List Call) → (ltb p (O .paths) ≡ true) ⊎ (ltb p (O .paths) ≡ false) → (p < O .paths → awardedSum O p k (after O cs) ≤ 10 * maxTogether) → awardedSum O p k (after O cs) ≤ 10 * maxTogether
       go O cs (inl t) inside = inside (ltb-true p (O .paths) t)
       go O cs (inr t) inside = le-trans (le-of-eq (awarded-outside O p k (ltb-false p (O .paths) t) cs)) zero-le
 
@@ -115,20 +115,20 @@ module _ (o f : List ℕ) (m : List Bool) (e : List Entry) (r : Reachable o f m 
       go : (ltb slot priorRemainingSlot ≡ true) ⊎ (ltb slot priorRemainingSlot ≡ false) → (ltb slot carriedSlot ≡ true) ⊎ (ltb slot carriedSlot ≡ false) → (ltb slot awardedSlot ≡ true) ⊎ (ltb slot awardedSlot ≡ false) → ColumnFits x (inColumn f p slot)
       go (inl a) b c =
           let l = ltb-true slot priorRemainingSlot a in
-          together p slot (λ i. L .priors .allocated i p) mostTogether (λ i k. ap (readAt figureSlots 0 f i p) (let s : slot ≡ priorSlot + 0 = omega arith in s) ∙ from-zero f priorSlot 1 i p 0 k place (omega arith)) (fits o f m e r .allocatedFit p) (omega arith)
+          together p slot (λ i. L .priors .allocated i p) maxTogether (λ i k. ap (readAt figureSlots 0 f i p) (let s : slot ≡ priorSlot + 0 = omega arith in s) ∙ from-zero f priorSlot 1 i p 0 k place (omega arith)) (fits o f m e r .allocatedFit p) (omega arith)
       go (inr a) (inl b) c =
           let l = ltb-true slot carriedSlot b in
           let g = ltb-false slot priorRemainingSlot a in
-          together p slot (λ i. L .priors .renewable i p) mostTogether (λ i k. ap (readAt figureSlots 0 f i p) (let s : slot ≡ priorRemainingSlot + 0 = omega arith in s) ∙ from-zero f priorRemainingSlot 1 i p 0 k place (omega arith)) (fits o f m e r .renewableFit p) (omega arith)
+          together p slot (λ i. L .priors .remaining i p) maxTogether (λ i k. ap (readAt figureSlots 0 f i p) (let s : slot ≡ priorRemainingSlot + 0 = omega arith in s) ∙ from-zero f priorRemainingSlot 1 i p 0 k place (omega arith)) (fits o f m e r .remainingFit p) (omega arith)
       go (inr a) (inr b) (inl c) =
           let l = ltb-true slot awardedSlot c in
           let g = ltb-false slot carriedSlot b in
-          together p slot (λ i. L .rights .carried i p (slot + 1 - carriedSlot)) mostTogether (λ i k. ap (readAt figureSlots 0 f i p) (let s : slot ≡ carriedSlot + (slot + 1 - carriedSlot - 1) = omega arith in s) ∙ by-number f carriedSlot lastMonth i p (slot + 1 - carriedSlot) k place 1 (omega arith) (omega arith)) (fits o f m e r .carriedFit p (slot + 1 - carriedSlot)) (omega arith)
+          together p slot (λ i. L .rights .carried i p (slot + 1 - carriedSlot)) maxTogether (λ i k. ap (readAt figureSlots 0 f i p) (let s : slot ≡ carriedSlot + (slot + 1 - carriedSlot - 1) = omega arith in s) ∙ by-number f carriedSlot lastMonth i p (slot + 1 - carriedSlot) k place 1 (omega arith) (omega arith)) (fits o f m e r .carriedFit p (slot + 1 - carriedSlot)) (omega arith)
       go (inr a) (inr b) (inr c) =
           let g = ltb-false slot awardedSlot c in
-          together p slot (λ i. L .rights .awarded i p (slot + 1 - awardedSlot)) (10 * mostTogether) (λ i k. ap (readAt figureSlots 0 f i p) (let s : slot ≡ awardedSlot + (slot + 1 - awardedSlot - 1) = omega arith in s) ∙ by-number f awardedSlot lastMonth i p (slot + 1 - awardedSlot) k place 1 (omega arith) (omega arith)) (awarded-sum p (slot + 1 - awardedSlot)) (omega arith)
+          together p slot (λ i. L .rights .awarded i p (slot + 1 - awardedSlot)) (10 * maxTogether) (λ i k. ap (readAt figureSlots 0 f i p) (let s : slot ≡ awardedSlot + (slot + 1 - awardedSlot - 1) = omega arith in s) ∙ by-number f awardedSlot lastMonth i p (slot + 1 - awardedSlot) k place 1 (omega arith) (omega arith)) (awarded-sum p (slot + 1 - awardedSlot)) (omega arith)
 
-  -- the loads have gone over, and the rights are as they were
+  -- the loads are transferred, and the rights are as they were
   pub rights-fit : (next : List ℕ) → Transferred (columnWhere (loadAt term sink) (loadColumn x)) f next → RightsFit o next term sink x
   rights-fit next a p place =
       record {

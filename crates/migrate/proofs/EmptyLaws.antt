@@ -11,7 +11,7 @@ use lib.Dec.{eqb}
 use borrow.Author.Tests.{eq-eqb, eqb-true}
 use Rattle.tariff.specs.Sum.{allBelow}
 use Rattle.tariff.proofs.Tests.{and-join, all-below, decided}
-use Rattle.migration.specs.Netting.{holderAt}
+use Rattle.netting.specs.Netting.{holderAt}
 
 module _ (column : List ℕ) (h : ℕ) where
   pub empty-more : allBelow h (λ i. eqb (holderAt column i) 0) ≡ true → getD column h 0 ≡ 0 → allBelow (h + 1) (λ i. eqb (holderAt column i) 0) ≡ true

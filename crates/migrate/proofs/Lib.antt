@@ -3,10 +3,10 @@ pub mod EmptyLaws
 pub mod ShareLaws
 pub mod WhereLaws
 pub mod MovingLaws
-pub mod PathMoves
+pub mod PathTransfers
 pub mod LineLaws
 pub mod LineCauses
-pub mod GroupMoves
+pub mod GroupTransfers
 pub mod SlotTests
 pub mod CoveredLaws
 pub mod MigratedFigures

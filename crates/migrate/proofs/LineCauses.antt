@@ -10,22 +10,22 @@ use lib.ListN.{length}
 use lib.Dec.{leb, ltb}
 use borrow.Author.Tests.{leb-true, leb-false, le-leb, lt-leb, ltb-false, not-true}
 use Rattle.tariff.specs.Sizes.{lastTerm, terms, maxClassLines}
-use Rattle.migration.specs.declared.netting.ClassLine.{ClassLine}
+use Rattle.netting.specs.declared.netting.ClassLine.{ClassLine}
 use Rattle.tariff.specs.declared.evidence.Entry.{Entry}
 use Rattle.tariff.specs.Sum.{sumTo, anyBelow, anyOf}
-use Rattle.tariff.specs.Ranges.{wrongTerm}
-use Rattle.migration.specs.ClassRanges.{wrongClassLine}
-use Rattle.migration.specs.Migration.{netted, lostBy, wattsOneWay}
-use Rattle.migration.specs.Netting.{sameCounts, pairAt, holderAt, classLineAt, classLinesOf, unfitLine, linesFit, nettingOf, SameLengths}
+use Rattle.tariff.specs.Ranges.{termOutOfRange}
+use Rattle.netting.specs.ClassRanges.{classLineOutOfRange}
+use Rattle.netting.specs.Migration.{netted, lostBy, wattsOneWay}
+use Rattle.netting.specs.Netting.{sameCounts, pairAt, holderAt, classLineAt, classLinesOf, unfitLine, linesFit, nettingOf, SameLengths}
 use Rattle.tariff.proofs.Sums.{sum-ext, sum-bound}
 use Rattle.tariff.proofs.Tests.{or-unmet, and-both, and-join, decided}
-use Rattle.tariff.proofs.Lists.{length-list-to, any-list-to}
-use Rattle.migration.proofs.Pairs.{pair-of-cells}
-use Rattle.migration.proofs.FitLines.{counted}
+use Rattle.tariff.proofs.Lists.{length-tabulate, any-tabulate}
+use Rattle.netting.proofs.Pairs.{pair-of-cells}
+use Rattle.netting.proofs.FitLines.{counted}
 use Rattle.ledger.specs.Opening.{Opening}
-use Rattle.ledger.specs.Ranges.{noHolder, strangerIn, wrongMigration}
-use Rattle.ledger.specs.Moves.{loadBefore}
-use Rattle.ledger.specs.Causes.{notBetweenSuppliers, losesTooMuch}
+use Rattle.ledger.specs.Ranges.{unknownHolder, unknownHolderIn, migrationOutOfRange}
+use Rattle.ledger.specs.Migration.{loadBefore}
+use Rattle.ledger.specs.Causes.{lineNotBetweenLses, losesTooMuch}
 use Rattle.ledger.proofs.SumBounds.{watts-fit}
 use Rattle.migrate.specs.declared.transfers.Transfer.{Transfer}
 use Rattle.records.specs.Opening.{openingIn}
@@ -56,40 +56,40 @@ module _ (froms tos classes customers watts : List ℕ) where
 
   pub line-count : length lines ≡ length froms
   unfolding classLinesOf
-  line-count = length-list-to (length froms) (classLineAt froms tos classes customers watts)
+  line-count = length-tabulate (length froms) (classLineAt froms tos classes customers watts)
 
-  pub unknown-cause : (o : Opening) → anyBelow (length froms) (unknownAt o froms tos) ≡ strangerIn o lines
-  unfolding strangerIn classLinesOf unknownAt
-  unknown-cause o = sym (any-list-to (length froms) (classLineAt froms tos classes customers watts) (λ l. noHolder o (l .from) || noHolder o (l .to)))
+  pub unknown-cause : (o : Opening) → anyBelow (length froms) (unknownAt o froms tos) ≡ unknownHolderIn o lines
+  unfolding unknownHolderIn classLinesOf unknownAt
+  unknown-cause o = sym (any-tabulate (length froms) (classLineAt froms tos classes customers watts) (λ l. unknownHolder o (l .from) || unknownHolder o (l .to)))
 
-  pub between-cause : (o : Opening) → anyBelow (length froms) (notBetweenAt o froms tos) ≡ anyOf lines (notBetweenSuppliers o)
-  unfolding notBetweenSuppliers classLinesOf notBetweenAt
-  between-cause o = sym (any-list-to (length froms) (classLineAt froms tos classes customers watts) (notBetweenSuppliers o))
+  pub between-cause : (o : Opening) → anyBelow (length froms) (notBetweenAt o froms tos) ≡ anyOf lines (lineNotBetweenLses o)
+  unfolding lineNotBetweenLses classLinesOf notBetweenAt
+  between-cause o = sym (any-tabulate (length froms) (classLineAt froms tos classes customers watts) (lineNotBetweenLses o))
 
-  wrong-lines : length classes ≡ length froms → anyBelow (length classes) (outOfRangeAt classes customers watts) ≡ anyOf lines wrongClassLine
-  unfolding wrongClassLine classLinesOf outOfRangeAt
-  wrong-lines e = ap (λ n. anyBelow n (outOfRangeAt classes customers watts)) e ∙ sym (any-list-to (length froms) (classLineAt froms tos classes customers watts) wrongClassLine)
+  range-of-lines : length classes ≡ length froms → anyBelow (length classes) (outOfRangeAt classes customers watts) ≡ anyOf lines classLineOutOfRange
+  unfolding classLineOutOfRange classLinesOf outOfRangeAt
+  range-of-lines e = ap (λ n. anyBelow n (outOfRangeAt classes customers watts)) e ∙ sym (any-tabulate (length froms) (classLineAt froms tos classes customers watts) classLineOutOfRange)
 
-  pub range-cause : (term : ℕ) (inTerm lines-wrong : Bool) → length classes ≡ length froms → inTerm ≡ wrongTerm term → lines-wrong ≡ anyBelow (length classes) (outOfRangeAt classes customers watts) → ((inTerm || ltb maxClassLines (length froms)) || lines-wrong) ≡ wrongMigration term lines
-  unfolding wrongMigration
-  range-cause term inTerm lines-wrong e a b = λ i. (a i || ltb maxClassLines (sym line-count i)) || (b ∙ wrong-lines e) i
+  pub range-cause : (term : ℕ) (inTerm lines-out-of-range : Bool) → length classes ≡ length froms → inTerm ≡ termOutOfRange term → lines-out-of-range ≡ anyBelow (length classes) (outOfRangeAt classes customers watts) → ((inTerm || ltb maxClassLines (length froms)) || lines-out-of-range) ≡ migrationOutOfRange term lines
+  unfolding migrationOutOfRange
+  range-cause term inTerm lines-out-of-range e a b = λ i. (a i || ltb maxClassLines (sym line-count i)) || (b ∙ range-of-lines e) i
 
   -- a migration in range has at most 64 lines, none wrong, and a term that there is
-  pub in-range : (term : ℕ) → wrongMigration term lines ≡ false → (length froms ≤ maxClassLines) × (anyOf lines wrongClassLine ≡ false)
-  unfolding wrongMigration
+  pub in-range : (term : ℕ) → migrationOutOfRange term lines ≡ false → (length froms ≤ maxClassLines) × (anyOf lines classLineOutOfRange ≡ false)
+  unfolding migrationOutOfRange
   in-range term e =
-      let both = or-unmet (wrongTerm term || ltb maxClassLines (length lines)) (anyOf lines wrongClassLine) e in
-      let first = or-unmet (wrongTerm term) (ltb maxClassLines (length lines)) (both .0) in
+      let both = or-unmet (termOutOfRange term || ltb maxClassLines (length lines)) (anyOf lines classLineOutOfRange) e in
+      let first = or-unmet (termOutOfRange term) (ltb maxClassLines (length lines)) (both .0) in
       (le-trans (le-of-eq (sym line-count)) (ltb-false maxClassLines (length lines) (first .1)), both .1)
 
   -- lines with holders in the book and fields in range are fit to be netted
-  pub lines-fit : (o : Opening) → o .holders ≤ 8 → SameLengths froms tos classes customers watts → strangerIn o lines ≡ false → length froms ≤ maxClassLines → anyOf lines wrongClassLine ≡ false → linesFit froms tos classes customers watts ≡ true
-  unfolding linesFit strangerIn noHolder unfitLine
+  pub lines-fit : (o : Opening) → o .holders ≤ 8 → SameLengths froms tos classes customers watts → unknownHolderIn o lines ≡ false → length froms ≤ maxClassLines → anyOf lines classLineOutOfRange ≡ false → linesFit froms tos classes customers watts ≡ true
+  unfolding linesFit unknownHolderIn unknownHolder unfitLine
   lines-fit o few same known short right =
       and-join (and-join (le-leb (length froms) maxClassLines short) (counted froms tos classes customers watts same))
-      (ap not (any-none lines (λ l. noHolder o (l .from) || noHolder o (l .to)) wrongClassLine unfitLine fit known right))
+      (ap not (any-none lines (λ l. unknownHolder o (l .from) || unknownHolder o (l .to)) classLineOutOfRange unfitLine fit known right))
     where
-      fit : (l : ClassLine) → (leb (o .holders) (l .from) || leb (o .holders) (l .to)) ≡ false → wrongClassLine l ≡ false → (leb 8 (l .from) || leb 8 (l .to) || wrongClassLine l) ≡ false
+      fit : (l : ClassLine) → (leb (o .holders) (l .from) || leb (o .holders) (l .to)) ≡ false → classLineOutOfRange l ≡ false → (leb 8 (l .from) || leb 8 (l .to) || classLineOutOfRange l) ≡ false
       fit l a b =
           let both = or-unmet (leb (o .holders) (l .from)) (leb (o .holders) (l .to)) a in
           let x = leb-false (o .holders) (l .from) (both .0) in
@@ -105,16 +105,16 @@ module _ (froms tos classes customers watts : List ℕ) where
       pair-of-cells (λ i j. cond (linesFit froms tos classes customers watts) (netted lines i j) 0) i j li lj
       ∙ ap (λ b. cond b (netted lines i j) 0) e
 
-  most-m : (i j : ℕ) → i < 8 → j < 8 → pairAt (nettingOf froms tos classes customers watts .m) i j ≤ 64 * (9999999 * 9999999)
+  m-bound : (i j : ℕ) → i < 8 → j < 8 → pairAt (nettingOf froms tos classes customers watts .m) i j ≤ 64 * (9999999 * 9999999)
   unfolding nettingOf linesFit netted unfitLine
-  most-m i j li lj = le-trans (le-of-eq (pair-of-cells (λ i j. cond (linesFit froms tos classes customers watts) (netted lines i j) 0) i j li lj)) (go (decided (linesFit froms tos classes customers watts)))
+  m-bound i j li lj = le-trans (le-of-eq (pair-of-cells (λ i j. cond (linesFit froms tos classes customers watts) (netted lines i j) 0) i j li lj)) (go (decided (linesFit froms tos classes customers watts)))
     where
       go : (linesFit froms tos classes customers watts ≡ true) ⊎ (linesFit froms tos classes customers watts ≡ false) → cond (linesFit froms tos classes customers watts) (netted lines i j) 0 ≤ 64 * (9999999 * 9999999)
       go (inl e) =
           let both = and-both (leb (length froms) maxClassLines && sameCounts froms tos classes customers watts) (not (anyOf lines unfitLine)) e in
           let short = leb-true (length froms) maxClassLines (and-both (leb (length froms) maxClassLines) (sameCounts froms tos classes customers watts) (both .0) .0) in
           let none = not-true (anyOf lines unfitLine) (both .1) in
-          let right = any-none lines unfitLine unfitLine wrongClassLine (λ l a b. or-unmet (leb 8 (l .from) || leb 8 (l .to)) (wrongClassLine l) a .1) none none in
+          let right = any-none lines unfitLine unfitLine classLineOutOfRange (λ l a b. or-unmet (leb 8 (l .from) || leb 8 (l .to)) (classLineOutOfRange l) a .1) none none in
           let all = watts-fit lines i j (le-trans (le-of-eq line-count) short) right in
           le-trans (le-of-eq (ap (λ b. cond b (netted lines i j) 0) e)) (le-trans (div-le-self (wattsOneWay lines i j - wattsOneWay lines j i) 1000) (omega arith))
       go (inr e) = le-trans (le-of-eq (ap (λ b. cond b (netted lines i j) 0) e)) zero-le
@@ -124,7 +124,7 @@ module _ (froms tos classes customers watts : List ℕ) where
     pub losses-fit : (x .holders ≤ 8) × ((i : ℕ) → i < 8 → sumTo (x .holders) (λ j. pairAt (x .m) i j) < 2 ^ 64)
     unfolding transferOf
     losses-fit =
-        (count, λ i l. let all = sum-bound {f = λ j. pairAt (x .m) i j} (64 * (9999999 * 9999999)) (x .holders) (λ j r. le-trans (le-of-eq (ap (λ y. pairAt (y .m) i j) is)) (most-m i j l (let n = count in omega arith))) in let n = count in omega arith)
+        (count, λ i l. let all = sum-bound {f = λ j. pairAt (x .m) i j} (64 * (9999999 * 9999999)) (x .holders) (λ j r. le-trans (le-of-eq (ap (λ y. pairAt (y .m) i j) is)) (m-bound i j l (let n = count in omega arith))) in let n = count in omega arith)
       where
         count : x .holders ≤ 8
         count = le-trans (le-of-eq (ap (λ y. y .holders) is)) few

@@ -1,4 +1,4 @@
--- Class lines whose fields stand in five slices: a test on each, and the causes behind the tests. Assumes nothing.
+-- Class lines whose fields stand in five slices: a test on each, and the causes that the tests decide. Assumes nothing.
 use Prim.Native.Nat.{ℕ, _≤_, _<_}
 use mathlib.Core.Path.{_≡_}
 use mathlib.Core.Bool.{true, false}

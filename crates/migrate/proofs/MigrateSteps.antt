@@ -12,21 +12,21 @@ use Rattle.tariff.specs.Sizes.{lastTerm, lastSeasonTier, maxClassLines}
 use Rattle.tariff.specs.declared.evidence.Entry.{Entry}
 use Rattle.tariff.specs.Sum.{sumTo, anyBelow, anyOf}
 use Rattle.tariff.specs.Terms.{firstTierOf}
-use Rattle.tariff.specs.Ranges.{wrongTerm}
+use Rattle.tariff.specs.Ranges.{termOutOfRange}
 use Rattle.tariff.proofs.Tests.{or-unmet, both-ways}
-use Rattle.migration.specs.declared.netting.ClassLine.{ClassLine}
-use Rattle.migration.specs.ClassRanges.{wrongClassLine}
-use Rattle.migration.specs.Netting.{sameCounts, pairAt, holderAt, classLinesOf, SameLengths, linesFit}
-use Rattle.migration.proofs.FitLines.{same-lengths}
+use Rattle.netting.specs.declared.netting.ClassLine.{ClassLine}
+use Rattle.netting.specs.ClassRanges.{classLineOutOfRange}
+use Rattle.netting.specs.Netting.{sameCounts, pairAt, holderAt, classLinesOf, SameLengths, linesFit}
+use Rattle.netting.proofs.FitLines.{same-lengths}
 use Rattle.ledger.specs.Opening.{Opening}
 use Rattle.ledger.specs.Ledger.{Ledger}
-use Rattle.ledger.specs.Ranges.{noSink, strangerIn, wrongMigration}
+use Rattle.ledger.specs.Ranges.{unknownSink, unknownHolderIn, migrationOutOfRange}
 use Rattle.ledger.specs.Calendar.{tierIsOpen, beforeTier, migrationInTime}
-use Rattle.ledger.specs.Numbers.{unreadable, notInBook, outOfRange, notAtThisTime, notSuppliers, lossAboveLoad, cause, firstMet}
+use Rattle.ledger.specs.Numbers.{unreadable, notInBook, outOfRange, notAtThisTime, notBetweenLses, lossAboveLoad, cause, firstMet}
 use Rattle.ledger.specs.Call.{migrate}
 use Rattle.ledger.specs.Causes.{migrateCauses, callCauses, refusal, losesTooMuch}
 use Rattle.ledger.specs.Effects.{effect}
-use Rattle.ledger.specs.Moves.{migrated, loadsAfter, rightsAfter, priorsAfter}
+use Rattle.ledger.specs.Migration.{migrated, loadsAfter, rightsAfter, priorsAfter}
 use Rattle.ledger.proofs.Unmet.{unmet}
 use Rattle.ledger.proofs.TierFacts.{MigrateFacts, migrate-facts}
 use Rattle.records.specs.declared.answers.Answer.{Answer}
@@ -60,13 +60,13 @@ module _ (o f : List ℕ) (term sink : ℕ) (froms tos classes customers watts :
   x = transferOf o f term sink froms tos classes customers watts
 
   -- the tests that come before netting
-  pub early-cause : (noSuchSink unknown wrongOfTerm wrongLine inTime apart : Bool) (last current r2 r3 r4 r8 : ℕ) → length classes ≡ length froms → noSuchSink ≡ noSink O sink → unknown ≡ anyBelow (length froms) (unknownAt O froms tos) → wrongOfTerm ≡ wrongTerm term → wrongLine ≡ anyBelow (length classes) (outOfRangeAt classes customers watts) → last ≡ lastClosedIn f → current ≡ currentTierIn f → inTime ≡ ((not (not (eqb current 0)) && ltb last (firstTierOf term)) && (eqb term 0 || leb lastSeasonTier last)) → apart ≡ anyBelow (length froms) (notBetweenAt O froms tos) → r2 ≡ cond (noSuchSink || unknown) notInBook r3 → r3 ≡ cond ((wrongOfTerm || ltb maxClassLines (length froms)) || wrongLine) outOfRange r4 → r4 ≡ cond (not inTime) notAtThisTime r8 → r8 ≡ cond apart notSuppliers 0 → r2 ≡ firstMet (take earlyCauses (migrateCauses O L term sink lines))
+  pub early-cause : (noSuchSink unknown outOfRangeByTerm lineOutOfRange inTime apart : Bool) (last current r2 r3 r4 r8 : ℕ) → length classes ≡ length froms → noSuchSink ≡ unknownSink O sink → unknown ≡ anyBelow (length froms) (unknownAt O froms tos) → outOfRangeByTerm ≡ termOutOfRange term → lineOutOfRange ≡ anyBelow (length classes) (outOfRangeAt classes customers watts) → last ≡ lastClosedIn f → current ≡ currentTierIn f → inTime ≡ ((not (not (eqb current 0)) && ltb last (firstTierOf term)) && (eqb term 0 || leb lastSeasonTier last)) → apart ≡ anyBelow (length froms) (notBetweenAt O froms tos) → r2 ≡ cond (noSuchSink || unknown) notInBook r3 → r3 ≡ cond ((outOfRangeByTerm || ltb maxClassLines (length froms)) || lineOutOfRange) outOfRange r4 → r4 ≡ cond (not inTime) notAtThisTime r8 → r8 ≡ cond apart notBetweenLses 0 → r2 ≡ firstMet (take earlyCauses (migrateCauses O L term sink lines))
   unfolding migrateCauses migrationInTime beforeTier tierIsOpen ledgerIn
-  early-cause noSuchSink unknown wrongOfTerm wrongLine inTime apart last current r2 r3 r4 r8 counted ofSink ofUnknown ofTerm ofRange ofLast ofCurrent ofTime ofApart e2 e3 e4 e8 =
+  early-cause noSuchSink unknown outOfRangeByTerm lineOutOfRange inTime apart last current r2 r3 r4 r8 counted ofSink ofUnknown ofTerm ofRange ofLast ofCurrent ofTime ofApart e2 e3 e4 e8 =
       link notInBook _ _ _ e2 (ap₂ (λ a b. a || b) ofSink (ofUnknown ∙ unknown-cause froms tos classes customers watts O))
-      (link outOfRange _ _ _ e3 (range-cause froms tos classes customers watts term wrongOfTerm wrongLine counted ofTerm ofRange)
+      (link outOfRange _ _ _ e3 (range-cause froms tos classes customers watts term outOfRangeByTerm lineOutOfRange counted ofTerm ofRange)
       (link notAtThisTime _ _ _ e4 (ap not (ofTime ∙ (λ i. (not (not (eqb (ofCurrent i) 0)) && ltb (ofLast i) (firstTierOf term)) && (eqb term 0 || leb lastSeasonTier (ofLast i)))))
-      (link notSuppliers _ _ _ e8 (ofApart ∙ between-cause froms tos classes customers watts O) no-more)))
+      (link notBetweenLses _ _ _ e8 (ofApart ∙ between-cause froms tos classes customers watts O) no-more)))
 
   -- an early cause that is met is the first of all
   early-found : (number : ℕ) → number ≡ firstMet (take earlyCauses (migrateCauses O L term sink lines)) → (number ≡ 0 → ⊥) → number ≡ refusal O L (migrate term sink lines)
@@ -76,14 +76,14 @@ module _ (o f : List ℕ) (term sink : ℕ) (froms tos classes customers watts :
   -- what is known where none is met
   record Early : Type 0 where
     sinkInBook : sink < O .sinks
-    known : strangerIn O lines ≡ false
+    known : unknownHolderIn O lines ≡ false
     inTerm : term ≤ lastTerm
     short : length froms ≤ maxClassLines
-    right : anyOf lines wrongClassLine ≡ false
+    right : anyOf lines classLineOutOfRange ≡ false
     later : (r : ℕ) → r ≡ firstMet (cause lossAboveLoad (losesTooMuch O L term sink lines) ∷ []) → r ≡ refusal O L (migrate term sink lines)
 
   early : firstMet (take earlyCauses (migrateCauses O L term sink lines)) ≡ 0 → Early
-  unfolding migrateCauses refusal callCauses noSink wrongMigration wrongTerm
+  unfolding migrateCauses refusal callCauses unknownSink migrationOutOfRange termOutOfRange
   early none =
       let r2 = unmet 1 _ _ none in
       let r3 = unmet 2 _ _ (r2 .1) in
@@ -98,7 +98,7 @@ module _ (o f : List ℕ) (term sink : ℕ) (froms tos classes customers watts :
         inTerm = ltb-false _ _ (fields .0);
         short = range .0;
         right = range .1;
-        later = λ r e. unmet-first notInBook _ _ (r2 .0) (unmet-first outOfRange _ _ (r3 .0) (unmet-first notAtThisTime _ _ (r4 .0) (unmet-first notSuppliers _ _ (r8 .0) e)));
+        later = λ r e. unmet-first notInBook _ _ (r2 .0) (unmet-first outOfRange _ _ (r3 .0) (unmet-first notAtThisTime _ _ (r4 .0) (unmet-first notBetweenLses _ _ (r8 .0) e)));
       }
 
   module _ (reach : Reachable o f m e) (even : Bool) (counted : even ≡ sameCounts froms tos classes customers watts) where

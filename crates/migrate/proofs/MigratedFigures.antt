@@ -11,13 +11,13 @@ use Rattle.tariff.specs.Sizes.{lastMonth, lastTerm, terms, ownership, contract}
 use Rattle.tariff.specs.declared.evidence.Entry.{Entry}
 use Rattle.tariff.specs.Terms.{hasMonth}
 use Rattle.tariff.specs.Evidence.{entryKw}
-use Rattle.migration.specs.declared.netting.ClassLine.{ClassLine}
-use Rattle.migration.specs.Netting.{classLinesOf, SameLengths}
+use Rattle.netting.specs.declared.netting.ClassLine.{ClassLine}
+use Rattle.netting.specs.Netting.{classLinesOf, SameLengths}
 use Rattle.ledger.specs.Opening.{Opening, endsAt}
 use Rattle.ledger.specs.Ledger.{Ledger}
 use Rattle.ledger.specs.Call.{migrate}
 use Rattle.ledger.specs.Effects.{effect}
-use Rattle.ledger.specs.Moves.{movedWhere, loadsAfter, rightsAfter, priorsAfter, loadAfter, columnAfter, migrated}
+use Rattle.ledger.specs.Migration.{transferredWhere, loadsAfter, rightsAfter, priorsAfter, loadAfter, columnAfter, migrated}
 use Rattle.ledger.proofs.TierFacts.{MigrateFacts}
 use Rattle.records.specs.Opening.{openingIn}
 use Rattle.slots.specs.Groups.{slotsOf, inSlot}
@@ -31,7 +31,7 @@ use Rattle.migrate.specs.Transfers.{loadColumn, shareColumn, slotMoves, 
 use Rattle.migrate.specs.Lines.{transferOf}
 use Rattle.migrate.proofs.WhereLaws.{where-off}
 use Rattle.migrate.proofs.SlotTests.{prior-moves, remaining-moves, carried-moves, awarded-moves, still}
-use Rattle.migrate.proofs.GroupMoves.{Change, change, before, afterwards, EachMoves, slot-moves}
+use Rattle.migrate.proofs.GroupTransfers.{Change, change, before, afterwards, EachMoves, slot-moves}
 use Rattle.migrate.proofs.CoveredLaws.{no-load, load-after, column-after}
 
 module _ (o f : List ℕ) (m : List Bool) (e : List Entry) (r : Reachable o f m e) (term sink : ℕ) (froms tos classes customers watts : List ℕ) (same : SameLengths froms tos classes customers watts) (facts : MigrateFacts (openingIn o) (ledgerIn f m e) term sink (classLinesOf froms tos classes customers watts)) where
@@ -84,35 +84,35 @@ module _ (o f : List ℕ) (m : List Bool) (e : List Entry) (r : Reachable o f m 
   changes =
       change terms 0 (L .loads .kw) (next .loads .kw)
       ∷ change 1 0 (λ h p k. L .priors .allocated h p) (λ h p k. next .priors .allocated h p)
-      ∷ change 1 0 (λ h p k. L .priors .renewable h p) (λ h p k. next .priors .renewable h p)
+      ∷ change 1 0 (λ h p k. L .priors .remaining h p) (λ h p k. next .priors .remaining h p)
       ∷ change lastMonth 1 (L .rights .carried) (next .rights .carried)
       ∷ change lastMonth 1 (L .rights .awarded) (next .rights .awarded)
-      ∷ change 1 0 (λ h p k. L .tiers .nominated h p (L .tiers .openNow)) (λ h p k. next .tiers .nominated h p (next .tiers .openNow))
+      ∷ change 1 0 (λ h p k. L .tiers .nominated h p (L .tiers .currentTier)) (λ h p k. next .tiers .nominated h p (next .tiers .currentTier))
       ∷ change tierSlots 0 (L .tiers .awards) (next .tiers .awards)
-      ∷ change terms 0 (λ h s n. entryKw n (L .papers .entry h s ownership)) (λ h s n. entryKw n (next .papers .entry h s ownership))
-      ∷ change terms 0 (λ h s n. entryKw n (L .papers .entry h s contract)) (λ h s n. entryKw n (next .papers .entry h s contract))
+      ∷ change terms 0 (λ h s n. entryKw n (L .evidence .entry h s ownership)) (λ h s n. entryKw n (next .evidence .entry h s ownership))
+      ∷ change terms 0 (λ h s n. entryKw n (L .evidence .entry h s contract)) (λ h s n. entryKw n (next .evidence .entry h s contract))
       ∷ []
 
   each-moves : (h p : ℕ) → h < 8 → EachMoves column h p 0 changes
-  unfolding effect migrated loadsAfter rightsAfter priorsAfter movedWhere
+  unfolding effect migrated loadsAfter rightsAfter priorsAfter transferredWhere
   each-moves h p l = (
     λ j k. load-moves p j h (λ i. L .loads .kw i p (j + 0)) l k,
     (
       λ j k. right-moves p (priorSlot + j) h (λ i. L .priors .allocated i p) (eqb term 0) l (omega arith) (prior-moves term j few k),
       (
-        λ j k. right-moves p (priorRemainingSlot + j) h (λ i. L .priors .renewable i p) (eqb term 0) l (omega arith) (remaining-moves term j few k),
+        λ j k. right-moves p (priorRemainingSlot + j) h (λ i. L .priors .remaining i p) (eqb term 0) l (omega arith) (remaining-moves term j few k),
         (
           λ j k. right-moves p (carriedSlot + j) h (λ i. L .rights .carried i p (j + 1)) (hasMonth term (j + 1)) l (omega arith) (carried-moves term j few k),
           (
             λ j k. right-moves p (awardedSlot + j) h (λ i. L .rights .awarded i p (j + 1)) (hasMonth term (j + 1) && not (eqb term 0)) l (omega arith) (awarded-moves term j few k) ∙ ap (λ t. cond t (columnAfter O L term sink lines (λ i. L .rights .awarded i p (j + 1)) h) (L .rights .awarded h p (j + 1))) (sym (and-assoc (endsAt O sink p) (hasMonth term (j + 1)) (not (eqb term 0)))),
             (
-              λ j k. stays p (nominatedSlot + j) h (λ i. L .tiers .nominated i p (L .tiers .openNow)) (omega arith),
+              λ j k. stays p (nominatedSlot + j) h (λ i. L .tiers .nominated i p (L .tiers .currentTier)) (omega arith),
               (
                 λ j k. stays p (awardsSlot + j) h (λ i. L .tiers .awards i p (j + 0)) (omega arith),
                 (
-                  λ j k. stays p (ownershipSlot + j) h (λ i. entryKw (j + 0) (L .papers .entry i p ownership)) (omega arith),
+                  λ j k. stays p (ownershipSlot + j) h (λ i. entryKw (j + 0) (L .evidence .entry i p ownership)) (omega arith),
                   (
-                    λ j k. stays p (contractSlot + j) h (λ i. entryKw (j + 0) (L .papers .entry i p contract)) (omega arith),
+                    λ j k. stays p (contractSlot + j) h (λ i. entryKw (j + 0) (L .evidence .entry i p contract)) (omega arith),
                     tt,
                   ),
                 ),

@@ -56,8 +56,8 @@ module _ (column : (ℕ → ℕ) → ℕ → ℕ) (test : ℕ → ℕ → Bool) 
   abbrev pub below : ℕ → ℕ → ℕ → Bool
   below n p slot = test p slot && ltb (number p slot) n
 
-  abbrev pub only : ℕ → ℕ → ℕ → Bool
-  only n p slot = test p slot && eqb (number p slot) n
+  abbrev pub one-alone : ℕ → ℕ → ℕ → Bool
+  one-alone n p slot = test p slot && eqb (number p slot) n
 
   pub none-yet : (n : ℕ) (f : List ℕ) → ((p slot : ℕ) → test p slot ≡ true → n ≤ number p slot) → Transferred (columnWhere (below n) column) f f
   none-yet n f later = where-none column (below n) f (λ p slot. go p slot (decided (test p slot)))
@@ -66,8 +66,8 @@ module _ (column : (ℕ → ℕ) → ℕ → ℕ) (test : ℕ → ℕ → Bool) 
       go p slot (inl on) = and-right-false (test p slot) (le-ltb (number p slot) n (later p slot on))
       go p slot (inr off) = and-left-false (ltb (number p slot) n) off
 
-  pub one-more : (n : ℕ) (f one two : List ℕ) → Transferred (columnWhere (below n) column) f one → Transferred (columnWhere (only n) column) one two → Transferred (columnWhere (below (n + 1)) column) f two
-  one-more n f one two a b = where-then column (below n) (only n) (below (n + 1)) f one two once (λ p slot. next-number (test p slot) (number p slot) n) a b
+  pub one-more : (n : ℕ) (f one two : List ℕ) → Transferred (columnWhere (below n) column) f one → Transferred (columnWhere (one-alone n) column) one two → Transferred (columnWhere (below (n + 1)) column) f two
+  one-more n f one two a b = where-then column (below n) (one-alone n) (below (n + 1)) f one two once (λ p slot. next-number (test p slot) (number p slot) n) a b
     where
       once : (p slot : ℕ) → (test p slot && eqb (number p slot) n) ≡ true → (test p slot && ltb (number p slot) n) ≡ false
       once p slot e =

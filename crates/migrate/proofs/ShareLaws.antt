@@ -9,19 +9,19 @@ use native.Mathlib.Omega.{arith}
 use lib.Dec.{ltb, eqb}
 use borrow.Author.Tests.{ltb-true, ltb-false, eqb-true}
 use Rattle.tariff.specs.Sum.{sumTo, allBelow}
-use Rattle.tariff.specs.Ranges.{mostKw}
-use Rattle.migration.specs.Migration.{share, shares, shifted, lostBy}
-use Rattle.migration.specs.Netting.{pairAt, holderAt, columnCells, ProductsFit, PartsFit, shareCells, shiftedCells}
+use Rattle.tariff.specs.Ranges.{maxKw}
+use Rattle.netting.specs.Migration.{share, shares, transferred, lostBy}
+use Rattle.netting.specs.Netting.{pairAt, holderAt, columnCells, ProductsFit, PartsFit, shareCells, transferredCells}
 use Rattle.tariff.proofs.Tests.{and-both, all-below, decided}
 use Rattle.tariff.proofs.Sums.{sum-ext, sum-zero, term-le-sum}
-use Rattle.migration.proofs.Shifts.{shares-fit}
-use Rattle.tariff.proofs.Lists.{at-list-to}
-use Rattle.migration.proofs.Pairs.{pair-of-cells}
+use Rattle.netting.proofs.Transfers.{shares-fit}
+use Rattle.tariff.proofs.Lists.{at-tabulate}
+use Rattle.netting.proofs.Pairs.{pair-of-cells}
 use Rattle.ledger.proofs.Bounds.{one-fits, share-product-fits}
 use Rattle.slots.specs.Layout.{figureSlots}
 use Rattle.slots.proofs.CellLaws.{shows-agree}
 use Rattle.migrate.specs.declared.transfers.Transfer.{Transfer}
-use Rattle.migration.proofs.ShareCells.{share-with-nothing}
+use Rattle.netting.proofs.ShareCells.{share-with-nothing}
 use Rattle.migrate.specs.Columns.{HasColumn, inColumn, columnAt, columnStored, Transferred}
 use Rattle.migrate.specs.Transfers.{loadColumn, shareColumn, columnWhere, Covered, ColumnFits}
 use Rattle.migrate.proofs.ColumnLaws.{column-holder, column-cell, shows-column}
@@ -35,47 +35,47 @@ share-of-nothing : (m : ℕ → ℕ → ℕ) (L v : ℕ → ℕ) (i j : ℕ) →
 unfolding shares share
 share-of-nothing m L v i j e = ap (λ y. y * m i j / L i) e ∙ ap (λ y. y / L i) (zero-mul (m i j)) ∙ zero-div (L i)
 
--- parts that only the first n holders have: nobody else's entry is shifted
-pub nothing-shifted : (n : ℕ) (part : ℕ → ℕ → ℕ) (v : ℕ → ℕ) (h : ℕ) → ((j : ℕ) → j < n → part h j ≡ 0) → ((j : ℕ) → j < n → part j h ≡ 0) → shifted n part v h ≡ v h
-unfolding shifted
-nothing-shifted n part v h given gained =
+-- parts that only the first n holders have: nobody else's entry changes
+pub nothing-transferred : (n : ℕ) (part : ℕ → ℕ → ℕ) (v : ℕ → ℕ) (h : ℕ) → ((j : ℕ) → j < n → part h j ≡ 0) → ((j : ℕ) → j < n → part j h ≡ 0) → transferred n part v h ≡ v h
+unfolding transferred
+nothing-transferred n part v h given gained =
     let a = sum-zero {f = λ j. part h j} n given in
     let b = sum-zero {f = λ j. part j h} n gained in
     omega arith
 
 -- parts and entries that agree on the eight holders
-pub shifted-ext : (n : ℕ) (part other : ℕ → ℕ → ℕ) (v w : ℕ → ℕ) (h : ℕ) → n ≤ 8 → h < 8 → ((i j : ℕ) → i < 8 → j < 8 → part i j ≡ other i j) → v h ≡ w h → shifted n part v h ≡ shifted n other w h
-unfolding shifted
-shifted-ext n part other v w h few l same is =
+pub transferred-ext : (n : ℕ) (part other : ℕ → ℕ → ℕ) (v w : ℕ → ℕ) (h : ℕ) → n ≤ 8 → h < 8 → ((i j : ℕ) → i < 8 → j < 8 → part i j ≡ other i j) → v h ≡ w h → transferred n part v h ≡ transferred n other w h
+unfolding transferred
+transferred-ext n part other v w h few l same is =
     λ i. is i - sum-ext {f = λ j. part h j} {g = λ j. other h j} n (λ j b. same h j l (omega arith)) i + sum-ext {f = λ j. part j h} {g = λ j. other j h} n (λ j b. same j h (omega arith) l) i
 
-shifted-entry : (n : ℕ) (column parts : List ℕ) (part : ℕ → ℕ → ℕ) → n ≤ 8 → ((i j : ℕ) → i < 8 → j < 8 → pairAt parts i j ≡ part i j) → ((i j : ℕ) → i < 8 → j < 8 → (n ≤ i) ⊎ (n ≤ j) → part i j ≡ 0) → (h : ℕ) → h < 8 → holderAt (shiftedCells n column parts) h ≡ shifted n part (holderAt column) h
-unfolding holderAt shiftedCells columnCells
-shifted-entry n column parts part few same others h l =
-    at-list-to 8 (λ i. cond (ltb i n) (shifted n (pairAt parts) (holderAt column) i) (holderAt column i)) 0 h l ∙ go (decided (ltb h n))
+transferred-entry : (n : ℕ) (column parts : List ℕ) (part : ℕ → ℕ → ℕ) → n ≤ 8 → ((i j : ℕ) → i < 8 → j < 8 → pairAt parts i j ≡ part i j) → ((i j : ℕ) → i < 8 → j < 8 → (n ≤ i) ⊎ (n ≤ j) → part i j ≡ 0) → (h : ℕ) → h < 8 → holderAt (transferredCells n column parts) h ≡ transferred n part (holderAt column) h
+unfolding holderAt transferredCells columnCells
+transferred-entry n column parts part few same others h l =
+    at-tabulate 8 (λ i. cond (ltb i n) (transferred n (pairAt parts) (holderAt column) i) (holderAt column i)) 0 h l ∙ go (decided (ltb h n))
   where
-    go : (ltb h n ≡ true) ⊎ (ltb h n ≡ false) → cond (ltb h n) (shifted n (pairAt parts) (holderAt column) h) (holderAt column h) ≡ shifted n part (holderAt column) h
-    go (inl t) = ap (λ b. cond b (shifted n (pairAt parts) (holderAt column) h) (holderAt column h)) t ∙ shifted-ext n (pairAt parts) part (holderAt column) (holderAt column) h few l same refl
+    go : (ltb h n ≡ true) ⊎ (ltb h n ≡ false) → cond (ltb h n) (transferred n (pairAt parts) (holderAt column) h) (holderAt column h) ≡ transferred n part (holderAt column) h
+    go (inl t) = ap (λ b. cond b (transferred n (pairAt parts) (holderAt column) h) (holderAt column h)) t ∙ transferred-ext n (pairAt parts) part (holderAt column) (holderAt column) h few l same refl
     go (inr t) =
         let past = ltb-false h n t in
-        ap (λ b. cond b (shifted n (pairAt parts) (holderAt column) h) (holderAt column h)) t
-        ∙ sym (nothing-shifted n part (holderAt column) h (λ j b. others h j l (omega arith) (inl past)) (λ j b. others j h (omega arith) l (inr past)))
+        ap (λ b. cond b (transferred n (pairAt parts) (holderAt column) h) (holderAt column h)) t
+        ∙ sym (nothing-transferred n part (holderAt column) h (λ j b. others h j l (omega arith) (inl past)) (λ j b. others j h (omega arith) l (inr past)))
 
 -- columns that agree on the eight holders are shared alike
 pub share-ext : (x : Transfer) (v w : ℕ → ℕ) (h : ℕ) → x .holders ≤ 8 → h < 8 → ((i : ℕ) → i < 8 → v i ≡ w i) → shareColumn x v h ≡ shareColumn x w h
 unfolding shareColumn shares
-share-ext x v w h few l same = shifted-ext (x .holders) _ _ v w h few l (λ i j a b. ap (λ y. share y (pairAt (x .m) i j) (holderAt (x .load) i)) (same i a)) (same h l)
+share-ext x v w h few l same = transferred-ext (x .holders) _ _ v w h few l (λ i j a b. ap (λ y. share y (pairAt (x .m) i j) (holderAt (x .load) i)) (same i a)) (same h l)
 
 pub load-ext : (x : Transfer) (v w : ℕ → ℕ) (h : ℕ) → x .holders ≤ 8 → h < 8 → ((i : ℕ) → i < 8 → v i ≡ w i) → loadColumn x v h ≡ loadColumn x w h
 unfolding loadColumn
-load-ext x v w h few l same = shifted-ext (x .holders) (pairAt (x .m)) (pairAt (x .m)) v w h few l (λ i j a b. refl) (same h l)
+load-ext x v w h few l same = transferred-ext (x .holders) (pairAt (x .m)) (pairAt (x .m)) v w h few l (λ i j a b. refl) (same h l)
 
 module _ (x : Transfer) (ok : Covered x) where
   -- an m is at most its loser's load
-  m-fits : (i j : ℕ) → i < x .holders → j < x .holders → pairAt (x .m) i j ≤ 8 * mostKw
+  m-fits : (i j : ℕ) → i < x .holders → j < x .holders → pairAt (x .m) i j ≤ 8 * maxKw
   m-fits i j li lj =
       le-trans (term-le-sum (λ k. pairAt (x .m) i k) (x .holders) j lj)
-      (le-trans (ok .covered i li) (one-fits (holderAt (x .load)) (x .holders) (8 * mostKw) i li (ok .loads)))
+      (le-trans (ok .covered i li) (one-fits (holderAt (x .load)) (x .holders) (8 * maxKw) i li (ok .loads)))
 
   pub products-fit : (column : List ℕ) → ColumnFits x (holderAt column) → ProductsFit column (x .m)
   products-fit column fits i j li lj = go (decided (ltb i (x .holders))) (decided (ltb j (x .holders)))
@@ -87,7 +87,7 @@ module _ (x : Transfer) (ok : Covered x) where
       go (inl a) (inl b) =
           let ri = ltb-true i (x .holders) a in
           let rj = ltb-true j (x .holders) b in
-          share-product-fits (holderAt column i) (pairAt (x .m) i j) (one-fits (holderAt column) (x .holders) (80 * mostKw) i ri fits) (m-fits i j ri rj)
+          share-product-fits (holderAt column i) (pairAt (x .m) i j) (one-fits (holderAt column) (x .holders) (80 * maxKw) i ri fits) (m-fits i j ri rj)
       go (inr a) b = none (ok .others i j li lj (inl (ltb-false i (x .holders) a)))
       go (inl a) (inr b) = none (ok .others i j li lj (inr (ltb-false j (x .holders) b)))
 
@@ -110,19 +110,19 @@ module _ (x : Transfer) (ok : Covered x) where
           (shares-fit (x .holders) (pairAt (x .m)) (holderAt (x .load)) (holderAt column) i (ok .covered i l))
 
   -- the column that the code makes is the one that moved
-  pub column-shared : (f : List ℕ) (p slot : ℕ) (column parts next : List ℕ) → column ≡ columnAt f p slot → parts ≡ shareCells column (x .m) (x .load) → next ≡ shiftedCells (x .holders) column parts → (h : ℕ) → h < 8 → holderAt next h ≡ shareColumn x (inColumn f p slot) h
+  pub column-shared : (f : List ℕ) (p slot : ℕ) (column parts next : List ℕ) → column ≡ columnAt f p slot → parts ≡ shareCells column (x .m) (x .load) → next ≡ transferredCells (x .holders) column parts → (h : ℕ) → h < 8 → holderAt next h ≡ shareColumn x (inColumn f p slot) h
   unfolding shareColumn
   column-shared f p slot column parts next read shared made h l =
       ap (λ c. holderAt c h) made
-      ∙ shifted-entry (x .holders) column parts (shares (pairAt (x .m)) (holderAt (x .load)) (holderAt column)) (ok .few) (share-at column parts shared) (λ i j li lj past. no-share (pairAt (x .m)) (holderAt (x .load)) (holderAt column) i j (ok .others i j li lj past)) h l
+      ∙ transferred-entry (x .holders) column parts (shares (pairAt (x .m)) (holderAt (x .load)) (holderAt column)) (ok .few) (share-at column parts shared) (λ i j li lj past. no-share (pairAt (x .m)) (holderAt (x .load)) (holderAt column) i j (ok .others i j li lj past)) h l
       ∙ share-ext x (holderAt column) (inColumn f p slot) h (ok .few) l (λ i b. ap (λ c. holderAt c i) read ∙ column-holder f p slot i b)
 
   -- and so is that of the loads
-  pub load-shared : (f : List ℕ) (p slot : ℕ) (next : List ℕ) → x .load ≡ columnAt f p slot → next ≡ shiftedCells (x .holders) (x .load) (x .m) → (h : ℕ) → h < 8 → holderAt next h ≡ loadColumn x (inColumn f p slot) h
+  pub load-shared : (f : List ℕ) (p slot : ℕ) (next : List ℕ) → x .load ≡ columnAt f p slot → next ≡ transferredCells (x .holders) (x .load) (x .m) → (h : ℕ) → h < 8 → holderAt next h ≡ loadColumn x (inColumn f p slot) h
   unfolding loadColumn
   load-shared f p slot next read made h l =
       ap (λ c. holderAt c h) made
-      ∙ shifted-entry (x .holders) (x .load) (x .m) (pairAt (x .m)) (ok .few) (λ i j li lj. refl) (ok .others) h l
+      ∙ transferred-entry (x .holders) (x .load) (x .m) (pairAt (x .m)) (ok .few) (λ i j li lj. refl) (ok .others) h l
       ∙ load-ext x (holderAt (x .load)) (inColumn f p slot) h (ok .few) l (λ i b. ap (λ c. holderAt c i) read ∙ column-holder f p slot i b)
 
   pub loads-fit : PartsFit (x .holders) (x .load) (x .m)
@@ -131,7 +131,7 @@ module _ (x : Transfer) (ok : Covered x) where
   -- of a column that holds nothing, nothing goes over
   pub nothing-shared : (v : ℕ → ℕ) (h : ℕ) → h < 8 → ((i : ℕ) → i < 8 → v i ≡ 0) → shareColumn x v h ≡ v h
   unfolding shareColumn
-  nothing-shared v h l none = nothing-shifted (x .holders) (shares (pairAt (x .m)) (holderAt (x .load)) v) v h (λ j b. nothing h j l) (λ j b. nothing j h (let few = ok .few in omega arith))
+  nothing-shared v h l none = nothing-transferred (x .holders) (shares (pairAt (x .m)) (holderAt (x .load)) v) v h (λ j b. nothing h j l) (λ j b. nothing j h (let few = ok .few in omega arith))
     where
       nothing : (i j : ℕ) → i < 8 → shares (pairAt (x .m)) (holderAt (x .load)) v i j ≡ 0
       nothing i j b = share-of-nothing (pairAt (x .m)) (holderAt (x .load)) v i j (none i b)

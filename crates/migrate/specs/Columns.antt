@@ -3,7 +3,7 @@ use Prim.Native.Nat.{ℕ, zero, suc, _<_}
 use mathlib.Core.Path.{_≡_}
 use mathlib.Core.List.{List}
 use lib.ListN.{length}
-use Rattle.migration.specs.Netting.{holderAt, columnCells}
+use Rattle.netting.specs.Netting.{holderAt, columnCells}
 use Rattle.slots.specs.Cells.{maxPlaces, readAt, storedAt, Shows}
 use Rattle.slots.specs.Layout.{figureSlots, figureCount}
 
@@ -25,6 +25,6 @@ unfoldable pub columnStored : List ℕ → (p slot : ℕ) → List ℕ → ℕ �
 columnStored f p slot column zero = f
 columnStored f p slot column (suc n) = storedAt figureSlots (columnStored f p slot column n) n p slot (holderAt column n)
 
--- each column of the figures is put through a function of its place and slot, and the numbers behind the figures stay
+-- each column of the figures is put through a function of its place and slot, and the numbers after the figures stay
 abbrev pub Transferred : (ℕ → ℕ → (ℕ → ℕ) → ℕ → ℕ) → List ℕ → List ℕ → Type 0
 Transferred column f f′ = (g : ℕ → ℕ → ℕ → ℕ) (rest : List ℕ) → Shows figureSlots 0 f g rest → Shows figureSlots 0 f′ (λ h p slot. column p slot (λ i. g i p slot) h) rest

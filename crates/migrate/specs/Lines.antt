@@ -4,10 +4,10 @@ use mathlib.Core.Bool.{Bool, _||_}
 use mathlib.Core.List.{List}
 use lib.ListN.{getD}
 use lib.Dec.{eqb}
-use Rattle.migration.specs.ClassRanges.{wrongClassFields}
-use Rattle.migration.specs.Netting.{nettingOf}
-use Rattle.ledger.specs.Opening.{Opening, outsideEntity, holderKind}
-use Rattle.ledger.specs.Ranges.{noHolder}
+use Rattle.netting.specs.ClassRanges.{classFieldsOutOfRange}
+use Rattle.netting.specs.Netting.{nettingOf}
+use Rattle.ledger.specs.Opening.{Opening, obaalse, holderKind}
+use Rattle.ledger.specs.Ranges.{unknownHolder}
 use Rattle.migrate.specs.declared.transfers.Transfer.{Transfer}
 use Rattle.records.specs.Opening.{openingIn}
 use Rattle.slots.specs.Layout.{loadSlot}
@@ -19,15 +19,15 @@ earlyCauses = 4
 
 -- a line that names a holder who is not in the book
 unfoldable pub unknownAt : Opening → List ℕ → List ℕ → ℕ → Bool
-unknownAt o froms tos k = noHolder o (getD froms k 0) || noHolder o (getD tos k 0)
+unknownAt o froms tos k = unknownHolder o (getD froms k 0) || unknownHolder o (getD tos k 0)
 
 -- a line with a field outside its range
 unfoldable pub outOfRangeAt : List ℕ → List ℕ → List ℕ → ℕ → Bool
-outOfRangeAt classes customers watts k = wrongClassFields (getD classes k 0) (getD customers k 0) (getD watts k 0)
+outOfRangeAt classes customers watts k = classFieldsOutOfRange (getD classes k 0) (getD customers k 0) (getD watts k 0)
 
--- a line from a holder to itself, or with a holder outside the balancing area
+-- a line from a holder to itself, or one that names an OBAALSE
 unfoldable pub notBetweenAt : Opening → List ℕ → List ℕ → ℕ → Bool
-notBetweenAt o froms tos k = eqb (getD froms k 0) (getD tos k 0) || eqb (holderKind o (getD froms k 0)) outsideEntity || eqb (holderKind o (getD tos k 0)) outsideEntity
+notBetweenAt o froms tos k = eqb (getD froms k 0) (getD tos k 0) || eqb (holderKind o (getD froms k 0)) obaalse || eqb (holderKind o (getD tos k 0)) obaalse
 
 -- what a migration transfers: the m of each pair, and the loads at the sink and term before it
 unfoldable pub transferOf : List ℕ → List ℕ → ℕ → ℕ → List ℕ → List ℕ → List ℕ → List ℕ → List ℕ → Transfer

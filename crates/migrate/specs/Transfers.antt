@@ -8,21 +8,21 @@ use lib.ListN.{length}
 use lib.Dec.{leb, ltb, eqb}
 use Rattle.tariff.specs.Sizes.{maxHolders, maxPlaces, lastTerm}
 use Rattle.tariff.specs.Sum.{sumTo}
-use Rattle.tariff.specs.Ranges.{mostKw}
-use Rattle.migration.specs.Migration.{shares, shifted}
-use Rattle.migration.specs.Netting.{pairAt, holderAt}
+use Rattle.tariff.specs.Ranges.{maxKw}
+use Rattle.netting.specs.Migration.{shares, transferred}
+use Rattle.netting.specs.Netting.{pairAt, holderAt}
 use Rattle.ledger.specs.Opening.{Opening, endsAt}
 use Rattle.records.specs.Opening.{openingIn, KeepsBases}
 use Rattle.slots.specs.Layout.{figureCount, loadSlot, priorSlot, carriedSlot, awardedSlot, nominatedSlot}
 use Rattle.migrate.specs.declared.transfers.Transfer.{Transfer}
 use Rattle.migrate.specs.Columns.{HasColumn, inColumn}
 
--- a column after m has gone over, and after its shares have
+-- a column after m was transferred, and after its shares were
 unfoldable pub loadColumn : Transfer → (ℕ → ℕ) → ℕ → ℕ
-loadColumn x v = shifted (x .holders) (pairAt (x .m)) v
+loadColumn x v = transferred (x .holders) (pairAt (x .m)) v
 
 unfoldable pub shareColumn : Transfer → (ℕ → ℕ) → ℕ → ℕ
-shareColumn x v = shifted (x .holders) (shares (pairAt (x .m)) (holderAt (x .load)) v) v
+shareColumn x v = transferred (x .holders) (shares (pairAt (x .m)) (holderAt (x .load)) v) v
 
 -- the slots of a path that a migration moves: the season's are prior's a and a − l and the carried holdings, side by side; a month's are its carried
 -- and its awarded holding
@@ -45,12 +45,12 @@ loadAt term sink p slot = eqb p sink && eqb slot (loadSlot + term)
 pub record Covered (x : Transfer) : Type 0 where
   pub few : x .holders ≤ maxHolders
   pub covered : (i : ℕ) → i < x .holders → sumTo (x .holders) (λ j. pairAt (x .m) i j) ≤ holderAt (x .load) i
-  pub loads : sumTo (x .holders) (holderAt (x .load)) ≤ maxHolders * mostKw
+  pub loads : sumTo (x .holders) (holderAt (x .load)) ≤ maxHolders * maxKw
   pub others : (i j : ℕ) → i < maxHolders → j < maxHolders → (x .holders ≤ i) ⊎ (x .holders ≤ j) → pairAt (x .m) i j ≡ 0
 
 -- the most kW that a column has together
 abbrev pub ColumnFits : Transfer → (ℕ → ℕ) → Type 0
-ColumnFits x v = sumTo (x .holders) v ≤ 80 * mostKw
+ColumnFits x v = sumTo (x .holders) v ≤ 80 * maxKw
 
 -- a slot of a path: what stands in it can move, if it is one that does
 pub record SlotFits (f : List ℕ) (term p slot : ℕ) (x : Transfer) : Type 0 where

@@ -6,9 +6,9 @@ use crate::transfers::Transfer;
 use crate::transfers::column_at;
 use crate::transfers::transfer_load;
 use crate::transfers::transfer_rights;
-use migration::netting::net_lines;
-use migration::netting::same_counts;
-use migration::shares::given_by;
+use netting::netting::net_lines;
+use netting::netting::same_counts;
+use netting::shares::given_by;
 use records::answers::Answer;
 use records::calendar::migration_in_time;
 use records::numbers::LOSS_ABOVE_LOAD;
@@ -18,9 +18,9 @@ use records::numbers::NOT_IN_BOOK;
 use records::numbers::OUT_OF_RANGE;
 use records::numbers::UNREADABLE;
 use records::refusals::refuse;
-use records::refusals::wrong_term;
+use records::refusals::term_out_of_range;
 use records::setup::holders;
-use records::setup::no_sink;
+use records::setup::unknown_sink;
 use slots::calendar::current_tier;
 use slots::calendar::last_closed;
 use slots::layout::LOAD;
@@ -31,7 +31,7 @@ ghost use lib.ListN.{take};
 ghost use lib.Dec.{ltb};
 ghost use Rattle.tariff.specs.Sizes.{maxHolders};
 ghost use Rattle.tariff.specs.Sum.{sumTo, anyBelow};
-ghost use Rattle.migration.specs.Netting.{pairAt, holderAt, classLinesOf, sameCounts, SameLengths};
+ghost use Rattle.netting.specs.Netting.{pairAt, holderAt, classLinesOf, sameCounts, SameLengths};
 ghost use Rattle.ledger.specs.Call.{migrate};
 ghost use Rattle.ledger.specs.Numbers.{firstMet};
 ghost use Rattle.ledger.specs.Causes.{migrateCauses};
@@ -74,8 +74,8 @@ fn early_refusal(
     requires { ⌜ SameLengths (now froms) (now tos) (now classes) (now customers) (now watts) ⌝ }
     ensures { λ r. ⌜ InFigures (now (o .entry)) (now (f .entry)) (λ O L. r ≡ firstMet (take earlyCauses (migrateCauses O L term sink (classLinesOf (now (froms .entry)) (now (tos .entry)) (now (classes .entry)) (now (customers .entry)) (now (watts .entry)))))) ⌝ }
 {
-    let unknown = no_sink(o, sink) | any_unknown(o, froms, tos);
-    let fields = wrong_term(term) | (MAX_CLASS_LINES < froms.len());
+    let unknown = unknown_sink(o, sink) | any_unknown(o, froms, tos);
+    let fields = term_out_of_range(term) | (MAX_CLASS_LINES < froms.len());
     let range = fields | any_out_of_range(classes, customers, watts);
     let late = !migration_in_time(term, last_closed(f), current_tier(f));
     let apart = any_not_between(o, froms, tos);

@@ -1,6 +1,6 @@
 // What a migration does to a book's figures, column by column (01, Migration).
-use migration::shares::shares_of;
-use migration::shares::shifted_column;
+use netting::shares::shares_of;
+use netting::shares::transferred_column;
 use records::setup::path_base;
 use slots::cells::read;
 use slots::cells::store;
@@ -18,7 +18,7 @@ ghost use Prim.Native.Nat.{_+_, _≤_};
 ghost use Rattle.tariff.specs.Sizes.{maxHolders, lastTerm};
 ghost use Rattle.tariff.specs.Sum.{allBelow};
 ghost use lib.Dec.{eqb};
-ghost use Rattle.migration.specs.Netting.{holderAt};
+ghost use Rattle.netting.specs.Netting.{holderAt};
 ghost use Rattle.records.specs.Opening.{openingOf};
 ghost use Rattle.slots.specs.Layout.{loadSlot};
 ghost use Rattle.migrate.specs.Columns.{HasColumn, inColumn, columnAt, columnStored, Transferred};
@@ -72,7 +72,7 @@ fn is_empty(column: [u64; MAX_HOLDERS]) -> bool
     true
 }
 
-// The shares of one column gone over. Of a column that holds nothing, nothing goes.
+// Transfers the shares of one column of records. A column that holds nothing is left as it is.
 fn transfer_column(f: &mut [u64], p: u64, slot: u64, x: Transfer)
     requires { ⌜ HasColumn (now f) p slot × Covered x × ColumnFits x (inColumn (now f) p slot) ⌝ }
     ensures { λ r. ⌜ Transferred (columnWhere (λ q j. eqb q p && eqb j slot) (shareColumn x)) (now (f .entry)) (now (f .exit)) ⌝ }
@@ -84,7 +84,7 @@ fn transfer_column(f: &mut [u64], p: u64, slot: u64, x: Transfer)
     let m = x.m;
     let load = x.load;
     let parts = shares_of(column, m, load);
-    let next = shifted_column(column, &parts, x.holders as usize);
+    let next = transferred_column(column, &parts, x.holders as usize);
     store_column(f, p, slot, next);
 }
 
@@ -99,7 +99,7 @@ fn slot_moves(term: u64, slot: u64) -> bool
     (slot == CARRIED + term - 1) | (slot == AWARDED + term - 1)
 }
 
-// The shares of one slot of a path gone over, if it is one that moves.
+// Transfers the shares of one slot of a path, if it is one that moves.
 fn transfer_slot(f: &mut [u64], term: u64, p: u64, slot: u64, x: Transfer)
     requires { ⌜ SlotFits (now f) term p slot x ⌝ }
     ensures { λ r. ⌜ Transferred (columnWhere (λ q j. (eqb q p && slotMoves term j) && eqb j slot) (shareColumn x)) (now (f .entry)) (now (f .exit)) ⌝ }
@@ -110,7 +110,7 @@ fn transfer_slot(f: &mut [u64], term: u64, p: u64, slot: u64, x: Transfer)
     transfer_column(f, p, slot, x);
 }
 
-// The shares of a path's slots gone over, if its sink has this base. The slots that can move stand side by side: prior's, carried and awarded holdings.
+// Transfers the shares of a path's slots, if its sink has this base. The slots that can move stand side by side: prior's, carried and awarded holdings.
 fn transfer_path(f: &mut [u64], o: &[u64], term: u64, sink: u64, p: u64, x: Transfer)
     requires { ⌜ PathFits (now o) (now f) term sink x p ⌝ }
     ensures { λ r. ⌜ Transferred (columnWhere (λ q j. movesAt (openingOf (o .entry)) term sink q j && eqb q p) (shareColumn x)) (now (f .entry)) (now (f .exit)) ⌝ }
@@ -125,7 +125,7 @@ fn transfer_path(f: &mut [u64], o: &[u64], term: u64, sink: u64, p: u64, x: Tran
     }
 }
 
-// The shares of every slot that moves gone over, path by path.
+// Transfers the shares of every slot that moves, path by path.
 pub fn transfer_rights(f: &mut [u64], o: &[u64], term: u64, sink: u64, x: Transfer)
     requires { ⌜ RightsFit (now o) (now f) term sink x ⌝ }
     ensures { λ r. ⌜ Transferred (columnWhere (movesAt (openingOf (o .entry)) term sink) (shareColumn x)) (now (f .entry)) (now (f .exit)) ⌝ }
@@ -137,13 +137,13 @@ pub fn transfer_rights(f: &mut [u64], o: &[u64], term: u64, sink: u64, x: Transf
     }
 }
 
-// Load m gone over at the sink and term.
+// Transfers the load m of each pair at the sink and term.
 pub fn transfer_load(f: &mut [u64], term: u64, sink: u64, x: Transfer)
     requires { ⌜ HasColumn (now f) sink (loadSlot + term) × Covered x × (x .load ≡ columnAt (now f) sink (loadSlot + term)) ⌝ }
     ensures { λ r. ⌜ Transferred (columnWhere (loadAt term sink) (loadColumn x)) (now (f .entry)) (now (f .exit)) ⌝ }
 {
     let load = x.load;
     let m = x.m;
-    let next = shifted_column(load, &m, x.holders as usize);
+    let next = transferred_column(load, &m, x.holders as usize);
     store_column(f, sink, LOAD + term, next);
 }

@@ -13,17 +13,17 @@ use Rattle.tariff.specs.declared.evidence.Entry.{Entry}
 use Rattle.tariff.specs.declared.limit.Sums.{Sums}
 use Rattle.tariff.specs.declared.limit.TierRule.{TierRule}
 use Rattle.tariff.specs.Limit.{ruleOf}
-use Rattle.tariff.specs.Sum.{countIf, allBelow}
+use Rattle.tariff.specs.Sum.{whenTrue, allBelow}
 use Rattle.tariff.specs.Terms.{termTable, termOf, carriedMonth}
 use Rattle.tariff.proofs.Sums.{sum-ext}
 use Rattle.tariff.proofs.Tests.{all-below, or-unmet}
 use Rattle.ledger.specs.Opening as opening
 use Rattle.ledger.specs.Ledger.{Ledger}
-use Rattle.ledger.specs.Ranges.{noHolder, noSink}
+use Rattle.ledger.specs.Ranges.{unknownHolder, unknownSink}
 use Rattle.ledger.specs.Limits.{sumAtBase, longTermAt, priorYearAt, awardsAt, limitSums, tierLimit}
 use Rattle.ledger.specs.Call.{limitOf}
 use Rattle.ledger.specs.Causes.{limitCauses, queryCauses, queryRefusal}
-use Rattle.ledger.specs.Season.{figure}
+use Rattle.ledger.specs.Season.{queryValue}
 use Rattle.ledger.proofs.Unmet.{unmet}
 use Rattle.records.specs.declared.answers.Answer.the-variants.{Value}
 use Rattle.records.specs.Opening.{openingIn}
@@ -35,7 +35,7 @@ use Rattle.slots.proofs.Reachable.{counts, sound, figures-long}
 use Rattle.slots.proofs.Figures.{by-number, from-zero, summable}
 use Rattle.slots.proofs.Places.{base-place}
 use Rattle.slots.proofs.StepLaws.{query-answered}
-use Rattle.nominations.specs.Asked.{LimitAsked}
+use Rattle.nominations.specs.Inputs.{LimitInputs}
 use Rattle.nominations.specs.PathSums.{slotTo, sumsTo, PathsSummable}
 
 -- the open tier is none past the last
@@ -57,7 +57,7 @@ carried-range term l = go (eqb term 0) refl
     go true e = (omega arith, omega arith)
     go false e = let some = eqb-false term 0 e in (omega (arith, some), omega arith)
 
-module _ (o f : List ℕ) (tier h base month last : ℕ) (rule : TierRule) (asked : LimitAsked o f tier h base) (ofTier : rule ≡ ruleOf tier) where
+module _ (o f : List ℕ) (tier h base month last : ℕ) (rule : TierRule) (inputs : LimitInputs o f tier h base) (ofTier : rule ≡ ruleOf tier) where
   abbrev O : opening.Opening
   O = openingIn o
 
@@ -66,14 +66,14 @@ module _ (o f : List ℕ) (tier h base month last : ℕ) (rule : TierRule) (aske
   term-is = ap (λ (r : TierRule). r .term) ofTier
 
   term-fits : rule .term < terms
-  term-fits = let t = term-is in let fits = term-below tier (asked .last) in omega arith
+  term-fits = let t = term-is in let fits = term-below tier (inputs .last) in omega arith
 
   few : O .holders ≤ 8
-  few = counts o f _ _ (asked .figures .reachable) .0
+  few = counts o f _ _ (inputs .figures .reachable) .0
 
   -- the cell of the load
   pub load-cell : HasCell figureSlots h base (loadSlot + rule .term) × (length f ≡ figureCount)
-  load-cell = (record { holder = le-trans (asked .holder) few; place = asked .place; inRow = let t = term-fits in omega arith }, figures-long o f _ _ (asked .figures .reachable))
+  load-cell = (record { holder = le-trans (inputs .holder) few; place = inputs .place; inRow = let t = term-fits in omega arith }, figures-long o f _ _ (inputs .figures .reachable))
 
   -- the month of the carried rights
   pub month-range : month ≡ carriedMonth (rule .term) → (1 ≤ month) × (month ≤ lastMonth)
@@ -83,9 +83,9 @@ module _ (o f : List ℕ) (tier h base month last : ℕ) (rule : TierRule) (aske
   pub all-summable : month ≡ carriedMonth (rule .term) → last ≡ tier - 1 → PathsSummable o f h (carriedSlot + (month - 1)) (awardsSlot + last)
   all-summable e l =
       let months = month-range e in
-      let few = asked .last in
+      let few = inputs .last in
       record {
-        slots = λ slot i. summable o f _ _ (asked .figures .reachable) h slot (asked .holder) i;
+        slots = λ slot i. summable o f _ _ (inputs .figures .reachable) h slot (inputs .holder) i;
         carriedInRow = omega arith;
         beforeInRow = omega arith;
       }
@@ -97,10 +97,10 @@ module _ (o f : List ℕ) (tier h base month last : ℕ) (rule : TierRule) (aske
     -- a sum over all paths, by the ledger's figure
     at-base : (slot : ℕ) (v : ℕ → ℕ) → ((p : ℕ) → p < 16 → onPath f h slot p ≡ v p) → slotTo O f h base slot (O .paths) ≡ sumAtBase O base v
     unfolding slotTo sumAtBase
-    at-base slot v e = sum-ext (O .paths) (λ p l. ap (countIf (opening.endsAt O base p)) (e p (le-trans l (counts o f m x r .3))))
+    at-base slot v e = sum-ext (O .paths) (λ p l. ap (whenTrue (opening.endsAt O base p)) (e p (le-trans l (counts o f m x r .3))))
 
     holder : h < 8
-    holder = le-trans (asked .holder) few
+    holder = le-trans (inputs .holder) few
 
     awards-at : (t : ℕ) → t < tierSlots → slotTo O f h base (awardsSlot + t) (O .paths) ≡ awardsAt O L h base t
     unfolding awardsAt ledgerIn
@@ -111,10 +111,10 @@ module _ (o f : List ℕ) (tier h base month last : ℕ) (rule : TierRule) (aske
     unfolding sumsTo limitSums longTermAt priorYearAt ledgerIn
     limit-sums-are load sums ofTerm before ofLoad is =
         let months = month-range ofTerm in
-        let final = asked .last in
+        let final = inputs .last in
         is ∙ (λ i.
         record {
-          load = (ofLoad ∙ from-zero f loadSlot terms h base (rule .term) holder (asked .place) term-fits ∙ ap (L .loads .kw h base) term-is) i;
+          load = (ofLoad ∙ from-zero f loadSlot terms h base (rule .term) holder (inputs .place) term-fits ∙ ap (L .loads .kw h base) term-is) i;
           carried = (at-base (carriedSlot + (month - 1)) _ (λ p k. by-number f carriedSlot lastMonth h p month holder k 1 (months .0) (omega arith)) ∙ ap (longTermAt O L h base) (ofTerm ∙ ap carriedMonth term-is)) i;
           prior = at-base priorSlot _ (λ p k. from-zero f priorSlot 1 h p 0 holder k (omega arith)) i;
           tier1 = awards-at 1 (omega arith) i;
@@ -125,13 +125,13 @@ module _ (o f : List ℕ) (tier h base month last : ℕ) (rule : TierRule) (aske
 
 -- a limit query that meets no cause is of a holder and a sink in the book
 query-facts : (o : opening.Opening) (L : Ledger) (h s : ℕ) → queryRefusal o L (limitOf h s) ≡ 0 → (h < o .holders) × (s < o .sinks)
-unfolding queryRefusal queryCauses limitCauses noHolder noSink
+unfolding queryRefusal queryCauses limitCauses unknownHolder unknownSink
 query-facts o L h s e = let known = or-unmet _ _ (unmet 1 _ _ e .0) in (leb-false _ _ (known .0), leb-false _ _ (known .1))
 
 module _ (o f : List ℕ) (h s number tier base : ℕ) (found : InFigures o f (λ O L. number ≡ queryRefusal O L (limitOf h s))) (zero : number ≡ 0) (now : tier ≡ currentTierIn f) (there : base ≡ opening.base (openingIn o) s) where
   -- its limit can be asked for
-  pub query-asks : ReachableFigures o f → LimitAsked o f tier h base
-  query-asks k =
+  pub query-inputs : ReachableFigures o f → LimitInputs o f tier h base
+  query-inputs k =
       let known = query-facts (openingIn o) (ledgerIn f (k .posted) (k .evidence)) h s (sym (found _ _ (k .reachable)) ∙ zero) in
       record {
         figures = k;
@@ -142,5 +142,5 @@ module _ (o f : List ℕ) (h s number tier base : ℕ) (found : InFigures o f (�
 
   -- and is its answer
   pub limit-answered : (m : List Bool) (x : List Entry) (v : ℕ) → Reachable o f m x → v ≡ tierLimit (openingIn o) (ledgerIn f m x) tier h base → Value v ≡ queryAnswer (openingIn o) (ledgerIn f m x) (limitOf h s)
-  unfolding figure ledgerIn
+  unfolding queryValue ledgerIn
   limit-answered m x v r e = query-answered (openingIn o) (ledgerIn f m x) (limitOf h s) number (found m x r) v zero (e ∙ (λ i. tierLimit (openingIn o) (ledgerIn f m x) (now i) h (there i)))

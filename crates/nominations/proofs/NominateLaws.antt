@@ -1,4 +1,4 @@
--- What an accepted nomination asks of the figures, and what it leaves in them. Assumes nothing.
+-- What an accepted nomination needs of the figures, and what it leaves in them. Assumes nothing.
 use Prim.Native.Nat.{ℕ, _+_, _^_, _≤_, _<_}
 use mathlib.Core.Path.{_≡_, refl, ap, _∙_}
 use mathlib.Core.Bool.{Bool, _&&_, and-true}
@@ -9,7 +9,7 @@ use lib.ListN.{length, take, drop}
 use lib.Dec.{eqb}
 use borrow.Author.Tests.{eq-eqb}
 use Rattle.tariff.specs.declared.evidence.Entry.{Entry}
-use Rattle.tariff.specs.Sum.{countIf}
+use Rattle.tariff.specs.Sum.{whenTrue}
 use Rattle.ledger.specs.Opening.{Opening}
 use Rattle.ledger.specs.Ledger.{Ledger, withTiers}
 use Rattle.ledger.specs.Call.{nominate}
@@ -47,10 +47,10 @@ module _ (o f : List ℕ) (m : List Bool) (x : List Entry) (h p kw number : ℕ)
   )
 
   -- kW more in one tier, as its slot has it
-  more-nominated : (t y z n : ℕ) (v : ℕ → ℕ → ℕ → ℕ) → 0 ≤ n → n < 1 → plusAt3 h p t kw v y z t ≡ v y z t + countIf (same3 h p 0 y z n) kw
+  more-nominated : (t y z n : ℕ) (v : ℕ → ℕ → ℕ → ℕ) → 0 ≤ n → n < 1 → plusAt3 h p t kw v y z t ≡ v y z t + whenTrue (same3 h p 0 y z n) kw
   unfolding plusAt3 plusAt2 same3 same2
   more-nominated t y z n v above below =
-      ap (λ b. v y z t + countIf b kw) (ap (λ b. eqb y h && eqb z p && b) (eq-eqb t t refl) ∙ and-true (eqb y h && eqb z p))
+      ap (λ b. v y z t + whenTrue b kw) (ap (λ b. eqb y h && eqb z p && b) (eq-eqb t t refl) ∙ and-true (eqb y h && eqb z p))
       ∙ single-added h p kw (λ i j. v i j t) y z n above below
 
   -- the open tier's nominations are new, and nothing else
@@ -58,7 +58,7 @@ module _ (o f : List ℕ) (m : List Bool) (x : List Entry) (h p kw number : ℕ)
   unfolding figuresOf figureGroups calendarOf slotsOf effect withTiers afterNominate
   nominated f′ e =
       e ∙ shown-is figureSlots 0 _ (addedAt figureSlots f h p nominatedSlot kw) (calendarOf L) (omega arith)
-      (slot-added figureSlots nominatedSlot 1 0 (take 5 (figureGroups L)) (drop 6 (figureGroups L)) refl (omega arith) (λ y z n. L .tiers .nominated y z (L .tiers .openNow)) _ f (calendarOf L) h p 0 kw (nominate-room .0 .holder) (nominate-room .0 .place) (omega arith) (λ y z n above below. more-nominated (L .tiers .openNow) y z n (L .tiers .nominated) above below) (figures-shown o f m x r))
+      (slot-added figureSlots nominatedSlot 1 0 (take 5 (figureGroups L)) (drop 6 (figureGroups L)) refl (omega arith) (λ y z n. L .tiers .nominated y z (L .tiers .currentTier)) _ f (calendarOf L) h p 0 kw (nominate-room .0 .holder) (nominate-room .0 .place) (omega arith) (λ y z n above below. more-nominated (L .tiers .currentTier) y z n (L .tiers .nominated) above below) (figures-shown o f m x r))
 
   posted : m ≡ postedOf (effect O L (nominate h p kw))
   unfolding postedOf postedGroups effect withTiers

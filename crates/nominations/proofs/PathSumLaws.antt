@@ -8,8 +8,8 @@ use native.Mathlib.Omega.{arith}
 use lib.Dec.{eqb}
 use borrow.Author.Tests.{not-true, not-false}
 use Rattle.tariff.specs.declared.limit.Sums.{Sums}
-use Rattle.tariff.specs.Sum.{countIf, sumTo}
-use Rattle.tariff.proofs.Sums.{count-true, count-false, count-le, sum-more}
+use Rattle.tariff.specs.Sum.{whenTrue, sumTo}
+use Rattle.tariff.proofs.Sums.{when-is-true, when-is-false, when-le, sum-more}
 use Rattle.ledger.specs.Opening.{Opening, pathBase, endsAt}
 use Rattle.ledger.proofs.Bounds.{paths-fit}
 use Rattle.records.specs.Opening.{openingIn}
@@ -34,8 +34,8 @@ module _ (f : List ℕ) (h p carried before : ℕ) (s : Sums) where
         before = same (s .before) (onPath f h before p) none i;
       }
     where
-      same : (sum v : ℕ) → counts ≡ false → sum ≡ sum + countIf counts v
-      same sum v none = let zero = count-false v none in omega arith
+      same : (sum v : ℕ) → counts ≡ false → sum ≡ sum + whenTrue counts v
+      same sum v none = let zero = when-is-false v none in omega arith
 
   -- one that counts adds its figures
   pub added : (counts : Bool) (a b c d e g : ℕ) → not counts ≡ false → a ≡ onPath f h carried p → b ≡ onPath f h priorSlot p → c ≡ onPath f h (awardsSlot + 1) p → d ≡ onPath f h (awardsSlot + 2) p → e ≡ onPath f h (awardsSlot + 3) p → g ≡ onPath f h before p → _≡_ {A = Sums} (record { load = s .load; carried = s .carried + a; prior = s .prior + b; tier1 = s .tier1 + c; tier2 = s .tier2 + d; tier3 = s .tier3 + e; before = s .before + g }) (withPath f h p carried before counts s)
@@ -52,8 +52,8 @@ module _ (f : List ℕ) (h p carried before : ℕ) (s : Sums) where
         before = more (s .before) g (onPath f h before p) eg i;
       }
     where
-      more : (sum v w : ℕ) → v ≡ w → sum + v ≡ sum + countIf counts w
-      more sum v w q = let whole = count-true w (not-false counts some) in omega arith
+      more : (sum v w : ℕ) → v ≡ w → sum + v ≡ sum + whenTrue counts w
+      more sum v w q = let all-of-it = when-is-true w (not-false counts some) in omega arith
 
 -- a figure of a path has room beside a sum
 pub has-room : (sum v w : ℕ) → sum ≤ 16 * maxFigure → v ≡ w → w ≤ maxFigure → sum + v < 2 ^ 64
@@ -65,9 +65,9 @@ module _ (O : Opening) (f : List ℕ) (h base load carried before : ℕ) where
   unfolding sumsTo slotTo sumTo
   sums-none = refl
 
-  slot-more : (slot p : ℕ) → slotTo O f h base slot p + countIf (endsAt O base p) (onPath f h slot p) ≡ slotTo O f h base slot (p + 1)
+  slot-more : (slot p : ℕ) → slotTo O f h base slot p + whenTrue (endsAt O base p) (onPath f h slot p) ≡ slotTo O f h base slot (p + 1)
   unfolding slotTo
-  slot-more slot p = sum-more (λ p. countIf (endsAt O base p) (onPath f h slot p)) p _ _ refl refl
+  slot-more slot p = sum-more (λ p. whenTrue (endsAt O base p) (onPath f h slot p)) p _ _ refl refl
 
   one-more : (p : ℕ) → withPath f h p carried before (endsAt O base p) (sumsTo O f h base load carried before p) ≡ sumsTo O f h base load carried before (p + 1)
   unfolding withPath sumsTo
@@ -98,7 +98,7 @@ module _ (o f : List ℕ) (h base load carried before : ℕ) (all : PathsSummabl
   unfolding slotTo
   slot-fits slot n l k =
       let s = all .slots slot l in
-      paths-fit (λ p. countIf (endsAt O base p) (onPath f h slot p)) n maxFigure (le-trans k (s .few)) (λ p i. le-trans (count-le (endsAt O base p) (onPath f h slot p)) (s .each p (le-trans i k)))
+      paths-fit (λ p. whenTrue (endsAt O base p) (onPath f h slot p)) n maxFigure (le-trans k (s .few)) (λ p i. le-trans (when-le (endsAt O base p) (onPath f h slot p)) (s .each p (le-trans i k)))
 
   sums-fit : (n : ℕ) → n ≤ O .paths → SumsFit (sumsTo O f h base load carried before n)
   unfolding sumsTo

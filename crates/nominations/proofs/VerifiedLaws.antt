@@ -12,13 +12,13 @@ use borrow.Author.Tests.{eq-eqb, ne-eqb, ltb-true, ltb-false}
 use Rattle.tariff.specs.Sizes.{terms, ownership, contract}
 use Rattle.tariff.specs.declared.evidence.Entry.{Entry}
 use Rattle.tariff.specs.Evidence.{entryKw}
-use Rattle.tariff.specs.Ranges.{mostKw}
+use Rattle.tariff.specs.Ranges.{maxKw}
 use Rattle.tariff.specs.Terms.{termOf}
 use Rattle.tariff.proofs.Tests.{decided, and-left-false}
 use Rattle.ledger.specs.Opening.{Opening, holderKind, pathSource}
 use Rattle.ledger.specs.Ledger.{Ledger}
-use Rattle.ledger.specs.Causes.{beyondVerified}
-use Rattle.ledger.specs.Verification.{verifiedKw, drawn}
+use Rattle.ledger.specs.Causes.{exceedsVerified}
+use Rattle.ledger.specs.Verification.{verifiedKw, sourceUsage}
 use Rattle.records.specs.Opening.{openingIn}
 use Rattle.slots.specs.Cells.{HasCell, readAt}
 use Rattle.slots.specs.Layout.{ownershipSlot, contractSlot, figureSlots, figureCount, currentTierIn, ledgerIn}
@@ -42,17 +42,17 @@ module _ (o f : List ℕ) (m : List Bool) (x : List Entry) (r : Reachable o f m 
     pub source-cell : (slot : ℕ) → slot < figureSlots → HasCell figureSlots h s slot × (length f ≡ figureCount)
     source-cell slot k = (record { holder = holder; place = place; inRow = k }, figures-long o f m x r)
 
-    -- the four slots of ownership and behind them those of the contract, by term
-    owned-is : (term : ℕ) → term < terms → readAt figureSlots 0 f h s (ownershipSlot + term) ≡ entryKw term (L .papers .entry h s ownership)
+    -- the four slots of ownership and after them those of the contract, by term
+    owned-is : (term : ℕ) → term < terms → readAt figureSlots 0 f h s (ownershipSlot + term) ≡ entryKw term (L .evidence .entry h s ownership)
     owned-is term k = ownership-read o f m x r h s term holder place k
 
-    contracted-is : (term : ℕ) → term < terms → readAt figureSlots 0 f h s (ownershipSlot + term + terms) ≡ entryKw term (L .papers .entry h s contract)
+    contracted-is : (term : ℕ) → term < terms → readAt figureSlots 0 f h s (ownershipSlot + term + terms) ≡ entryKw term (L .evidence .entry h s contract)
     contracted-is term k = ap (readAt figureSlots 0 f h s) (let e : ownershipSlot + term + terms ≡ contractSlot + term = omega arith in e) ∙ contract-read o f m x r h s term holder place k
 
-    pub verified-fits : (slot v : ℕ) → ownershipSlot ≤ slot → slot < contractSlot + terms → v ≡ readAt figureSlots 0 f h s slot → v ≤ mostKw
+    pub verified-fits : (slot v : ℕ) → ownershipSlot ≤ slot → slot < contractSlot + terms → v ≡ readAt figureSlots 0 f h s slot → v ≤ maxKw
     verified-fits slot v above below e = le-trans (le-of-eq e) (go (decided (ltb slot contractSlot)))
       where
-        go : (ltb slot contractSlot ≡ true) ⊎ (ltb slot contractSlot ≡ false) → readAt figureSlots 0 f h s slot ≤ mostKw
+        go : (ltb slot contractSlot ≡ true) ⊎ (ltb slot contractSlot ≡ false) → readAt figureSlots 0 f h s slot ≤ maxKw
         go (inl t) =
             let k = ltb-true slot contractSlot t in
             let at : slot ≡ ownershipSlot + (slot - ownershipSlot) = omega arith in
@@ -63,21 +63,21 @@ module _ (o f : List ℕ) (m : List Bool) (x : List Entry) (r : Reachable o f m 
             le-trans (le-of-eq (ap (readAt figureSlots 0 f h s) at ∙ contracted-is (slot - contractSlot) (omega arith))) (evidence-fits o f m x r h s contract (slot - contractSlot))
 
     -- what stands in the two slots of the open tier's term is the verified kW
-    pub verified-is : (tier term a b : ℕ) → tier ≡ currentTierIn f → term ≡ termOf tier → a ≡ readAt figureSlots 0 f h s (ownershipSlot + term) → b ≡ readAt figureSlots 0 f h s (ownershipSlot + term + terms) → a + b ≡ verifiedKw L h s (termOf (L .tiers .openNow))
+    pub verified-is : (tier term a b : ℕ) → tier ≡ currentTierIn f → term ≡ termOf tier → a ≡ readAt figureSlots 0 f h s (ownershipSlot + term) → b ≡ readAt figureSlots 0 f h s (ownershipSlot + term + terms) → a + b ≡ verifiedKw L h s (termOf (L .tiers .currentTier))
     unfolding verifiedKw ledgerIn
     verified-is tier term a b now ofTier owned contracted =
         let k = term-fits tier term now ofTier in
         (λ i. (owned ∙ owned-is term k) i + (contracted ∙ contracted-is term k) i) ∙ ap (verifiedKw L h s) (ofTier ∙ ap termOf now)
 
 module _ (O : Opening) (L : Ledger) (tier h p kw kind : ℕ) (is : kind ≡ holderKind O h) where
-  -- cause 11 is of an outside entity ..
-  pub not-outside : (kind ≡ 2 → ⊥) → false ≡ beyondVerified O L tier h p kw
-  unfolding beyondVerified
-  not-outside ne = sym (and-left-false _ (ne-eqb (holderKind O h) 2 (λ q. ne (is ∙ q))))
+  -- cause 11 is of an OBAALSE ..
+  pub not-obaalse : (kind ≡ 2 → ⊥) → false ≡ exceedsVerified O L tier h p kw
+  unfolding exceedsVerified
+  not-obaalse ne = sym (and-left-false _ (ne-eqb (holderKind O h) 2 (λ q. ne (is ∙ q))))
 
   -- .. that with kw more uses more than it has verified
-  pub verified-test : (source verified used : ℕ) → kind ≡ 2 → source ≡ pathSource O p → verified ≡ verifiedKw L h source (termOf tier) → used ≡ drawn O L tier h source → ltb verified (used + kw) ≡ beyondVerified O L tier h p kw
-  unfolding beyondVerified
-  verified-test source verified used outside s v u =
-      (λ i. ltb ((v ∙ ap (λ z. verifiedKw L h z (termOf tier)) s) i) ((u ∙ ap (drawn O L tier h) s) i + kw))
-      ∙ sym (ap (λ t. t && ltb (verifiedKw L h (pathSource O p) (termOf tier)) (drawn O L tier h (pathSource O p) + kw)) (eq-eqb (holderKind O h) 2 (sym is ∙ outside)))
+  pub verified-test : (source verified usage : ℕ) → kind ≡ 2 → source ≡ pathSource O p → verified ≡ verifiedKw L h source (termOf tier) → usage ≡ sourceUsage O L tier h source → ltb verified (usage + kw) ≡ exceedsVerified O L tier h p kw
+  unfolding exceedsVerified
+  verified-test source verified usage outside s v u =
+      (λ i. ltb ((v ∙ ap (λ z. verifiedKw L h z (termOf tier)) s) i) ((u ∙ ap (sourceUsage O L tier h) s) i + kw))
+      ∙ sym (ap (λ t. t && ltb (verifiedKw L h (pathSource O p) (termOf tier)) (sourceUsage O L tier h (pathSource O p) + kw)) (eq-eqb (holderKind O h) 2 (sym is ∙ outside)))

@@ -1,4 +1,4 @@
--- What a limit, a source's usage and a nomination ask of a book's arrays, and the sums that they are made of.
-pub mod Asked
+-- What a limit, a source's usage and a nomination need of a book's arrays, and the sums that they are made of.
+pub mod Inputs
 pub mod PathSums
 pub mod Usage

@@ -5,7 +5,7 @@ use mathlib.Core.Bool.{Bool}
 use mathlib.Core.List.{List}
 use lib.ListN.{length}
 use Rattle.tariff.specs.declared.limit.Sums.{Sums}
-use Rattle.tariff.specs.Sum.{countIf, sumTo}
+use Rattle.tariff.specs.Sum.{whenTrue, sumTo}
 use Rattle.ledger.specs.Opening.{Opening, endsAt}
 use Rattle.slots.specs.Cells.{maxHolders, maxPlaces}
 use Rattle.slots.specs.Layout.{figureSlots, figureCount, priorSlot, awardsSlot}
@@ -19,17 +19,17 @@ unfoldable pub withPath : List ℕ → (h p carried before : ℕ) → Bool → S
 withPath f h p carried before counts s =
     record {
       load = s .load;
-      carried = s .carried + countIf counts (onPath f h carried p);
-      prior = s .prior + countIf counts (onPath f h priorSlot p);
-      tier1 = s .tier1 + countIf counts (onPath f h (awardsSlot + 1) p);
-      tier2 = s .tier2 + countIf counts (onPath f h (awardsSlot + 2) p);
-      tier3 = s .tier3 + countIf counts (onPath f h (awardsSlot + 3) p);
-      before = s .before + countIf counts (onPath f h before p);
+      carried = s .carried + whenTrue counts (onPath f h carried p);
+      prior = s .prior + whenTrue counts (onPath f h priorSlot p);
+      tier1 = s .tier1 + whenTrue counts (onPath f h (awardsSlot + 1) p);
+      tier2 = s .tier2 + whenTrue counts (onPath f h (awardsSlot + 2) p);
+      tier3 = s .tier3 + whenTrue counts (onPath f h (awardsSlot + 3) p);
+      before = s .before + whenTrue counts (onPath f h before p);
     }
 
 -- what a holder has in a slot on the first n paths, of those whose sink has this base
 unfoldable pub slotTo : Opening → List ℕ → (h base slot n : ℕ) → ℕ
-slotTo O f h base slot n = sumTo n (λ p. countIf (endsAt O base p) (onPath f h slot p))
+slotTo O f h base slot n = sumTo n (λ p. whenTrue (endsAt O base p) (onPath f h slot p))
 
 -- the sums after n paths
 unfoldable pub sumsTo : Opening → List ℕ → (h base load carried before n : ℕ) → Sums

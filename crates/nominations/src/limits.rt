@@ -4,11 +4,11 @@ use records::calendar::is_open;
 use records::numbers::NOT_AT_THIS_TIME;
 use records::numbers::NOT_IN_BOOK;
 use records::refusals::refuse;
-use records::setup::no_holder;
-use records::setup::no_sink;
 use records::setup::path_base;
 use records::setup::paths;
 use records::setup::sink_base;
+use records::setup::unknown_holder;
+use records::setup::unknown_sink;
 use slots::calendar::current_tier;
 use slots::cells::read;
 use slots::layout::AWARDS;
@@ -16,7 +16,7 @@ use slots::layout::CARRIED;
 use slots::layout::LOAD;
 use slots::layout::PRIOR;
 use tariff::limit::Sums;
-use tariff::limit::less;
+use tariff::limit::saturating_sub;
 use tariff::limit::tier_rule;
 use tariff::terms::carried_month;
 ghost use mathlib.Core.Path.{_≡_};
@@ -25,7 +25,7 @@ ghost use Rattle.ledger.specs.Causes.{queryRefusal};
 ghost use Rattle.ledger.specs.Limits.{limitSums, tierLimit};
 ghost use Rattle.records.specs.Opening.{openingOf};
 ghost use Rattle.slots.specs.Steps.{ReachableFigures, InFigures, queryAnswer};
-ghost use Rattle.nominations.specs.Asked.{LimitAsked};
+ghost use Rattle.nominations.specs.Inputs.{LimitInputs};
 ghost use Rattle.nominations.specs.PathSums.{withPath, sumsTo, PathFits, PathsSummable};
 
 // The sums with the figures of one path more, where it counts. `carried` is the slot of the month's carried holding, `before` that of the awards of
@@ -72,31 +72,31 @@ fn sum_paths(o: &[u64], f: &[u64], h: u64, base: u64, load: u64, carried: u64, b
 
 // What a holder's limit at a base is made of in a tier.
 fn limit_sums(o: &[u64], f: &[u64], tier: u64, h: u64, base: u64) -> Sums
-    requires { ⌜ LimitAsked (now o) (now f) tier h base ⌝ }
+    requires { ⌜ LimitInputs (now o) (now f) tier h base ⌝ }
     ensures { λ r. ⌜ InFigures (now (o .entry)) (now (f .entry)) (λ O L. r ≡ limitSums O L tier h base) ⌝ }
 {
     let rule = tier_rule(tier);
     let term = rule.term;
     let month = carried_month(term);
-    let last = less(tier, 1);
+    let last = saturating_sub(tier, 1);
     let load = read(f, h, base, LOAD + term);
     sum_paths(o, f, h, base, load, CARRIED + (month - 1), AWARDS + last)
 }
 
 // The limit on what a holder nominates at a base in a tier.
 pub fn tier_limit(o: &[u64], f: &[u64], tier: u64, h: u64, base: u64) -> u64
-    requires { ⌜ LimitAsked (now o) (now f) tier h base ⌝ }
+    requires { ⌜ LimitInputs (now o) (now f) tier h base ⌝ }
     ensures { λ r. ⌜ InFigures (now (o .entry)) (now (f .entry)) (λ O L. r ≡ tierLimit O L tier h base) ⌝ }
 {
     let sums = limit_sums(o, f, tier, h, base);
-    tariff::limit::tier_limit(tier, sums)
+    tariff::limit::limit_of_sums(tier, sums)
 }
 
 // The first cause that a limit query meets, 0 for none.
 fn limit_refusal(o: &[u64], f: &[u64], h: u64, s: u64) -> u64
     ensures { λ r. ⌜ InFigures (now (o .entry)) (now (f .entry)) (λ O L. r ≡ queryRefusal O L (limitOf h s)) ⌝ }
 {
-    let unknown = no_holder(o, h) | no_sink(o, s);
+    let unknown = unknown_holder(o, h) | unknown_sink(o, s);
     let idle = !is_open(current_tier(f));
     refuse(NOT_IN_BOOK, unknown, refuse(NOT_AT_THIS_TIME, idle, 0))
 }

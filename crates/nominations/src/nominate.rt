@@ -12,16 +12,16 @@ use records::numbers::NOT_AT_THIS_TIME;
 use records::numbers::NOT_IN_BOOK;
 use records::numbers::OUT_OF_RANGE;
 use records::numbers::SINK_INELIGIBLE;
+use records::refusals::kw_out_of_range;
 use records::refusals::refuse;
-use records::refusals::wrong_kw;
 use records::setup::holder_kind;
 use records::setup::is_sub_lap;
-use records::setup::no_holder;
-use records::setup::no_path;
+use records::setup::kind_ineligible;
 use records::setup::path_base;
 use records::setup::path_sink;
 use records::setup::path_source;
-use records::setup::sink_not_for;
+use records::setup::unknown_holder;
+use records::setup::unknown_path;
 use slots::calendar::current_tier;
 use slots::cells::add;
 use slots::cells::read;
@@ -35,23 +35,23 @@ ghost use lib.Dec.{eqb};
 ghost use Rattle.ledger.specs.Opening.{pathSink};
 ghost use Rattle.ledger.specs.Call.{nominate};
 ghost use Rattle.ledger.specs.Numbers.{firstMet};
-ghost use Rattle.ledger.specs.Causes.{sinkNotFor, isSubLap, beyondVerified, beyondRenewable, beyondLimit, nominateCauses, refusal};
+ghost use Rattle.ledger.specs.Causes.{kindIneligible, isSubLap, exceedsVerified, exceedsPrior, exceedsLimit, nominateCauses, refusal};
 ghost use Rattle.slots.specs.Steps.{ReachableFigures, InFigures, FiguresStep};
-ghost use Rattle.nominations.specs.Asked.{NominationAsked};
+ghost use Rattle.nominations.specs.Inputs.{NominationInputs};
 
 // Cause 10: the path's sink is not for the holder, or is a Sub-LAP in tier 1.
 fn sink_ineligible(o: &[u64], f: &[u64], h: u64, p: u64) -> bool
-    ensures { λ r. ⌜ InFigures (now (o .entry)) (now (f .entry)) (λ O L. r ≡ (sinkNotFor O h (pathSink O p) || (eqb (L .tiers .openNow) 1 && isSubLap O (pathSink O p)))) ⌝ }
+    ensures { λ r. ⌜ InFigures (now (o .entry)) (now (f .entry)) (λ O L. r ≡ (kindIneligible O h (pathSink O p) || (eqb (L .tiers .currentTier) 1 && isSubLap O (pathSink O p)))) ⌝ }
 {
     let sink = path_sink(o, p);
     let sub_lap = (current_tier(f) == 1) & is_sub_lap(o, sink);
-    sink_not_for(o, h, sink) | sub_lap
+    kind_ineligible(o, h, sink) | sub_lap
 }
 
-// Cause 11: with kw more, an outside entity uses more of the path's source than it has verified.
+// Cause 11: with kw more, an OBAALSE uses more of the path's source than it has verified.
 fn exceeds_verified(o: &[u64], f: &[u64], h: u64, p: u64, kw: u64) -> bool
-    requires { ⌜ NominationAsked (now o) (now f) h p kw ⌝ }
-    ensures { λ r. ⌜ InFigures (now (o .entry)) (now (f .entry)) (λ O L. r ≡ beyondVerified O L (L .tiers .openNow) h p kw) ⌝ }
+    requires { ⌜ NominationInputs (now o) (now f) h p kw ⌝ }
+    ensures { λ r. ⌜ InFigures (now (o .entry)) (now (f .entry)) (λ O L. r ≡ exceedsVerified O L (L .tiers .currentTier) h p kw) ⌝ }
 {
     let kind = holder_kind(o, h);
     if kind != OBAALSE {
@@ -65,8 +65,8 @@ fn exceeds_verified(o: &[u64], f: &[u64], h: u64, p: u64, kw: u64) -> bool
 
 // Cause 12: with kw more, a holder's tier 1 nominations on a path exceed what is left of last year's allocation.
 fn exceeds_prior(o: &[u64], f: &[u64], h: u64, p: u64, kw: u64) -> bool
-    requires { ⌜ NominationAsked (now o) (now f) h p kw ⌝ }
-    ensures { λ r. ⌜ InFigures (now (o .entry)) (now (f .entry)) (λ O L. r ≡ beyondRenewable L (L .tiers .openNow) h p kw) ⌝ }
+    requires { ⌜ NominationInputs (now o) (now f) h p kw ⌝ }
+    ensures { λ r. ⌜ InFigures (now (o .entry)) (now (f .entry)) (λ O L. r ≡ exceedsPrior L (L .tiers .currentTier) h p kw) ⌝ }
 {
     let remaining = read(f, h, p, PRIOR_REMAINING);
     let wanted = read(f, h, p, NOMINATED) + kw;
@@ -75,8 +75,8 @@ fn exceeds_prior(o: &[u64], f: &[u64], h: u64, p: u64, kw: u64) -> bool
 
 // Cause 13: with kw more, a holder's nominations at the path's base exceed the limit.
 fn exceeds_limit(o: &[u64], f: &[u64], h: u64, p: u64, kw: u64) -> bool
-    requires { ⌜ NominationAsked (now o) (now f) h p kw ⌝ }
-    ensures { λ r. ⌜ InFigures (now (o .entry)) (now (f .entry)) (λ O L. r ≡ beyondLimit O L (L .tiers .openNow) h p kw) ⌝ }
+    requires { ⌜ NominationInputs (now o) (now f) h p kw ⌝ }
+    ensures { λ r. ⌜ InFigures (now (o .entry)) (now (f .entry)) (λ O L. r ≡ exceedsLimit O L (L .tiers .currentTier) h p kw) ⌝ }
 {
     let base = path_base(o, p);
     let limit = tier_limit(o, f, current_tier(f), h, base);
@@ -86,7 +86,7 @@ fn exceeds_limit(o: &[u64], f: &[u64], h: u64, p: u64, kw: u64) -> bool
 
 // The first of causes 10 to 13 that a nomination meets in the open tier, 0 for none.
 fn refusal_in_tier(o: &[u64], f: &[u64], h: u64, p: u64, kw: u64) -> u64
-    requires { ⌜ NominationAsked (now o) (now f) h p kw ⌝ }
+    requires { ⌜ NominationInputs (now o) (now f) h p kw ⌝ }
     ensures { λ r. ⌜ InFigures (now (o .entry)) (now (f .entry)) (λ O L. r ≡ firstMet (drop 3 (nominateCauses O L h p kw))) ⌝ }
 {
     if sink_ineligible(o, f, h, p) {
@@ -107,11 +107,11 @@ fn nominate_refusal(o: &[u64], f: &[u64], h: u64, p: u64, kw: u64) -> u64
     requires { ⌜ ReachableFigures (now o) (now f) ⌝ }
     ensures { λ r. ⌜ InFigures (now (o .entry)) (now (f .entry)) (λ O L. r ≡ refusal O L (nominate h p kw)) ⌝ }
 {
-    let unknown = no_holder(o, h) | no_path(o, p);
+    let unknown = unknown_holder(o, h) | unknown_path(o, p);
     if unknown {
         return NOT_IN_BOOK;
     }
-    if wrong_kw(kw) {
+    if kw_out_of_range(kw) {
         return OUT_OF_RANGE;
     }
     if !is_open(current_tier(f)) {

@@ -10,15 +10,15 @@ use tariff::sizes::TERMS;
 use tariff::terms::term_of;
 ghost use mathlib.Core.Path.{_≡_};
 ghost use Rattle.tariff.specs.Terms.{termOf};
-ghost use Rattle.ledger.specs.Verification.{verifiedKw, drawsOnSame, drawnBefore, drawn};
+ghost use Rattle.ledger.specs.Verification.{verifiedKw, usesSameEvidence, usedBefore, sourceUsage};
 ghost use Rattle.slots.specs.Steps.{InFigures};
-ghost use Rattle.nominations.specs.Asked.{HolderAsked, SourceAsked, UsageAsked};
+ghost use Rattle.nominations.specs.Inputs.{HolderInputs, SourceInputs, UsageInputs};
 ghost use Rattle.nominations.specs.Usage.{awardsUsed};
 
 // What a holder has verified of a source for the open tier's term: ownership and contract add.
 pub fn verified_kw(o: &[u64], f: &[u64], h: u64, s: u64) -> u64
-    requires { ⌜ SourceAsked (now o) (now f) h s ⌝ }
-    ensures { λ r. ⌜ InFigures (now (o .entry)) (now (f .entry)) (λ O L. r ≡ verifiedKw L h s (termOf (L .tiers .openNow))) ⌝ }
+    requires { ⌜ SourceInputs (now o) (now f) h s ⌝ }
+    ensures { λ r. ⌜ InFigures (now (o .entry)) (now (f .entry)) (λ O L. r ≡ verifiedKw L h s (termOf (L .tiers .currentTier))) ⌝ }
 {
     let ownership = VERIFIED + term_of(current_tier(f));
     let contract = ownership + TERMS;
@@ -27,14 +27,14 @@ pub fn verified_kw(o: &[u64], f: &[u64], h: u64, s: u64) -> u64
 
 // Whether the awards of tier n, before this tier, use the same evidence.
 fn uses_same_evidence(tier: u64, n: u64) -> bool
-    ensures { λ r. ⌜ r ≡ drawsOnSame tier n ⌝ }
+    ensures { λ r. ⌜ r ≡ usesSameEvidence tier n ⌝ }
 {
     (1 <= n) & ((term_of(n) == term_of(tier)) | (n <= LAST_SEASON_TIER))
 }
 
 // What a holder's awards from a source in tier n use of its evidence for a later tier. Awards that use none are not summed.
 fn awards_used(o: &[u64], f: &[u64], h: u64, s: u64, tier: u64, n: u64) -> u64
-    requires { ⌜ UsageAsked (now o) (now f) h n ⌝ }
+    requires { ⌜ UsageInputs (now o) (now f) h n ⌝ }
     ensures { λ r. ⌜ InFigures (now (o .entry)) (now (f .entry)) (λ O L. r ≡ awardsUsed O L tier h s n) ⌝ }
 {
     if !uses_same_evidence(tier, n) {
@@ -45,8 +45,8 @@ fn awards_used(o: &[u64], f: &[u64], h: u64, s: u64, tier: u64, n: u64) -> u64
 
 // What a holder's awards of the tiers before use of its evidence for a source in a tier.
 fn used_before(o: &[u64], f: &[u64], h: u64, s: u64, tier: u64) -> u64
-    requires { ⌜ UsageAsked (now o) (now f) h tier ⌝ }
-    ensures { λ r. ⌜ InFigures (now (o .entry)) (now (f .entry)) (λ O L. r ≡ drawnBefore O L tier h s) ⌝ }
+    requires { ⌜ UsageInputs (now o) (now f) h tier ⌝ }
+    ensures { λ r. ⌜ InFigures (now (o .entry)) (now (f .entry)) (λ O L. r ≡ usedBefore O L tier h s) ⌝ }
 {
     let mut sum: u64 = 0;
     for n in 0..tier {
@@ -57,8 +57,8 @@ fn used_before(o: &[u64], f: &[u64], h: u64, s: u64, tier: u64) -> u64
 
 // What a holder uses of its evidence for a source in the open tier: its nominations, and the awards that use the same evidence.
 pub fn source_usage(o: &[u64], f: &[u64], h: u64, s: u64) -> u64
-    requires { ⌜ HolderAsked (now o) (now f) h ⌝ }
-    ensures { λ r. ⌜ InFigures (now (o .entry)) (now (f .entry)) (λ O L. r ≡ drawn O L (L .tiers .openNow) h s) ⌝ }
+    requires { ⌜ HolderInputs (now o) (now f) h ⌝ }
+    ensures { λ r. ⌜ InFigures (now (o .entry)) (now (f .entry)) (λ O L. r ≡ sourceUsage O L (L .tiers .currentTier) h s) ⌝ }
 {
     let before = used_before(o, f, h, s, current_tier(f));
     sum_from_source(o, f, h, NOMINATED, s) + before

@@ -1,4 +1,4 @@
--- The array that keeps an opening: its counts are stored, and its lists are copied in one behind the other. Assumes nothing.
+-- The array that keeps an opening: its counts are stored, and its lists are copied in one after another. Assumes nothing.
 use Prim.Native.Nat.{ℕ, _+_, _≤_}
 use mathlib.Core.Path.{_≡_, refl, sym, ap, _∙_}
 use mathlib.Core.List.{List, [], _∷_, _++_, append-assoc}
@@ -7,8 +7,8 @@ use native.Mathlib.Omega.{arith}
 use lib.ListN.{length, getD, take, drop, set, length-append, length-set, length-drop}
 use lib.Seq.{length-take-le, take-all, take-at}
 use borrow.Rule.Slice.PartMut.{midOf, postOf, putMid, same-len-mid}
-use Rattle.tariff.specs.Sum.{listTo}
-use Rattle.tariff.proofs.Lists.{length-list-to, list-is}
+use Rattle.tariff.specs.Sum.{tabulate}
+use Rattle.tariff.proofs.Lists.{length-tabulate, list-is}
 use Rattle.records.specs.Opening.{openingCount, basesAt, openingIn, withRoom, openingLists, pathBases, openingArray, openingFrom, emptyOpening}
 use Rattle.ledger.specs.Opening.{base, pathSink, pathBase}
 
@@ -20,7 +20,7 @@ counts-first (a ∷ b ∷ []) holders sources sinks paths l = absurd (omega arit
 counts-first (a ∷ b ∷ c ∷ []) holders sources sinks paths l = absurd (omega arith)
 counts-first (a ∷ b ∷ c ∷ d ∷ rest) holders sources sinks paths l = refl
 
--- a list copied in behind what stands there
+-- a list copied in after what stands there
 module _ (a k : ℕ) (xs from ys : List ℕ) (size : length xs ≡ openingCount) (fits : a + k ≤ openingCount) (copied : ys ≡ withRoom (length (midOf a k xs)) from) where
   room : length (midOf a k xs) ≡ k
   room = length-take-le k (drop a xs) (let left = length-drop a xs in omega arith)
@@ -29,15 +29,15 @@ module _ (a k : ℕ) (xs from ys : List ℕ) (size : length xs ≡ openingCount)
   copied-list = copied ∙ ap (λ n. withRoom n from) room
 
   copied-size : length (putMid a k xs ys) ≡ openingCount
-  copied-size = same-len-mid a k xs ys (ap length copied ∙ length-list-to _ _) ∙ size
+  copied-size = same-len-mid a k xs ys (ap length copied ∙ length-tabulate _ _) ∙ size
 
   copied-take : take (a + k) (putMid a k xs ys) ≡ take a xs ++ withRoom k from
   copied-take =
       ap (take (a + k)) (sym (append-assoc (take a xs) ys (postOf a k xs)))
-      ∙ take-at (take a xs ++ ys) (postOf a k xs) (a + k) (let many = length-append (take a xs) ys in let before = length-take-le a xs (omega arith) in let new = ap length copied-list ∙ length-list-to k _ in omega arith)
+      ∙ take-at (take a xs ++ ys) (postOf a k xs) (a + k) (let many = length-append (take a xs) ys in let before = length-take-le a xs (omega arith) in let new = ap length copied-list ∙ length-tabulate k _ in omega arith)
       ∙ ap (λ z. take a xs ++ z) copied-list
 
--- bases copied in behind the lists
+-- bases copied in after the lists
 pub bases-stored : (o bases ys : List ℕ) → length o ≡ openingCount → length bases ≡ 16 → ys ≡ withRoom (length (midOf basesAt 16 o)) bases → putMid basesAt 16 o ys ≡ take basesAt o ++ bases
 bases-stored o bases ys size many copied =
     sym (take-all openingCount (putMid basesAt 16 o ys) (le-of-eq (copied-size basesAt 16 o bases ys size (omega arith) copied)))
@@ -46,7 +46,7 @@ bases-stored o bases ys size many copied =
 
 pub bases-many : (o : List ℕ) → length (pathBases (openingIn o)) ≡ 16
 unfolding pathBases
-bases-many o = length-list-to 16 _
+bases-many o = length-tabulate 16 _
 
 module _ (o : List ℕ) (size : length o ≡ openingCount) (holders sources sinks paths : ℕ) where
   abbrev counted : List ℕ
@@ -90,7 +90,7 @@ module _ (o : List ℕ) (size : length o ≡ openingCount) (holders sources sink
             abbrev front : List ℕ
             front = holders ∷ sources ∷ sinks ∷ paths ∷ []
 
-            -- the lists stand behind the counts
+            -- the lists stand after the counts
             copied-all : take basesAt to5 ≡ ((((front ++ withRoom 8 holderKinds) ++ withRoom 16 sinkKinds) ++ withRoom 16 sinkParents) ++ withRoom 16 pathSources) ++ withRoom 16 pathSinks
             copied-all =
                 copied-take 60 16 to4 pathSinks ys5 size-4 (omega arith) fifth
@@ -105,6 +105,6 @@ module _ (o : List ℕ) (size : length o ≡ openingCount) (holders sources sink
             opening-kept = copied-all ∙ simp append-assoc
 
 -- an array with nothing but 0 keeps the opening with nothing in it
-pub empty-kept : listTo openingCount (λ k. 0) ≡ openingArray emptyOpening
-unfolding openingArray openingLists pathBases pathBase base pathSink emptyOpening listTo
+pub empty-kept : tabulate openingCount (λ k. 0) ≡ openingArray emptyOpening
+unfolding openingArray openingLists pathBases pathBase base pathSink emptyOpening tabulate
 empty-kept = refl

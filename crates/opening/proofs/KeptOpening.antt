@@ -8,7 +8,7 @@ use lib.ListN.{length, getD, take, drop}
 use lib.Seq.{length-take-le}
 use borrow.Author.Tests.{eq-eqb}
 use borrow.Rule.Slice.PartMut.{mid-len}
-use Rattle.tariff.specs.Sum.{allBelow, listTo}
+use Rattle.tariff.specs.Sum.{allBelow, tabulate}
 use Rattle.tariff.proofs.Tests.{and-join, and-right-false}
 use Rattle.ledger.specs.Opening.{Opening, countsFit, listsFit, holderLegal, sinkLegal, pathLegal, pathNew, legal, openingRefusal}
 use Rattle.records.specs.declared.answers.Answer.the-variants.{Done, Refused}
@@ -82,7 +82,7 @@ module _ (o : Opening) (kept : List ℕ) (keeps : take basesAt kept ≡ openingL
         let t = tested e in
         (sym (ap (λ t. cond t Done (Refused (openingRefusal o))) t), with-bases left t bases ∙ sym (ap (λ t. openingArray (cond t o emptyOpening)) t))
 
-    pub opened-refused : (left : List ℕ) → (lists && lines) ≡ false → left ≡ listTo openingCount (λ k. 0) → (Refused 16 ≡ openedAnswer o) × (left ≡ openingArray (openedOpening o))
+    pub opened-refused : (left : List ℕ) → (lists && lines) ≡ false → left ≡ tabulate openingCount (λ k. 0) → (Refused 16 ≡ openedAnswer o) × (left ≡ openingArray (openedOpening o))
     unfolding openedAnswer openedOpening openingRefusal
     opened-refused left e cleared =
         let t = tested e in

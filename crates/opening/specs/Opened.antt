@@ -9,6 +9,6 @@ use Rattle.records.specs.Opening.{emptyOpening}
 unfoldable pub openedAnswer : Opening → Answer
 openedAnswer o = cond (legal o) Done (Refused (openingRefusal o))
 
--- a refused one leaves an opening with nothing in it, so that every book handed back is one that opening and calls lead to
+-- a refused one leaves an opening with nothing in it, so that every book returned is one that opening and calls lead to
 unfoldable pub openedOpening : Opening → Opening
 openedOpening o = cond (legal o) o emptyOpening

@@ -12,13 +12,13 @@ ghost use mathlib.Core.Path.{_≡_};
 ghost use mathlib.Core.List.{_++_};
 ghost use Prim.Native.Nat.{ℕ};
 ghost use lib.ListN.{length, getD, take};
-ghost use Rattle.tariff.specs.Sum.{listTo};
+ghost use Rattle.tariff.specs.Sum.{tabulate};
 ghost use Rattle.ledger.specs.Opening.{listsFit};
 ghost use Rattle.records.specs.Opening.{openingCount, basesAt, openingOf, openingLists, pathBases, openingFrom};
 
 // A list copied into an array: 0 past the list's end, and what finds no room is left out.
 fn copy_into(to: &mut [u64], from: &[u64])
-    ensures { λ r. ⌜ now (to .exit) ≡ listTo (length (now (to .entry))) (λ k. getD (now (from .entry)) k 0) ⌝ }
+    ensures { λ r. ⌜ now (to .exit) ≡ tabulate (length (now (to .entry))) (λ k. getD (now (from .entry)) k 0) ⌝ }
 {
     let mut k = 0;
     while k < to.len() {
@@ -67,7 +67,7 @@ fn path_bases(o: &[u64]) -> [u64; MAX_PLACES]
     bases
 }
 
-// The bases kept behind the lists.
+// The bases kept after the lists.
 pub fn keep_bases(o: &mut [u64])
     requires { ⌜ length (now o) ≡ openingCount ⌝ }
     ensures { λ r. ⌜ now (o .exit) ≡ take basesAt (now (o .entry)) ++ pathBases (openingOf (o .entry)) ⌝ }

@@ -1,4 +1,4 @@
--- What an accepted carry asks of the arrays, and what it leaves in them. Assumes nothing.
+-- What an accepted carry needs of the arrays, and what it leaves in them. Assumes nothing.
 use Prim.Native.Nat.{ℕ, _+_, _<_}
 use mathlib.Core.Path.{_≡_, refl, _∙_}
 use mathlib.Core.Bool.{Bool, true, false}

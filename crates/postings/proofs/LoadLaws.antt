@@ -1,4 +1,4 @@
--- What an accepted load asks of the arrays, and what it leaves in them. Assumes nothing.
+-- What an accepted load needs of the arrays, and what it leaves in them. Assumes nothing.
 use Prim.Native.Nat.{ℕ, _+_, _^_, _≤_, _<_}
 use mathlib.Core.Path.{_≡_, refl, sym, ap, _∙_, subst}
 use mathlib.Core.Bool.{Bool, true, false, _||_}
@@ -7,10 +7,10 @@ use native.Mathlib.Nat.{le-trans, le-of-eq, add-zero}
 use native.Mathlib.Omega.{arith}
 use lib.ListN.{length, drop}
 use Rattle.tariff.specs.declared.evidence.Entry.{Entry}
-use Rattle.tariff.specs.Sum.{countIf}
+use Rattle.tariff.specs.Sum.{whenTrue}
 use Rattle.tariff.specs.Sizes.{terms}
 use Rattle.tariff.specs.Load.{Block, loadPosted}
-use Rattle.tariff.specs.Ranges.{mostKw}
+use Rattle.tariff.specs.Ranges.{maxKw}
 use Rattle.tariff.proofs.Metric.{posted-le}
 use Rattle.ledger.specs.Opening.{Opening}
 use Rattle.ledger.specs.Ledger.{Ledger, withLoads}
@@ -61,7 +61,7 @@ module _ (o f : List ℕ) (m : List Bool) (x : List Entry) (h s term contract n 
       let is = ap (readAt figureSlots 0 f h s) same ∙ from-zero f loadSlot terms h s slot holder sink below in (
         record { holder = holder; place = sink; inRow = omega arith },
         figures-long o f m x r,
-        room-for-more _ kw (le-trans (le-of-eq is) (le-trans (load-fits o f m x r h s slot (facts .holder)) (omega arith))) (le-trans (le-of-eq posts) (posted-le mostKw contract blocks (facts .blockKw))),
+        room-for-more _ kw (le-trans (le-of-eq is) (le-trans (load-fits o f m x r h s slot (facts .holder)) (omega arith))) (le-trans (le-of-eq posts) (posted-le maxKw contract blocks (facts .blockKw))),
       )
 
   pub load-cell : (slot : ℕ) → slot ≤ term → HasCell postedSlots h s slot × (length m ≡ postedCount)
@@ -73,7 +73,7 @@ module _ (o f : List ℕ) (m : List Bool) (x : List Entry) (h s term contract n 
   loaded f′ e =
       e ∙ shown-is figureSlots 0 _ (addedAt figureSlots f h s (loadSlot + term) kw) (calendarOf L) (omega arith)
       (slot-added figureSlots loadSlot terms 0 [] (drop 1 (figureGroups L)) refl (omega arith) (L .loads .kw) _ f (calendarOf L) h s term kw holder sink low
-      (λ i j k above below. λ z. L .loads .kw i j k + countIf (same3 h s (sym (add-zero term) z) i j k) (sym posts z))
+      (λ i j k above below. λ z. L .loads .kw i j k + whenTrue (same3 h s (sym (add-zero term) z) i j k) (sym posts z))
       (figures-shown o f m x r))
 
   noted : (m′ : List Bool) → m′ ≡ storedAt postedSlots m h s (loadPostedSlot + term) true → m′ ≡ postedOf (effect O L call)

@@ -9,14 +9,14 @@ use lib.Dec.{eqb}
 use borrow.Author.Tests.{eqb-true, eqb-false}
 use Rattle.tariff.specs.declared.evidence.Entry.{Entry}
 use Rattle.tariff.specs.Load.{Block, loadPosted}
-use Rattle.tariff.specs.Metered.{blocksOf, sameLengths}
+use Rattle.tariff.specs.Metering.{blocksOf, sameLengths}
 use Rattle.tariff.proofs.Tests.{both-ways}
 use Rattle.ledger.specs.Opening.{Opening}
 use Rattle.ledger.specs.Ledger.{Ledger}
 use Rattle.ledger.specs.Call.{Call, load}
 use Rattle.ledger.specs.Causes.{refusal}
 use Rattle.ledger.specs.Numbers.{unreadable}
-use Rattle.records.specs.declared.answers.Answer.the-variants.{Done, Refused as Answered}
+use Rattle.records.specs.declared.answers.Answer.the-variants.{Done, Refused as AnswerRefused}
 use Rattle.records.specs.Opening.{openingIn}
 use Rattle.slots.specs.Cells.{HasCell, readAt, storedAt, addedAt}
 use Rattle.slots.specs.Layout.{figureSlots, figureCount, postedSlots, postedCount, ledgerIn, loadSlot, loadPostedSlot}
@@ -45,18 +45,18 @@ module _ (o f : List ℕ) (m : List Bool) (x : List Entry) (h s term contract n 
   number = refusal O L call
 
   -- a load that is stopped is refused with that number, and the arrays stay
-  pub load-refused : (stop : ℕ) → given ≡ Refused stop → StepsIf (sameLengths firsts hours kws) O L call (Answered stop) f m x
+  pub load-refused : (stop : ℕ) → given ≡ Refused stop → StepsIf (sameLengths firsts hours kws) O L call (AnswerRefused stop) f m x
   unfolding postingOf postingBy
   load-refused stop same = go (sameLengths firsts hours kws) (eqb number 0) refl (sym same ∙ is)
     where
-      go : (even none : Bool) → eqb number 0 ≡ none → Refused stop ≡ cond even (cond none (Kw (loadPosted contract blocks)) (Refused number)) (Refused unreadable) → StepsIf even O L call (Answered stop) f m x
+      go : (even none : Bool) → eqb number 0 ≡ none → Refused stop ≡ cond even (cond none (Kw (loadPosted contract blocks)) (Refused number)) (Refused unreadable) → StepsIf even O L call (AnswerRefused stop) f m x
       go true true q w = absurd (let z : _≡_ {A = ℕ} 0 1 = cc in omega arith)
       go true false q w =
           let found : stop ≡ number = cc in
           record { equal = λ e. steps-refused o f m x call stop found r (λ z. eqb-false number 0 q (sym found ∙ z)); unequal = λ e. absurd (both-ways refl e) }
       go false none q w =
           let one : stop ≡ unreadable = cc in
-          record { equal = λ e. absurd (both-ways e refl); unequal = λ e. record { answered = ap Answered one; figures = figures-known o f m x r; posted = posted-known o f m x r; evidence = evidence-known o f m x r } }
+          record { equal = λ e. absurd (both-ways e refl); unequal = λ e. record { answered = ap AnswerRefused one; figures = figures-known o f m x r; posted = posted-known o f m x r; evidence = evidence-known o f m x r } }
 
   module _ (kw : ℕ) (same : given ≡ Kw kw) where
     -- a load that comes to a kW is accepted, and that kW is the load posted

@@ -7,16 +7,16 @@ use native.Mathlib.Omega.{arith}
 use lib.ListN.{length, take, drop}
 use lib.Dec.{eqb}
 use borrow.Author.Tests.{eqb-true, eq-eqb, ne-eqb}
-use Rattle.tariff.specs.declared.load.Metered.{Metered}
-use Rattle.tariff.specs.declared.load.Metered.the-variants.{Unequal, Broken, Missing, Kw as Posted}
+use Rattle.tariff.specs.declared.load.Metering.{Metering}
+use Rattle.tariff.specs.declared.load.Metering.the-variants.{Unequal, Broken, Missing, Kw as MeteredKw}
 use Rattle.tariff.specs.Load.{Block, loadPosted}
-use Rattle.tariff.specs.Metered.{blocksOf, sameLengths, unlessRefused, postedOf, meteredBy}
+use Rattle.tariff.specs.Metering.{blocksOf, sameLengths, unlessRefused, loadOrCause, meteringBy}
 use Rattle.tariff.proofs.Tests.{and-both}
 use Rattle.ledger.specs.Opening.{Opening}
 use Rattle.ledger.specs.Ledger.{Ledger}
 use Rattle.ledger.specs.Call.{Call, load}
-use Rattle.ledger.specs.Numbers.{Cause, firstMet, unreadable, notInBook, outOfRange, notAtThisTime, postedBefore, brokenBlocks, hoursMissing, sinkNotForIt}
-use Rattle.ledger.specs.Causes.{sinkNotFor, isSubLap, loadCauses, callCauses, refusal}
+use Rattle.ledger.specs.Numbers.{Cause, firstMet, unreadable, notInBook, outOfRange, notAtThisTime, postedBefore, brokenBlocks, hoursMissing, sinkIneligible}
+use Rattle.ledger.specs.Causes.{kindIneligible, isSubLap, loadCauses, callCauses, refusal}
 use Rattle.ledger.proofs.Unmet.{unmet}
 use Rattle.postings.specs.declared.load.Posting.the-variants.{Kw, Refused}
 use Rattle.postings.specs.Loads.{kwBlocks, postingBy, postingOf}
@@ -86,18 +86,18 @@ module _ (O : Opening) (L : Ledger) (h s term contract n : ℕ) (firsts hours kw
           unmet-first notInBook _ _ (r2 .0) (unmet-first outOfRange _ _ (r3 .0) (unmet-first notAtThisTime _ _ (r4 .0) (unmet-first postedBefore _ _ (r5 .0) later)))
 
   -- what is known past causes 2 to 5: the tests of cause 10, and what the function that finds the kW gave
-  pub record Passed (early : ℕ) (notFor subLap : Bool) (given : Metered) : Type 0 where
+  pub record Passed (early : ℕ) (notFor subLap : Bool) (given : Metering) : Type 0 where
     pub even : sameLengths firsts hours kws ≡ true
     pub found : early ≡ firstMet (take 4 (causes (kwBlocks kws)))
     pub none : early ≡ 0
-    pub ofSink : notFor ≡ sinkNotFor O h s
+    pub ofSink : notFor ≡ kindIneligible O h s
     pub ofSubLap : subLap ≡ isSubLap O s
-    pub metered : given ≡ postedOf firsts hours kws n contract
+    pub metered : given ≡ loadOrCause firsts hours kws n contract
 
-  module _ {early : ℕ} {notFor subLap : Bool} {given : Metered} (w : Passed early notFor subLap given) where
-    metered-is : {m : Metered} → given ≡ m → m ≡ unlessRefused n blocks (loadPosted contract blocks)
-    unfolding postedOf meteredBy
-    metered-is same = sym same ∙ w .metered ∙ ap (λ t. cond t (unlessRefused n blocks (loadPosted contract blocks)) (meteredBy unreadable 0)) (w .even)
+  module _ {early : ℕ} {notFor subLap : Bool} {given : Metering} (w : Passed early notFor subLap given) where
+    metered-is : {m : Metering} → given ≡ m → m ≡ unlessRefused n blocks (loadPosted contract blocks)
+    unfolding loadOrCause meteringBy
+    metered-is same = sym same ∙ w .metered ∙ ap (λ t. cond t (unlessRefused n blocks (loadPosted contract blocks)) (meteringBy unreadable 0)) (w .even)
 
     -- a number that the later causes come to is the refusal
     late : (r : ℕ) → r ≡ firstMet (drop 4 (causes blocks)) → r ≡ number
@@ -119,19 +119,19 @@ module _ (O : Opening) (L : Ledger) (h s term contract n : ℕ) (firsts hours kw
         let t = when-missing n blocks (loadPosted contract blocks) (metered-is same) in
         late-stops hoursMissing (unmet-first brokenBlocks _ _ (t .0) (met-first hoursMissing _ _ (t .1))) (λ z. omega (arith, z))
 
-    module _ (kw : ℕ) (same : given ≡ Posted kw) where
+    module _ (kw : ℕ) (same : given ≡ MeteredKw kw) where
       -- the tests of cause 10
-      sink-test : {t : Bool} → (notFor || subLap) ≡ t → (sinkNotFor O h s || isSubLap O s) ≡ t
+      sink-test : {t : Bool} → (notFor || subLap) ≡ t → (kindIneligible O h s || isSubLap O s) ≡ t
       sink-test e = ap₂ (λ x y. x || y) (sym (w .ofSink)) (sym (w .ofSubLap)) ∙ e
 
-      pub sink-stops : (notFor || subLap) ≡ true → Refused sinkNotForIt ≡ postingOf O L h s term contract n firsts hours kws
+      pub sink-stops : (notFor || subLap) ≡ true → Refused sinkIneligible ≡ postingOf O L h s term contract n firsts hours kws
       unfolding loadCauses
       sink-stops e =
           let t = when-kw n blocks (loadPosted contract blocks) kw (metered-is same) in
-          late-stops sinkNotForIt (unmet-first brokenBlocks _ _ (t .0) (unmet-first hoursMissing _ _ (t .1) (met-first sinkNotForIt _ _ (sink-test e)))) (λ z. omega (arith, z))
+          late-stops sinkIneligible (unmet-first brokenBlocks _ _ (t .0) (unmet-first hoursMissing _ _ (t .1) (met-first sinkIneligible _ _ (sink-test e)))) (λ z. omega (arith, z))
 
       pub kw-posts : (notFor || subLap) ≡ false → Kw kw ≡ postingOf O L h s term contract n firsts hours kws
       unfolding loadCauses
       kw-posts e =
           let t = when-kw n blocks (loadPosted contract blocks) kw (metered-is same) in
-          posted (w .even) kw (late 0 (unmet-first brokenBlocks _ _ (t .0) (unmet-first hoursMissing _ _ (t .1) (unmet-first sinkNotForIt _ _ (sink-test e) no-more)))) (t .2)
+          posted (w .even) kw (late 0 (unmet-first brokenBlocks _ _ (t .0) (unmet-first hoursMissing _ _ (t .1) (unmet-first sinkIneligible _ _ (sink-test e) no-more)))) (t .2)

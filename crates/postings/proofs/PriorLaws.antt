@@ -1,4 +1,4 @@
--- What an accepted prior asks of the arrays, and what it leaves in them. Assumes nothing.
+-- What an accepted prior needs of the arrays, and what it leaves in them. Assumes nothing.
 use Prim.Native.Nat.{ℕ, _-_, _≤_, _<_}
 use mathlib.Core.Path.{_≡_, refl, ap, _∙_}
 use mathlib.Core.Bool.{Bool, true, false}
@@ -74,7 +74,7 @@ module _ (o f : List ℕ) (m : List Bool) (x : List Entry) (h p a l number : ℕ
   allocated f₁ f₂ e d =
       d ∙ ap (λ z. addedAt figureSlots z h p priorRemainingSlot (a - l)) e
       ∙ shown-is figureSlots 0 _ (addedAt figureSlots (addedAt figureSlots f h p priorSlot a) h p priorRemainingSlot (a - l)) (calendarOf L) (omega arith)
-      (slot-added figureSlots priorRemainingSlot 1 0 (take 2 (figureGroups (effect O L call))) (drop 3 (figureGroups L)) refl (omega arith) (λ i j n. L .priors .renewable i j) (λ i j n. plusAt2 h p (a - l) (L .priors .renewable) i j) _ (calendarOf L) h p 0 (a - l) holder path (omega arith) (single-added h p (a - l) (L .priors .renewable))
+      (slot-added figureSlots priorRemainingSlot 1 0 (take 2 (figureGroups (effect O L call))) (drop 3 (figureGroups L)) refl (omega arith) (λ i j n. L .priors .remaining i j) (λ i j n. plusAt2 h p (a - l) (L .priors .remaining) i j) _ (calendarOf L) h p 0 (a - l) holder path (omega arith) (single-added h p (a - l) (L .priors .remaining))
       (slot-added figureSlots priorSlot 1 0 (take 1 (figureGroups L)) (drop 2 (figureGroups L)) refl (omega arith) (λ i j n. L .priors .allocated i j) (λ i j n. plusAt2 h p a (L .priors .allocated) i j) f (calendarOf L) h p 0 a holder path (omega arith) (single-added h p a (L .priors .allocated)) (figures-shown o f m x r)))
 
   noted : (m′ : List Bool) → m′ ≡ storedAt postedSlots m h p priorPostedSlot true → m′ ≡ postedOf (effect O L call)

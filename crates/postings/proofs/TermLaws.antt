@@ -14,7 +14,7 @@ use Rattle.slots.specs.Cells.{storedAt, Shows}
 use Rattle.slots.specs.Groups.{Group, group, slotsOf, inSlot}
 use Rattle.slots.specs.Layout.{figureSlots}
 use Rattle.slots.proofs.StoreLaws.{slot-stored}
-use Rattle.postings.specs.Verified.{storedByTerm}
+use Rattle.postings.specs.VerifiedKw.{storedByTerm}
 
 -- the array after four stores
 pub terms-are : (f one two three four : List ℕ) (h s from : ℕ) (entry : Entry) (a b c d : ℕ) → a ≡ entryKw 0 entry → b ≡ entryKw 1 entry → c ≡ entryKw 2 entry → d ≡ entryKw 3 entry → one ≡ storedAt figureSlots f h s from a → two ≡ storedAt figureSlots one h s (from + 1) b → three ≡ storedAt figureSlots two h s (from + 2) c → four ≡ storedAt figureSlots three h s (from + 3) d → four ≡ storedByTerm f h s from entry

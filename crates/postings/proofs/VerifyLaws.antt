@@ -1,4 +1,4 @@
--- Evidence that is accepted is in range; what it asks of the arrays, and what it leaves in them. Assumes nothing.
+-- Evidence that is accepted is in range; what it needs of the arrays, and what it leaves in them. Assumes nothing.
 use Prim.Native.Nat.{ℕ, _+_, _-_, _*_, _≤_, _<_}
 use mathlib.Core.Path.{_≡_, refl, sym, ap, _∙_, subst}
 use mathlib.Core.Bool.{Bool, true, false, cond, _&&_, _||_, and-true}
@@ -11,14 +11,14 @@ use lib.Dec.{eqb}
 use borrow.Author.Tests.{eq-eqb, ne-eqb, eqb-true, eqb-false}
 use Rattle.tariff.specs.declared.evidence.Entry.{Entry}
 use Rattle.tariff.specs.declared.evidence.Filing.{Filing}
-use Rattle.tariff.specs.declared.evidence.Filing.the-variants.{OutOfRange, Filed}
+use Rattle.tariff.specs.declared.evidence.Filing.the-variants.{OutOfRange, Valid}
 use Rattle.tariff.specs.Sizes.{terms, ownership, contract, evidenceKinds}
 use Rattle.tariff.specs.Evidence.{noEntry, entryOf, entryKw}
 use Rattle.tariff.specs.Filing.{filingOf, filingBy}
-use Rattle.tariff.specs.Ranges.{wrongEvidence}
+use Rattle.tariff.specs.Ranges.{evidenceOutOfRange}
 use Rattle.tariff.proofs.Tests.{decided, and-right-false}
 use Rattle.ledger.specs.Opening.{Opening}
-use Rattle.ledger.specs.Ledger.{Ledger, withPapers}
+use Rattle.ledger.specs.Ledger.{Ledger, withEvidence}
 use Rattle.ledger.specs.Call.{Call, verify}
 use Rattle.ledger.specs.Causes.{verifyCauses, callCauses, refusal}
 use Rattle.ledger.specs.Effects.{same2, same3, afterVerify, effect}
@@ -38,20 +38,20 @@ use Rattle.slots.proofs.CellLaws.{array-shows, shown-is}
 use Rattle.slots.proofs.StoreLaws.{StoredIn, slot-stored, number-posted}
 use Rattle.slots.proofs.Reachable.{counts, figures-shown, posted-shown, evidence-known, figures-long, posted-long}
 use Rattle.slots.proofs.StepLaws.{accepted-test, steps-accepted}
-use Rattle.postings.specs.Verified.{storedByTerm, HasTerms}
+use Rattle.postings.specs.VerifiedKw.{storedByTerm, HasTerms}
 use Rattle.postings.proofs.TermLaws.{terms-stored}
 
 -- the entry of a filing, none where the evidence is out of range
 unfoldable pub entry-in : Filing → Entry
 entry-in OutOfRange = noEntry
-entry-in (Filed e) = e
+entry-in (Valid e) = e
 
 -- evidence in range is filed
-pub in-range-filed : (kind capacity right first last : ℕ) → wrongEvidence kind capacity right first last ≡ false → filingOf kind capacity right first last ≡ Filed (entryOf kind capacity right first last)
+pub in-range-filed : (kind capacity right first last : ℕ) → evidenceOutOfRange kind capacity right first last ≡ false → filingOf kind capacity right first last ≡ Valid (entryOf kind capacity right first last)
 unfolding filingOf filingBy
 in-range-filed kind capacity right first last e = ap (λ b. filingBy (cond b outOfRange 0) (entryOf kind capacity right first last)) e
 
-accepted-in-range : (O : Opening) (L : Ledger) (h s kind capacity right first last : ℕ) → accepted O L (verify h s kind capacity right first last) ≡ true → wrongEvidence kind capacity right first last ≡ false
+accepted-in-range : (O : Opening) (L : Ledger) (h s kind capacity right first last : ℕ) → accepted O L (verify h s kind capacity right first last) ≡ true → evidenceOutOfRange kind capacity right first last ≡ false
 unfolding callCauses verifyCauses
 accepted-in-range O L h s kind capacity right first last e =
     let r2 = unmet 1 _ _ (accepted-zero O L (verify h s kind capacity right first last) e) in
@@ -89,7 +89,7 @@ module _ (o f : List ℕ) (m : List Bool) (x : List Entry) (h s kind capacity ri
   isAccepted : accepted O L call ≡ true
   isAccepted = accepted-test O L call number found zero
 
-  pub verify-in-range : wrongEvidence kind capacity right first last ≡ false
+  pub verify-in-range : evidenceOutOfRange kind capacity right first last ≡ false
   verify-in-range = accepted-in-range O L h s kind capacity right first last isAccepted
 
   facts : VerifyFacts O L h s kind capacity right first last
@@ -117,11 +117,11 @@ module _ (o f : List ℕ) (m : List Bool) (x : List Entry) (h s kind capacity ri
 
   -- the kW of the kind's terms, the note of the posting and the entry are new, and nothing else
   verified : (f′ : List ℕ) → f′ ≡ storedByTerm f h s (ownershipSlot + terms * (kind - 1)) filed → f′ ≡ figuresOf (effect O L call)
-  unfolding figuresOf figureGroups calendarOf slotsOf effect withPapers afterVerify
+  unfolding figuresOf figureGroups calendarOf slotsOf effect withEvidence afterVerify
   verified f′ e = e ∙ go (decided (eqb kind ownership))
     where
       entries : ℕ → ℕ → ℕ → Entry
-      entries = L .papers .entry
+      entries = L .evidence .entry
 
       go : (eqb kind ownership ≡ true) ⊎ (eqb kind ownership ≡ false) → storedByTerm f h s (ownershipSlot + terms * (kind - 1)) filed ≡ figuresOf (effect O L call)
       go (inl t) =
@@ -146,11 +146,11 @@ module _ (o f : List ℕ) (m : List Bool) (x : List Entry) (h s kind capacity ri
   kind-back = let range = verify-kinds in omega arith
 
   noted : (m′ : List Bool) → m′ ≡ storedAt postedSlots m h s (evidencePostedSlot + (kind - 1)) true → m′ ≡ postedOf (effect O L call)
-  unfolding postedOf postedGroups slotsOf effect withPapers afterVerify
+  unfolding postedOf postedGroups slotsOf effect withEvidence afterVerify
   noted m′ e =
       e ∙ shown-is postedSlots false _ (storedAt postedSlots m h s (evidencePostedSlot + (kind - 1)) true) [] (omega arith)
-      (slot-stored false postedSlots evidencePostedSlot evidenceKinds 1 (take 3 (postedGroups L)) [] refl (omega arith) (L .papers .posted) (λ i j k. same3 h s kind i j k || L .papers .posted i j k) m [] h s (kind - 1) true holder source (let range = verify-kinds in omega arith)
-      (subst (λ n. StoredIn evidenceKinds 1 h s n true (L .papers .posted) (λ i j k. same3 h s kind i j k || L .papers .posted i j k)) (sym kind-back) (number-posted evidenceKinds 1 h s kind (L .papers .posted)))
+      (slot-stored false postedSlots evidencePostedSlot evidenceKinds 1 (take 3 (postedGroups L)) [] refl (omega arith) (L .evidence .posted) (λ i j k. same3 h s kind i j k || L .evidence .posted i j k) m [] h s (kind - 1) true holder source (let range = verify-kinds in omega arith)
+      (subst (λ n. StoredIn evidenceKinds 1 h s n true (L .evidence .posted) (λ i j k. same3 h s kind i j k || L .evidence .posted i j k)) (sym kind-back) (number-posted evidenceKinds 1 h s kind (L .evidence .posted)))
       (posted-shown o f m x r))
 
   evidence-shown : Shows evidenceSlots noEntry x (inSlot noEntry (evidenceGroups L)) []
@@ -158,12 +158,12 @@ module _ (o f : List ℕ) (m : List Bool) (x : List Entry) (h s kind capacity ri
   evidence-shown = subst (λ z. Shows evidenceSlots noEntry z (inSlot noEntry (evidenceGroups L)) []) (sym (evidence-known o f m x r)) (array-shows evidenceSlots noEntry (inSlot noEntry (evidenceGroups L)) [])
 
   entered : (x′ : List Entry) → x′ ≡ storedAt evidenceSlots x h s (kind - 1) filed → x′ ≡ evidenceOf (effect O L call)
-  unfolding evidenceOf evidenceGroups slotsOf effect withPapers afterVerify
+  unfolding evidenceOf evidenceGroups slotsOf effect withEvidence afterVerify
   entered x′ e =
       e ∙ ap (λ n. storedAt evidenceSlots x h s n filed) (let same : kind - 1 ≡ 0 + (kind - 1) = omega arith in same)
       ∙ shown-is evidenceSlots noEntry _ (storedAt evidenceSlots x h s (0 + (kind - 1)) filed) [] (omega arith)
-      (slot-stored noEntry evidenceSlots 0 evidenceKinds 1 [] [] refl (omega arith) (L .papers .entry) (λ i j k. cond (same3 h s kind i j k) filed (L .papers .entry i j k)) x [] h s (kind - 1) filed holder source (let range = verify-kinds in omega arith)
-      (λ i j k low high. ap (λ n. cond (same3 h s n i j k) filed (L .papers .entry i j k)) (sym kind-back))
+      (slot-stored noEntry evidenceSlots 0 evidenceKinds 1 [] [] refl (omega arith) (L .evidence .entry) (λ i j k. cond (same3 h s kind i j k) filed (L .evidence .entry i j k)) x [] h s (kind - 1) filed holder source (let range = verify-kinds in omega arith)
+      (λ i j k low high. ap (λ n. cond (same3 h s n i j k) filed (L .evidence .entry i j k)) (sym kind-back))
       evidence-shown)
 
   same : season.step O L call ≡ effect O L call

@@ -5,8 +5,8 @@ use mathlib.Core.List.{List}
 use lib.ListN.{getD}
 use lib.Dec.{ltb, eqb}
 use Rattle.tariff.specs.Load.{Block, loadPosted}
-use Rattle.tariff.specs.Metered.{blocksOf, sameLengths}
-use Rattle.tariff.specs.Ranges.{mostKw}
+use Rattle.tariff.specs.Metering.{blocksOf, sameLengths}
+use Rattle.tariff.specs.Ranges.{maxKw}
 use Rattle.ledger.specs.Opening.{Opening}
 use Rattle.ledger.specs.Ledger.{Ledger}
 use Rattle.ledger.specs.Numbers.{unreadable}
@@ -20,8 +20,8 @@ abbrev pub earlyCauses : ℕ
 earlyCauses = 4
 
 -- a block's kW exceeds the most
-unfoldable pub exceedsMostKw : List ℕ → ℕ → Bool
-exceedsMostKw kws k = ltb mostKw (getD kws k 0)
+unfoldable pub exceedsMaxKw : List ℕ → ℕ → Bool
+exceedsMaxKw kws k = ltb maxKw (getD kws k 0)
 
 -- blocks by their kW alone: no first hour and no length of a block is out of range (01: their faults are 6, never 3), so any others do here
 unfoldable pub kwBlocks : List ℕ → List Block

@@ -6,12 +6,12 @@ use records::numbers::NOT_IN_BOOK;
 use records::numbers::OUT_OF_RANGE;
 use records::numbers::POSTED_BEFORE;
 use records::numbers::SINK_INELIGIBLE;
+use records::refusals::kw_out_of_range;
 use records::refusals::refuse;
-use records::refusals::wrong_kw;
-use records::setup::no_holder;
-use records::setup::no_path;
+use records::setup::kind_ineligible;
 use records::setup::path_sink;
-use records::setup::sink_not_for;
+use records::setup::unknown_holder;
+use records::setup::unknown_path;
 use slots::calendar::current_tier;
 use slots::calendar::last_closed;
 use slots::cells::is_posted;
@@ -29,11 +29,11 @@ fn carry_refusal(o: &[u64], f: &[u64], m: &[bool], h: u64, p: u64, kw: u64) -> u
     requires { ⌜ ReachablePostings (now o) (now f) (now m) ⌝ }
     ensures { λ r. ⌜ InPostings (now (o .entry)) (now (f .entry)) (now (m .entry)) (λ O L. r ≡ refusal O L (carry h p kw)) ⌝ }
 {
-    let unknown = no_holder(o, h) | no_path(o, p);
-    let range = wrong_kw(kw);
+    let unknown = unknown_holder(o, h) | unknown_path(o, p);
+    let range = kw_out_of_range(kw);
     let late = !before_tier(1, last_closed(f), current_tier(f));
     let posted = is_posted(m, h, p, CARRY_POSTED);
-    let sink = sink_not_for(o, h, path_sink(o, p));
+    let sink = kind_ineligible(o, h, path_sink(o, p));
     let from_sink = refuse(SINK_INELIGIBLE, sink, 0);
     let from_posted = refuse(POSTED_BEFORE, posted, from_sink);
     let from_time = refuse(NOT_AT_THIS_TIME, late, from_posted);

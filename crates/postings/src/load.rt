@@ -11,11 +11,11 @@ use records::numbers::POSTED_BEFORE;
 use records::numbers::SINK_INELIGIBLE;
 use records::numbers::UNREADABLE;
 use records::refusals::refuse;
-use records::refusals::wrong_term;
+use records::refusals::term_out_of_range;
 use records::setup::is_sub_lap;
-use records::setup::no_holder;
-use records::setup::no_sink;
-use records::setup::sink_not_for;
+use records::setup::kind_ineligible;
+use records::setup::unknown_holder;
+use records::setup::unknown_sink;
 use slots::calendar::current_tier;
 use slots::calendar::last_closed;
 use slots::cells::add;
@@ -23,7 +23,7 @@ use slots::cells::is_posted;
 use slots::cells::set_posted;
 use slots::layout::LOAD;
 use slots::layout::LOAD_POSTED;
-use tariff::load::Metered;
+use tariff::load::Metering;
 use tariff::load::load_posted;
 use tariff::load::same_lengths;
 use tariff::sizes::MAX_HOURS;
@@ -32,13 +32,13 @@ use tariff::sizes::TERMS;
 ghost use mathlib.Core.Path.{_≡_};
 ghost use lib.ListN.{length, take};
 ghost use Rattle.tariff.specs.Sum.{anyBelow};
-ghost use Rattle.tariff.specs.Metered.{blocksOf, sameLengths};
-ghost use Rattle.ledger.specs.Ranges.{wrongLoad};
+ghost use Rattle.tariff.specs.Metering.{blocksOf, sameLengths};
+ghost use Rattle.ledger.specs.Ranges.{loadOutOfRange};
 ghost use Rattle.ledger.specs.Numbers.{firstMet};
 ghost use Rattle.ledger.specs.Causes.{loadCauses};
 ghost use Rattle.ledger.specs.Call.{load};
 ghost use Rattle.slots.specs.Steps.{ReachablePostings, InPostings, PostingsStepIf};
-ghost use Rattle.postings.specs.Loads.{earlyCauses, exceedsMostKw, kwBlocks, postingOf};
+ghost use Rattle.postings.specs.Loads.{earlyCauses, exceedsMaxKw, kwBlocks, postingOf};
 
 // What a load comes to: the number that refuses it, or the kW that it posts.
 pub enum Posting {
@@ -47,8 +47,8 @@ pub enum Posting {
 }
 
 // Whether some block's kW exceeds the most.
-fn any_exceeds_most_kw(kws: &[u64]) -> bool
-    ensures { λ r. ⌜ r ≡ anyBelow (length (now (kws .entry))) (exceedsMostKw (now (kws .entry))) ⌝ }
+fn any_exceeds_max_kw(kws: &[u64]) -> bool
+    ensures { λ r. ⌜ r ≡ anyBelow (length (now (kws .entry))) (exceedsMaxKw (now (kws .entry))) ⌝ }
 {
     let mut k = 0;
     while k < kws.len() {
@@ -62,10 +62,10 @@ fn any_exceeds_most_kw(kws: &[u64]) -> bool
 
 // Whether a field is outside its range. Of a block only the kW has one.
 fn load_out_of_range(term: u64, contract: u64, n: u64, kws: &[u64]) -> bool
-    ensures { λ r. ⌜ r ≡ wrongLoad term contract n (kwBlocks (now (kws .entry))) ⌝ }
+    ensures { λ r. ⌜ r ≡ loadOutOfRange term contract n (kwBlocks (now (kws .entry))) ⌝ }
 {
-    let fields = wrong_term(term) | (MAX_KW < contract) | !((1 <= n) & (n <= MAX_HOURS));
-    fields | ((MAX_HOURS as usize) < kws.len()) | any_exceeds_most_kw(kws)
+    let fields = term_out_of_range(term) | (MAX_KW < contract) | !((1 <= n) & (n <= MAX_HOURS));
+    fields | ((MAX_HOURS as usize) < kws.len()) | any_exceeds_max_kw(kws)
 }
 
 // The first of causes 2 to 5 that a load meets, 0 for none: those that come before the order of its blocks.
@@ -83,7 +83,7 @@ fn load_refusal_early(
     requires { ⌜ ReachablePostings (now o) (now f) (now m) ⌝ }
     ensures { λ r. ⌜ InPostings (now (o .entry)) (now (f .entry)) (now (m .entry)) (λ O L. r ≡ firstMet (take earlyCauses (loadCauses O L h s term contract n (kwBlocks (now (kws .entry)))))) ⌝ }
 {
-    let unknown = no_holder(o, h) | no_sink(o, s);
+    let unknown = unknown_holder(o, h) | unknown_sink(o, s);
     let range = load_out_of_range(term, contract, n, kws);
     let late = !before_term(term, last_closed(f), current_tier(f));
     let posted = is_posted(m, h, s, posted_slot(LOAD_POSTED, TERMS, 0, term));
@@ -117,13 +117,13 @@ fn load_posting(
     if number != 0 {
         return Posting::Refused(number);
     }
-    let not_for = sink_not_for(o, h, s);
+    let not_for = kind_ineligible(o, h, s);
     let sub_lap = is_sub_lap(o, s);
     match load_posted(firsts, hours, kws, n, contract) {
-        Metered::Unequal => Posting::Refused(UNREADABLE),
-        Metered::Broken => Posting::Refused(BROKEN_BLOCKS),
-        Metered::Missing => Posting::Refused(HOURS_MISSING),
-        Metered::Kw(kw) => {
+        Metering::Unequal => Posting::Refused(UNREADABLE),
+        Metering::Broken => Posting::Refused(BROKEN_BLOCKS),
+        Metering::Missing => Posting::Refused(HOURS_MISSING),
+        Metering::Kw(kw) => {
             if not_for | sub_lap {
                 return Posting::Refused(SINK_INELIGIBLE);
             }

@@ -6,12 +6,12 @@ use records::numbers::NOT_IN_BOOK;
 use records::numbers::OUT_OF_RANGE;
 use records::numbers::POSTED_BEFORE;
 use records::numbers::SINK_INELIGIBLE;
+use records::refusals::prior_out_of_range;
 use records::refusals::refuse;
-use records::refusals::wrong_prior;
-use records::setup::no_holder;
-use records::setup::no_path;
+use records::setup::kind_ineligible;
 use records::setup::path_sink;
-use records::setup::sink_not_for;
+use records::setup::unknown_holder;
+use records::setup::unknown_path;
 use slots::calendar::current_tier;
 use slots::calendar::last_closed;
 use slots::cells::add;
@@ -30,11 +30,11 @@ fn prior_refusal(o: &[u64], f: &[u64], m: &[bool], h: u64, p: u64, a: u64, l: u6
     requires { ⌜ ReachablePostings (now o) (now f) (now m) ⌝ }
     ensures { λ r. ⌜ InPostings (now (o .entry)) (now (f .entry)) (now (m .entry)) (λ O L. r ≡ refusal O L (prior h p a l)) ⌝ }
 {
-    let unknown = no_holder(o, h) | no_path(o, p);
-    let range = wrong_prior(a, l);
+    let unknown = unknown_holder(o, h) | unknown_path(o, p);
+    let range = prior_out_of_range(a, l);
     let late = !before_tier(1, last_closed(f), current_tier(f));
     let posted = is_posted(m, h, p, PRIOR_POSTED);
-    let sink = sink_not_for(o, h, path_sink(o, p));
+    let sink = kind_ineligible(o, h, path_sink(o, p));
     let from_sink = refuse(SINK_INELIGIBLE, sink, 0);
     let from_posted = refuse(POSTED_BEFORE, posted, from_sink);
     let from_time = refuse(NOT_AT_THIS_TIME, late, from_posted);

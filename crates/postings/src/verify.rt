@@ -7,8 +7,8 @@ use records::numbers::NOT_IN_BOOK;
 use records::numbers::OUT_OF_RANGE;
 use records::numbers::POSTED_BEFORE;
 use records::refusals::refuse;
-use records::setup::no_holder;
-use records::setup::no_source;
+use records::setup::unknown_holder;
+use records::setup::unknown_source;
 use slots::calendar::current_tier;
 use slots::cells::cell;
 use slots::cells::is_posted;
@@ -30,7 +30,7 @@ use tariff::sizes::TERMS;
 ghost use mathlib.Core.Path.{_≡_};
 ghost use mathlib.Core.Bool.{false};
 ghost use Rattle.tariff.specs.Evidence.{entryOf};
-ghost use Rattle.tariff.specs.Ranges.{wrongEvidence};
+ghost use Rattle.tariff.specs.Ranges.{evidenceOutOfRange};
 ghost use Rattle.ledger.specs.Call.{verify};
 ghost use Rattle.ledger.specs.Causes.{refusal};
 ghost use Rattle.ledger.specs.Season.{step};
@@ -38,7 +38,7 @@ ghost use Rattle.records.specs.Opening.{openingOf};
 ghost use Rattle.slots.specs.Cells.{HasCell, storedAt};
 ghost use Rattle.slots.specs.Layout.{evidenceSlots, evidenceOf, ledgerIn};
 ghost use Rattle.slots.specs.Steps.{Reachable, ReachablePostings, InPostings, EvidenceStep, Steps};
-ghost use Rattle.postings.specs.Verified.{storedByTerm, HasTerms};
+ghost use Rattle.postings.specs.VerifiedKw.{storedByTerm, HasTerms};
 
 // An answer beside the book's evidence after it.
 pub struct VerifyOutcome {
@@ -62,7 +62,7 @@ fn verify_refusal(
     requires { ⌜ ReachablePostings (now o) (now f) (now m) ⌝ }
     ensures { λ r. ⌜ InPostings (now (o .entry)) (now (f .entry)) (now (m .entry)) (λ O L. r ≡ refusal O L (verify h s kind capacity right first last)) ⌝ }
 {
-    let unknown = no_holder(o, h) | no_source(o, s);
+    let unknown = unknown_holder(o, h) | unknown_source(o, s);
     let range = !evidence_in_range(kind, capacity, right, first, last);
     let open = is_open(current_tier(f));
     let posted = is_posted(
@@ -79,11 +79,11 @@ fn verify_refusal(
 
 // The entry that evidence in range comes to.
 fn entry_in_range(kind: u64, capacity: u64, right: u64, first: u64, last: u64) -> Entry
-    requires { ⌜ wrongEvidence kind capacity right first last ≡ false ⌝ }
+    requires { ⌜ evidenceOutOfRange kind capacity right first last ≡ false ⌝ }
     ensures { λ r. ⌜ r ≡ entryOf kind capacity right first last ⌝ }
 {
     match file_evidence(kind, capacity, right, first, last) {
-        Filing::Filed(entry) => entry,
+        Filing::Valid(entry) => entry,
         Filing::OutOfRange => Entry {
             evidence: Evidence::Empty,
             first: 0,

@@ -8,7 +8,7 @@ use lib.Dec.{eqb}
 use borrow.Author.Tests.{eq-eqb, ne-eqb}
 use Rattle.ledger.specs.Opening.{Opening, holderKind, sinkKind}
 use Rattle.ledger.specs.Numbers.{Cause, cause, firstMet}
-use Rattle.ledger.specs.Causes.{sinkNotFor}
+use Rattle.ledger.specs.Causes.{kindIneligible}
 
 -- a cause put before the later ones
 pub link : (number : ℕ) (met test : Bool) (rows : List Cause) {later r : ℕ} → r ≡ cond met number later → met ≡ test → later ≡ firstMet rows → r ≡ firstMet (cause number test ∷ rows)
@@ -28,10 +28,10 @@ first-part (suc k) (cause number true ∷ rows) ne = refl
 first-part (suc k) (cause number false ∷ rows) ne = first-part k rows ne
 
 -- which sinks are for a holder
-pub sink-of-supplier : (o : Opening) (h s kind : ℕ) → holderKind o h ≡ 1 → kind ≡ sinkKind o s → eqb kind 4 ≡ sinkNotFor o h s
-unfolding sinkNotFor
-sink-of-supplier o h s kind e k = ap (λ x. eqb x 4) k ∙ sym (ap (λ t. cond t (eqb (sinkKind o s) 4) (not (eqb (sinkKind o s) 4))) (eq-eqb (holderKind o h) 1 e))
+pub sink-of-lse : (o : Opening) (h s kind : ℕ) → holderKind o h ≡ 1 → kind ≡ sinkKind o s → eqb kind 4 ≡ kindIneligible o h s
+unfolding kindIneligible
+sink-of-lse o h s kind e k = ap (λ x. eqb x 4) k ∙ sym (ap (λ t. cond t (eqb (sinkKind o s) 4) (not (eqb (sinkKind o s) 4))) (eq-eqb (holderKind o h) 1 e))
 
-pub sink-of-outsider : (o : Opening) (h s kind : ℕ) → (holderKind o h ≡ 1 → ⊥) → kind ≡ sinkKind o s → not (eqb kind 4) ≡ sinkNotFor o h s
-unfolding sinkNotFor
-sink-of-outsider o h s kind e k = ap (λ x. not (eqb x 4)) k ∙ sym (ap (λ t. cond t (eqb (sinkKind o s) 4) (not (eqb (sinkKind o s) 4))) (ne-eqb (holderKind o h) 1 e))
+pub sink-of-obaalse : (o : Opening) (h s kind : ℕ) → (holderKind o h ≡ 1 → ⊥) → kind ≡ sinkKind o s → not (eqb kind 4) ≡ kindIneligible o h s
+unfolding kindIneligible
+sink-of-obaalse o h s kind e k = ap (λ x. not (eqb x 4)) k ∙ sym (ap (λ t. cond t (eqb (sinkKind o s) 4) (not (eqb (sinkKind o s) 4))) (ne-eqb (holderKind o h) 1 e))

@@ -1,4 +1,4 @@
-pub mod Behind
+pub mod ListsBefore
 pub mod Entries
 pub mod CauseLaws
 pub mod CalendarLaws

@@ -7,21 +7,21 @@ use native.Mathlib.Omega.{arith}
 use lib.ListN.{length, getD, take, drop, length-append, length-drop}
 use lib.Seq.{ext-getD, getD-take, getD-drop, length-take-le, take-take, take-at, drop-at}
 use borrow.Author.Tests.{eqb-true, leb-true}
-use Rattle.tariff.specs.Sum.{listTo, allBelow}
+use Rattle.tariff.specs.Sum.{tabulate, allBelow}
 use Rattle.tariff.proofs.Tests.{and-both}
-use Rattle.tariff.proofs.Lists.{length-list-to, at-list-to}
+use Rattle.tariff.proofs.Lists.{length-tabulate, at-tabulate}
 use Rattle.ledger.specs.Opening.{Opening, pathBase, countsFit, listsFit, legal}
 use Rattle.records.specs.Opening.{openingCount, basesAt, openingIn, openingLists, pathBases, openingArray, KeepsBases, withRoom, emptyOpening}
-use Rattle.records.proofs.Behind.{mid-behind, last-behind}
+use Rattle.records.proofs.ListsBefore.{mid-past, last-past}
 
 -- the first n of a list that was copied into n places or more are the list
-pub copied-back : (n room : ℕ) (xs : List ℕ) → length xs ≡ n → n ≤ room → take n (listTo room (λ k. getD xs k 0)) ≡ xs
+pub copied-back : (n room : ℕ) (xs : List ℕ) → length xs ≡ n → n ≤ room → take n (tabulate room (λ k. getD xs k 0)) ≡ xs
 copied-back n room xs len fits =
-    ext-getD 0 (take n (listTo room (λ k. getD xs k 0))) xs (taken ∙ sym len)
-    (λ i l. let below : i < n = omega (arith, taken) in getD-take n (listTo room (λ k. getD xs k 0)) i 0 below ∙ at-list-to room (λ k. getD xs k 0) 0 i (omega arith))
+    ext-getD 0 (take n (tabulate room (λ k. getD xs k 0))) xs (taken ∙ sym len)
+    (λ i l. let below : i < n = omega (arith, taken) in getD-take n (tabulate room (λ k. getD xs k 0)) i 0 below ∙ at-tabulate room (λ k. getD xs k 0) 0 i (omega arith))
   where
-    taken : length (take n (listTo room (λ k. getD xs k 0))) ≡ n
-    taken = length-take-le n (listTo room (λ k. getD xs k 0)) (let all = length-list-to room (λ k. getD xs k 0) in omega arith)
+    taken : length (take n (tabulate room (λ k. getD xs k 0))) ≡ n
+    taken = length-take-le n (tabulate room (λ k. getD xs k 0)) (let all = length-tabulate room (λ k. getD xs k 0) in omega arith)
 
 -- the lists are as long as counted
 lists-long : (o : Opening) → listsFit o ≡ true → (length (o .holderKinds) ≡ o .holders) × (length (o .sinkKinds) ≡ o .sinks) × (length (o .sinkParents) ≡ o .sinks) × (length (o .pathSources) ≡ o .paths) × (length (o .pathSinks) ≡ o .paths)
@@ -42,18 +42,18 @@ counts-small o e =
     let one = and-both _ _ (two .0) in
     (leb-true _ _ (one .0), leb-true _ _ (two .1), leb-true _ _ (three .1))
 
--- five lists one behind the other, each taken out again
+-- five lists one after another, each taken out again
 module _ (v w x y z : List ℕ) (a : length v ≡ 8) (b : length w ≡ 16) (c : length x ≡ 16) (d : length y ≡ 16) (e : length z ≡ 16) where
   abbrev all : List ℕ
   all = v ++ (w ++ (x ++ (y ++ z)))
 
   lists-apart : (take 8 all ≡ v) × (take 16 (drop 8 all) ≡ w) × (take 16 (drop 24 all) ≡ x) × (take 16 (drop 40 all) ≡ y) × (take 16 (drop 56 all) ≡ z)
   lists-apart = (
-    mid-behind [] v (w ++ (x ++ (y ++ z))) 0 8 refl a,
-    mid-behind (v ∷ []) w (x ++ (y ++ z)) 8 16 (omega (arith, a)) b,
-    mid-behind (v ∷ w ∷ []) x (y ++ z) 24 16 (omega (arith, a, b)) c,
-    mid-behind (v ∷ w ∷ x ∷ []) y z 40 16 (omega (arith, a, b, c)) d,
-    last-behind (v ∷ w ∷ x ∷ y ∷ []) z 56 16 (omega (arith, a, b, c, d)) e,
+    mid-past [] v (w ++ (x ++ (y ++ z))) 0 8 refl a,
+    mid-past (v ∷ []) w (x ++ (y ++ z)) 8 16 (omega (arith, a)) b,
+    mid-past (v ∷ w ∷ []) x (y ++ z) 24 16 (omega (arith, a, b)) c,
+    mid-past (v ∷ w ∷ x ∷ []) y z 40 16 (omega (arith, a, b, c)) d,
+    last-past (v ∷ w ∷ x ∷ y ∷ []) z 56 16 (omega (arith, a, b, c, d)) e,
   )
 
 -- the lists keep the whole of an opening whose counts and lists fit
@@ -62,7 +62,7 @@ unfolding openingIn openingLists
 lists-back o counts lists =
     let n = counts-small o counts in
     let l = lists-long o lists in
-    let apart = lists-apart (withRoom 8 (o .holderKinds)) (withRoom 16 (o .sinkKinds)) (withRoom 16 (o .sinkParents)) (withRoom 16 (o .pathSources)) (withRoom 16 (o .pathSinks)) (length-list-to 8 _) (length-list-to 16 _) (length-list-to 16 _) (length-list-to 16 _) (length-list-to 16 _) in
+    let apart = lists-apart (withRoom 8 (o .holderKinds)) (withRoom 16 (o .sinkKinds)) (withRoom 16 (o .sinkParents)) (withRoom 16 (o .pathSources)) (withRoom 16 (o .pathSinks)) (length-tabulate 8 _) (length-tabulate 16 _) (length-tabulate 16 _) (length-tabulate 16 _) (length-tabulate 16 _) in
     λ i.
     record {
       holders = o .holders;
@@ -101,12 +101,12 @@ opening-before o =
     }
 
 lists-size : (o : Opening) → length (openingLists o) ≡ basesAt
-unfolding openingLists listTo
+unfolding openingLists tabulate
 lists-size o = refl
 
 pub array-size : (o : Opening) → length (openingArray o) ≡ openingCount
 unfolding openingArray pathBases
-array-size o = let all = length-append (openingLists o) (listTo 16 (pathBase o)) in let lists = lists-size o in let bases = length-list-to 16 (pathBase o) in omega arith
+array-size o = let all = length-append (openingLists o) (tabulate 16 (pathBase o)) in let lists = lists-size o in let bases = length-tabulate 16 (pathBase o) in omega arith
 
 -- an array of which the lists are an opening's keeps that opening
 pub opening-by-lists : (o : Opening) (kept : List ℕ) → take basesAt kept ≡ openingLists o → countsFit o ≡ true → listsFit o ≡ true → openingIn kept ≡ o
@@ -129,11 +129,11 @@ bases-kept o e = drop-at (openingLists o) (pathBases o) basesAt (lists-size o) �
 -- the base that is kept for a path
 pub base-at : (o : List ℕ) → KeepsBases o → (p : ℕ) → p < 16 → getD o (basesAt + p) 0 ≡ pathBase (openingIn o) p
 unfolding pathBases
-base-at o keeps p l = sym (getD-drop basesAt o p 0) ∙ ap (λ xs. getD xs p 0) keeps ∙ at-list-to 16 (pathBase (openingIn o)) 0 p l
+base-at o keeps p l = sym (getD-drop basesAt o p 0) ∙ ap (λ xs. getD xs p 0) keeps ∙ at-tabulate 16 (pathBase (openingIn o)) 0 p l
 
 pub bases-size : (o : List ℕ) → KeepsBases o → length o ≡ openingCount
 unfolding pathBases
-bases-size o keeps = let left = length-drop basesAt o in let many = ap length keeps ∙ length-list-to 16 (pathBase (openingIn o)) in omega arith
+bases-size o keeps = let left = length-drop basesAt o in let many = ap length keeps ∙ length-tabulate 16 (pathBase (openingIn o)) in omega arith
 
 -- an opening with nothing in it breaks no rule
 pub empty-legal : legal emptyOpening ≡ true

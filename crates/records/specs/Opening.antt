@@ -5,7 +5,7 @@ use mathlib.Core.List.{List, [], _∷_, _++_}
 use denote.Ref.{RefT, now}
 use lib.ListN.{take, drop, getD}
 use Rattle.tariff.specs.Sizes.{maxHolders, maxPlaces}
-use Rattle.tariff.specs.Sum.{listTo}
+use Rattle.tariff.specs.Sum.{tabulate}
 use Rattle.ledger.specs.Opening.{Opening, pathBase}
 
 -- how many numbers keep an opening: four counts, then the kinds of 8 holders and 16 sinks, the parents of the sinks, the sources and the sinks of 16 paths,
@@ -54,7 +54,7 @@ openingOf o = openingIn (now o)
 
 -- a list with room for as many entries: what is past its end is 0
 abbrev pub withRoom : ℕ → List ℕ → List ℕ
-withRoom room xs = listTo room (λ k. getD xs k 0)
+withRoom room xs = tabulate room (λ k. getD xs k 0)
 
 -- the counts and lists of an opening, as they stand in its array
 unfoldable pub openingLists : Opening → List ℕ
@@ -71,7 +71,7 @@ openingLists o =
 
 -- the base of each path
 unfoldable pub pathBases : Opening → List ℕ
-pathBases o = listTo maxPlaces (pathBase o)
+pathBases o = tabulate maxPlaces (pathBase o)
 
 -- the array of an opening: bases follow from the lists, and are kept so that nobody looks them up twice
 unfoldable pub openingArray : Opening → List ℕ

@@ -3,7 +3,7 @@ ghost use mathlib.Core.Path.{_≡_};
 ghost use Prim.Native.Nat.{_≤_};
 ghost use lib.ListN.{length, getD, take, drop};
 ghost use Rattle.tariff.specs.Sizes.{maxPlaces};
-ghost use Rattle.tariff.specs.Sum.{listTo};
+ghost use Rattle.tariff.specs.Sum.{tabulate};
 ghost use Rattle.records.specs.Opening.{openingCount};
 
 // The number at a place; 0 past the end.
@@ -32,7 +32,7 @@ pub fn listed(numbers: &[u64], from: usize, room: u64, count: u64, i: u64) -> u6
 
 // Every number put to 0.
 pub fn clear(numbers: &mut [u64])
-    ensures { λ r. ⌜ now (numbers .exit) ≡ listTo (length (now (numbers .entry))) (λ k. 0) ⌝ }
+    ensures { λ r. ⌜ now (numbers .exit) ≡ tabulate (length (now (numbers .entry))) (λ k. 0) ⌝ }
 {
     let mut k = 0;
     while k < numbers.len() {

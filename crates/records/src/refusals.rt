@@ -5,8 +5,8 @@ use tariff::sizes::LAST_TIER;
 use tariff::sizes::MAX_KW;
 ghost use mathlib.Core.Path.{_≡_};
 ghost use mathlib.Core.Bool.{cond};
-ghost use Rattle.tariff.specs.Ranges.{wrongKw, wrongTerm, wrongMonth};
-ghost use Rattle.ledger.specs.Ranges.{wrongPrior, wrongTier};
+ghost use Rattle.tariff.specs.Ranges.{kwOutOfRange, termOutOfRange, monthOutOfRange};
+ghost use Rattle.ledger.specs.Ranges.{priorOutOfRange, tierOutOfRange};
 
 // The number where a cause is met, else what the later causes come to.
 pub fn refuse(number: u64, met: bool, later: u64) -> u64
@@ -15,32 +15,32 @@ pub fn refuse(number: u64, met: bool, later: u64) -> u64
     if met { number } else { later }
 }
 
-pub fn wrong_kw(kw: u64) -> bool
-    ensures { λ r. ⌜ r ≡ wrongKw kw ⌝ }
+pub fn kw_out_of_range(kw: u64) -> bool
+    ensures { λ r. ⌜ r ≡ kwOutOfRange kw ⌝ }
 {
     !((1 <= kw) & (kw <= MAX_KW))
 }
 
-pub fn wrong_term(term: u64) -> bool
-    ensures { λ r. ⌜ r ≡ wrongTerm term ⌝ }
+pub fn term_out_of_range(term: u64) -> bool
+    ensures { λ r. ⌜ r ≡ termOutOfRange term ⌝ }
 {
     LAST_TERM < term
 }
 
-pub fn wrong_month(month: u64) -> bool
-    ensures { λ r. ⌜ r ≡ wrongMonth month ⌝ }
+pub fn month_out_of_range(month: u64) -> bool
+    ensures { λ r. ⌜ r ≡ monthOutOfRange month ⌝ }
 {
     !((1 <= month) & (month <= LAST_MONTH))
 }
 
-pub fn wrong_prior(allocated: u64, long_term: u64) -> bool
-    ensures { λ r. ⌜ r ≡ wrongPrior allocated «long_term» ⌝ }
+pub fn prior_out_of_range(allocated: u64, long_term: u64) -> bool
+    ensures { λ r. ⌜ r ≡ priorOutOfRange allocated «long_term» ⌝ }
 {
-    wrong_kw(allocated) | (allocated < long_term)
+    kw_out_of_range(allocated) | (allocated < long_term)
 }
 
-pub fn wrong_tier(tier: u64) -> bool
-    ensures { λ r. ⌜ r ≡ wrongTier tier ⌝ }
+pub fn tier_out_of_range(tier: u64) -> bool
+    ensures { λ r. ⌜ r ≡ tierOutOfRange tier ⌝ }
 {
     !((1 <= tier) & (tier <= LAST_TIER))
 }

@@ -10,11 +10,11 @@ ghost use Prim.Native.Nat.{_<_};
 ghost use mathlib.Core.Path.{_≡_};
 ghost use Rattle.tariff.specs.Sizes.{maxPlaces};
 ghost use Rattle.ledger.specs.Opening.{holderKind, sinkKind, base, pathSource, pathSink, pathBase};
-ghost use Rattle.ledger.specs.Ranges.{noHolder, noSource, noSink, noPath};
-ghost use Rattle.ledger.specs.Causes.{sinkNotFor, isSubLap};
+ghost use Rattle.ledger.specs.Ranges.{unknownHolder, unknownSource, unknownSink, unknownPath};
+ghost use Rattle.ledger.specs.Causes.{kindIneligible, isSubLap};
 ghost use Rattle.records.specs.Opening.{openingOf, KeepsBases};
 
-// Where the lists stand behind the four counts, each with room for as many as a book can have.
+// Where the lists stand after the four counts, each with room for as many as a book can have.
 pub const HOLDER_KINDS: usize = 4;
 
 pub const SINK_KINDS: usize = 12;
@@ -25,7 +25,7 @@ pub const PATH_SOURCES: usize = 44;
 
 pub const PATH_SINKS: usize = 60;
 
-// Where the base of each path stands, behind the lists.
+// Where the base of each path stands, after the lists.
 pub const BASES: usize = 76;
 
 // How many numbers keep an opening.
@@ -55,26 +55,26 @@ pub fn paths(o: &[u64]) -> u64
     number_at(o, 3)
 }
 
-pub fn no_holder(o: &[u64], h: u64) -> bool
-    ensures { λ r. ⌜ r ≡ noHolder (openingOf (o .entry)) h ⌝ }
+pub fn unknown_holder(o: &[u64], h: u64) -> bool
+    ensures { λ r. ⌜ r ≡ unknownHolder (openingOf (o .entry)) h ⌝ }
 {
     holders(o) <= h
 }
 
-pub fn no_source(o: &[u64], s: u64) -> bool
-    ensures { λ r. ⌜ r ≡ noSource (openingOf (o .entry)) s ⌝ }
+pub fn unknown_source(o: &[u64], s: u64) -> bool
+    ensures { λ r. ⌜ r ≡ unknownSource (openingOf (o .entry)) s ⌝ }
 {
     sources(o) <= s
 }
 
-pub fn no_sink(o: &[u64], s: u64) -> bool
-    ensures { λ r. ⌜ r ≡ noSink (openingOf (o .entry)) s ⌝ }
+pub fn unknown_sink(o: &[u64], s: u64) -> bool
+    ensures { λ r. ⌜ r ≡ unknownSink (openingOf (o .entry)) s ⌝ }
 {
     sinks(o) <= s
 }
 
-pub fn no_path(o: &[u64], p: u64) -> bool
-    ensures { λ r. ⌜ r ≡ noPath (openingOf (o .entry)) p ⌝ }
+pub fn unknown_path(o: &[u64], p: u64) -> bool
+    ensures { λ r. ⌜ r ≡ unknownPath (openingOf (o .entry)) p ⌝ }
 {
     paths(o) <= p
 }
@@ -125,9 +125,9 @@ pub fn path_base(o: &[u64], p: u64) -> u64
     o[BASES + p as usize]
 }
 
-// A scheduling point is not for a load-serving entity, and nothing else is for an outside entity.
-pub fn sink_not_for(o: &[u64], h: u64, s: u64) -> bool
-    ensures { λ r. ⌜ r ≡ sinkNotFor (openingOf (o .entry)) h s ⌝ }
+// Cause 10 by kinds: a scheduling point is not for an LSE, and nothing else is for an OBAALSE.
+pub fn kind_ineligible(o: &[u64], h: u64, s: u64) -> bool
+    ensures { λ r. ⌜ r ≡ kindIneligible (openingOf (o .entry)) h s ⌝ }
 {
     let scheduling_point = sink_kind(o, s) == SCHEDULING_POINT;
     if holder_kind(o, h) == LSE {

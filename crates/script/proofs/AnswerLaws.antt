@@ -1,4 +1,4 @@
--- The line of each kind of answer has at most the bytes that a run asks for a line. Assumes nothing.
+-- The line of each kind of answer has at most the bytes that a run needs for a line. Assumes nothing.
 use Prim.Native.Nat.{ℕ, _≤_, _<_}
 use native.Mathlib.Omega.{arith}
 use lib.ListN.{length, length-append}

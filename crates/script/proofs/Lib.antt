@@ -1,6 +1,6 @@
-pub mod AskedLaws
+pub mod RequestLaws
 pub mod CaseOne
-pub mod PlayedLaws
+pub mod GroupTextLaws
 pub mod AnswerLaws
 pub mod WritableLaws
 pub mod RunGroupLaws

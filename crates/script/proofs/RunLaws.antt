@@ -17,7 +17,7 @@ use Rattle.records.specs.declared.answers.Answer.the-variants.{Done, Refused}
 use Rattle.records.specs.Answers.{answerIn}
 use Rattle.opening.specs.Opened.{openedAnswer}
 use Rattle.book.specs.Reading.{bookOf}
-use Rattle.book.specs.Opened.{openedAs}
+use Rattle.book.specs.Opened.{openingOutcome}
 use Rattle.book.proofs.SeasonAnswers.{opened-at}
 use Rattle.lines.specs.declared.rows.Row.{Row}
 use Rattle.lines.specs.Text.{linesOf, maxLines, maxBytes}
@@ -27,22 +27,22 @@ use Rattle.lines.specs.Writing.{writtenAt}
 use Rattle.lines.proofs.RowSteps.{first-row}
 use Rattle.groups.specs.Groups.{groupsOf, bookReadable, openingOfRows, callRows}
 use Rattle.script.specs.Answers.{answersTo, answersAfter, scriptAnswers, textOf, textsOf}
-use Rattle.script.specs.Played.{answersOf, textFrom}
+use Rattle.script.specs.GroupTexts.{answersOf, textFrom}
 use Rattle.groups.specs.BookGroup.{bookGroupWith, openingLeft, bookGroupOf, openingAfter}
 use Rattle.script.specs.Run.{tooLong, tooShort, answersText, written, runRefusal, runNumber, outputAfter}
-use Rattle.script.proofs.PlayedLaws.{played}
+use Rattle.script.proofs.GroupTextLaws.{groups-answered}
 use Rattle.groups.proofs.BookGroupLaws.{group-rows}
 
 -- what the groups after a legal opening are answered
-groups-text : (o : Opening) → legal o ≡ true → (rows : List Row) → textsOf (map answerIn (answersOf (openedAs o .book) (groupsOf rows))) ≡ textsOf (answersTo o emptyLedger (groupsOf rows))
+groups-text : (o : Opening) → legal o ≡ true → (rows : List Row) → textsOf (map answerIn (answersOf (openingOutcome o .book) (groupsOf rows))) ≡ textsOf (answersTo o emptyLedger (groupsOf rows))
 unfolding after afterFrom
-groups-text o e rows = ap (λ b. textsOf (map answerIn (answersOf b (groupsOf rows)))) (opened-at o e) ∙ ap textsOf (played o e [] (groupsOf rows))
+groups-text o e rows = ap (λ b. textsOf (map answerIn (answersOf b (groupsOf rows)))) (opened-at o e) ∙ ap textsOf (groups-answered o e [] (groupsOf rows))
 
-opened-answer : (o : Opening) → legal o ≡ true → answerIn (openedAs o .answer) ≡ ledger.done
-unfolding openedAs openedAnswer answerIn
+opened-answer : (o : Opening) → legal o ≡ true → answerIn (openingOutcome o .answer) ≡ ledger.done
+unfolding openingOutcome openedAnswer answerIn
 opened-answer o e = ap (λ t. answerIn (cond t Done (Refused (openingRefusal o)))) e
 
-after-text : (o : Opening) → legal o ≡ true → (rows : List Row) → textsOf (answersAfter o rows) ≡ textOf (answerIn (openedAs o .answer)) ++ textsOf (map answerIn (answersOf (openedAs o .book) (groupsOf rows)))
+after-text : (o : Opening) → legal o ≡ true → (rows : List Row) → textsOf (answersAfter o rows) ≡ textOf (answerIn (openingOutcome o .answer)) ++ textsOf (map answerIn (answersOf (openingOutcome o .book) (groupsOf rows)))
 unfolding answersAfter textsOf
 after-text o e rows =
     ap (λ t. textsOf (cond t (ledger.done ∷ answersTo o emptyLedger (groupsOf rows)) (ledger.refused (openingRefusal o) ∷ []))) e
@@ -60,9 +60,9 @@ module _ (head : Row) (rows : List Row) (consumed : ℕ) where
       go false isLegal w = append-nil _
 
   -- one that does not is answered, and then the groups after it
-  goes-on : (o : List ℕ) → bookGroupWith head rows consumed .«is_open» ≡ true → textsOf (scriptAnswers (head ∷ rows)) ≡ textOf (answerIn (bookGroupWith head rows consumed .answer)) ++ textsOf (map answerIn (answersOf (bookOf (openingLeft head rows o) emptyLedger) (groupsOf (callRows head rows))))
-  unfolding bookGroupWith openingLeft scriptAnswers openedAs
-  goes-on o e =
+  continues : (o : List ℕ) → bookGroupWith head rows consumed .«is_open» ≡ true → textsOf (scriptAnswers (head ∷ rows)) ≡ textOf (answerIn (bookGroupWith head rows consumed .answer)) ++ textsOf (map answerIn (answersOf (bookOf (openingLeft head rows o) emptyLedger) (groupsOf (callRows head rows))))
+  unfolding bookGroupWith openingLeft scriptAnswers openingOutcome
+  continues o e =
       let both = and-both (bookReadable head rows) (legal (openingOfRows head rows)) e in
       rw (both .0) (after-text (openingOfRows head rows) (both .1) (callRows head rows))
 
@@ -72,17 +72,17 @@ module _ (script : List ℕ) (some : 1 ≤ length script) where
   head = nextRow script .row
 
   rows : List Row
-  rows = rowsOf (drop (nextRow script .used) script)
+  rows = rowsOf (drop (nextRow script .consumed) script)
 
   pub run-stops : bookGroupOf script .«is_open» ≡ false → answersText script ≡ textOf (answerIn (bookGroupOf script .answer))
   unfolding answersText bookGroupOf head rows
   run-stops e = ap (λ all. textsOf (scriptAnswers all)) (first-row script some) ∙ stops head rows _ e
 
-  pub run-goes-on : (o : List ℕ) → bookGroupOf script .«is_open» ≡ true → answersText script ≡ textOf (answerIn (bookGroupOf script .answer)) ++ textFrom (bookOf (openingAfter script o) emptyLedger) (drop (bookGroupOf script .consumed) script)
+  pub run-continues : (o : List ℕ) → bookGroupOf script .«is_open» ≡ true → answersText script ≡ textOf (answerIn (bookGroupOf script .answer)) ++ textFrom (bookOf (openingAfter script o) emptyLedger) (drop (bookGroupOf script .consumed) script)
   unfolding answersText bookGroupOf openingAfter head rows textFrom
-  run-goes-on o e =
+  run-continues o e =
       ap (λ all. textsOf (scriptAnswers all)) (first-row script some)
-      ∙ goes-on head rows _ o e
+      ∙ continues head rows _ o e
       ∙ ap (λ calls. textOf (answerIn (bookGroupOf script .answer)) ++ textsOf (map answerIn (answersOf (bookOf (openingAfter script o) emptyLedger) (groupsOf calls)))) (sym (group-rows script))
 
 -- what is written from the start on

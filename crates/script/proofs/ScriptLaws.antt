@@ -22,15 +22,15 @@ use Rattle.lines.proofs.WritingLaws.{written-length, written-again}
 use Rattle.groups.specs.declared.opened.BookGroup.{BookGroup}
 use Rattle.groups.specs.Groups.{bookReadable, openingOfRows, callRows}
 use Rattle.script.specs.Answers.{textOf}
-use Rattle.script.specs.Played.{textFrom}
+use Rattle.script.specs.GroupTexts.{textFrom}
 use Rattle.groups.specs.BookGroup.{bookGroupWith, bookGroupOf, openingAfter}
 use Rattle.script.specs.Writing.{TwoDigits, Writable}
 use Rattle.script.specs.Run.{answersText}
 use Rattle.groups.proofs.GroupLaws.{drop-shorter}
-use Rattle.groups.proofs.BookGroupLaws.{group-rows, group-within, group-reached}
+use Rattle.groups.proofs.BookGroupLaws.{group-rows, group-within, book-group-reachable}
 use Rattle.script.proofs.AnswerLaws.{done-writable, refused-writable}
 use Rattle.script.proofs.WritableLaws.{opening-refusal-small}
-use Rattle.script.proofs.RunLaws.{run-stops, run-goes-on}
+use Rattle.script.proofs.RunLaws.{run-stops, run-continues}
 use Rattle.lines.specs.Text.{maxLines}
 
 -- what the book group is answered fits its line
@@ -42,7 +42,7 @@ group-writable script = go (bookReadable first left) (legal (openingOfRows first
     first = nextRow script .row
 
     left : List Row
-    left = rowsOf (drop (nextRow script .used) script)
+    left = rowsOf (drop (nextRow script .consumed) script)
 
     go : (t u : Bool) (n : ℕ) → n < 100 → Writable (answerIn (cond t (cond u Done (Refused n)) (Refused 1)))
     go true true n l = done-writable
@@ -63,7 +63,7 @@ module _ (script out : List ℕ) (some : 1 ≤ length script) (few : length (row
   first-fits : Writable (answerIn (x .answer))
   first-fits = subst (λ y. Writable (answerIn (y .answer))) (sym is) (group-writable script)
 
-  -- what writing it asks for
+  -- what writing it needs
   pub first-writable : (0 + length text ≤ length out) × TwoDigits (answerIn (x .answer))
   first-writable = let room = first-room in let short = first-fits .short in (omega arith, first-fits .twoDigits)
 
@@ -72,7 +72,7 @@ module _ (script out : List ℕ) (some : 1 ≤ length script) (few : length (row
   unfolding callRows
   rows-left =
       let head = nextRow script .row in
-      let rows = rowsOf (drop (nextRow script .used) script) in
+      let rows = rowsOf (drop (nextRow script .consumed) script) in
       let place = ap (λ y. length (rowsOf (drop (y .consumed) script))) is in
       let after = ap length (group-rows script) in
       let shorter = drop-shorter (field 0 head + field 2 head + field 3 head) rows in
@@ -86,8 +86,8 @@ module _ (script out : List ℕ) (some : 1 ≤ length script) (few : length (row
         let all = run-stops script some (sym (ap (λ y. y .«is_open») is) ∙ e) ∙ ap (λ y. textOf (answerIn (y .answer))) (sym is) in
         (place ∙ zero-add (length text) ∙ ap length (sym all), bytes ∙ ap (writtenAt out 0) (sym all))
 
-    pub left-reached : x .«is_open» ≡ true → Reachable (bookOf o emptyLedger)
-    left-reached e = subst (λ z. Reachable (bookOf z emptyLedger)) (sym opening) (group-reached script o₀ (sym (ap (λ y. y .«is_open») is) ∙ e))
+    pub left-reachable : x .«is_open» ≡ true → Reachable (bookOf o emptyLedger)
+    left-reachable e = subst (λ z. Reachable (bookOf z emptyLedger)) (sym opening) (book-group-reachable script o₀ (sym (ap (λ y. y .«is_open») is) ∙ e))
 
     pub left-within : x .consumed ≤ length script
     left-within = le-trans (le-of-eq (ap (λ y. y .consumed) is)) (group-within script)
@@ -109,7 +109,7 @@ module _ (script out : List ℕ) (some : 1 ≤ length script) (few : length (row
 
     pub gone-on : x .«is_open» ≡ true → (w₂ : ℕ) (out₂ : List ℕ) → w₂ ≡ w + length later → out₂ ≡ writtenAt out₁ w later → w₂ ≤ length out₁ → (w₂ ≡ length (answersText script)) × (out₂ ≡ writtenAt out 0 (answersText script))
     gone-on e w₂ out₂ n b within =
-        let all = run-goes-on script some o₀ (sym (ap (λ y. y .«is_open») is) ∙ e) ∙ (λ i. textOf (answerIn (sym is i .answer)) ++ textFrom (bookOf (sym opening i) emptyLedger) (drop (sym is i .consumed) script)) in
+        let all = run-continues script some o₀ (sym (ap (λ y. y .«is_open») is) ∙ e) ∙ (λ i. textOf (answerIn (sym is i .answer)) ++ textFrom (bookOf (sym opening i) emptyLedger) (drop (sym is i .consumed) script)) in
         let sum = length-append text later in
         let same = same-length in
         (n ∙ omega arith ∙ ap length (sym all), b ∙ (λ i. writtenAt (bytes i) (place i) later) ∙ written-again out 0 text later (omega arith) ∙ ap (writtenAt out 0) (sym all))

@@ -16,17 +16,17 @@ use Rattle.ledger.specs.Call.{Call, load, carry, prior, verify, migrate, openTi
 use Rattle.ledger.specs.Numbers.{Cause, cause, firstMet}
 use Rattle.ledger.specs.Causes.{loadCauses, carryCauses, priorCauses, verifyCauses, migrateCauses, openCauses, nominateCauses, awardCauses, closeCauses, callCauses, refusal, limitCauses, heldCauses, netCauses, queryCauses, queryRefusal}
 use Rattle.ledger.specs.Limits.{limitSums, tierLimit}
-use Rattle.ledger.specs.Season.{Ask, call, query, done, value, refused, accepted, answer, after, held, net, figure}
-use Rattle.ledger.proofs.Bounds.{mostTogether, figures-fit, one-fits}
+use Rattle.ledger.specs.Season.{Request, call, query, done, value, refused, accepted, answer, after, held, net, queryValue}
+use Rattle.ledger.proofs.Bounds.{maxTogether, figures-fit, one-fits}
 use Rattle.ledger.proofs.Conserved.{loadSum}
 use Rattle.ledger.proofs.SumBounds.{net-fits}
 use Rattle.ledger.proofs.Unmet.{unmet, open-number}
 use Rattle.ledger.proofs.QueryFacts.{limit-holder, held-names, net-names}
 use Rattle.book.specs.declared.book.Book.{Book}
 use Rattle.records.specs.Answers.{answerIn}
-use Rattle.book.specs.Handed.{handed, told}
+use Rattle.book.specs.Outcomes.{outcomeOf, queryAnswerIn}
 use Rattle.book.specs.Reachable.{Reachable}
-use Rattle.book.proofs.ReachableSteps.{reached-book}
+use Rattle.book.proofs.ReachableSteps.{reachable-book}
 use Rattle.book.proofs.SeasonAnswers.{call-answered, query-answered}
 use Rattle.script.specs.Writing.{answerValueBound, Writable}
 use Rattle.script.proofs.AnswerLaws.{done-writable, value-writable, refused-writable}
@@ -83,27 +83,27 @@ opening-refusal-small o = go (legal o)
 
 module _ (o : Opening) (ok : legal o ≡ true) (cs : List Call) where
   -- a limit is at most the load of one holder
-  limit-small : (h s : ℕ) → queryRefusal o (after o cs) (limitOf h s) ≡ 0 → tierLimit o (after o cs) (after o cs .tiers .openNow) h (base o s) ≤ mostTogether
+  limit-small : (h s : ℕ) → queryRefusal o (after o cs) (limitOf h s) ≡ 0 → tierLimit o (after o cs) (after o cs .tiers .currentTier) h (base o s) ≤ maxTogether
   unfolding tierLimit limitSums queryRefusal queryCauses limitCauses loadSum
   limit-small h s e =
       let L = after o cs in
-      let tier = L .tiers .openNow in
+      let tier = L .tiers .currentTier in
       le-trans (limit-le-load tier (limitSums o L tier h (base o s)) (open-number L (unmet 3 _ _ (unmet 1 _ _ e .1) .0)))
-      (one-fits (λ i. L .loads .kw i (base o s) (termOf tier)) (o .holders) mostTogether h (limit-holder o L h s e) (figures-fit o ok cs .loadsFit (base o s) (termOf tier)))
+      (one-fits (λ i. L .loads .kw i (base o s) (termOf tier)) (o .holders) maxTogether h (limit-holder o L h s e) (figures-fit o ok cs .loadsFit (base o s) (termOf tier)))
 
   -- a holding is one of those that a net sums
-  held-small : (h p m : ℕ) → (h < o .holders) × (p < o .paths) → held (after o cs) h p m ≤ 11 * mostTogether
+  held-small : (h p m : ℕ) → (h < o .holders) × (p < o .paths) → held (after o cs) h p m ≤ 11 * maxTogether
   unfolding net
-  held-small h p m known = one-fits (λ i. held (after o cs) i p m) (o .holders) (11 * mostTogether) h (known .0) (net-fits o ok cs p m (known .1))
+  held-small h p m known = one-fits (λ i. held (after o cs) i p m) (o .holders) (11 * maxTogether) h (known .0) (net-fits o ok cs p m (known .1))
 
-  figure-small : (q : Query) → queryRefusal o (after o cs) q ≡ 0 → figure o (after o cs) q < answerValueBound
-  unfolding figure
+  figure-small : (q : Query) → queryRefusal o (after o cs) q ≡ 0 → queryValue o (after o cs) q < answerValueBound
+  unfolding queryValue
   figure-small (limitOf h s) e = let most = limit-small h s e in omega arith
   figure-small (heldOn h p m) e = let most = held-small h p m (held-names o (after o cs) h p m e) in omega arith
   figure-small (netOn p m) e = let most = net-fits o ok cs p m (net-names o (after o cs) p m e) in omega arith
 
   -- whatever is asked of a ledger that calls lead to
-  pub answer-writable : (a : Ask) → Writable (answer o (after o cs) a)
+  pub answer-writable : (a : Request) → Writable (answer o (after o cs) a)
   unfolding answer
   answer-writable (call c) = go (accepted o (after o cs) c)
     where
@@ -112,18 +112,18 @@ module _ (o : Opening) (ok : legal o ≡ true) (cs : List Call) where
       go false = refused-writable (refusal o (after o cs) c) (refusal-small o (after o cs) c)
   answer-writable (query q) = go (eqb (queryRefusal o (after o cs) q) 0) refl
     where
-      go : (t : Bool) → eqb (queryRefusal o (after o cs) q) 0 ≡ t → Writable (cond t (value (figure o (after o cs) q)) (refused (queryRefusal o (after o cs) q)))
-      go true e = value-writable (figure o (after o cs) q) (figure-small q (eqb-true (queryRefusal o (after o cs) q) 0 e))
+      go : (t : Bool) → eqb (queryRefusal o (after o cs) q) 0 ≡ t → Writable (cond t (value (queryValue o (after o cs) q)) (refused (queryRefusal o (after o cs) q)))
+      go true e = value-writable (queryValue o (after o cs) q) (figure-small q (eqb-true (queryRefusal o (after o cs) q) 0 e))
       go false e = refused-writable (queryRefusal o (after o cs) q) (query-refusal-small o (after o cs) q)
 
--- and of a book that opening or a call handed back
+-- and of a book that opening or a call returned
 module _ (b : Book) (r : Reachable b) where
-  pub handed-writable : (c : Call) → Writable (answerIn (handed b c .answer))
-  handed-writable c =
-      subst Writable (sym (ap (λ x. answerIn (handed x c .answer)) (reached-book b r) ∙ call-answered (r .opening) (r .isLegal) (r .calls) c))
+  pub outcome-writable : (c : Call) → Writable (answerIn (outcomeOf b c .answer))
+  outcome-writable c =
+      subst Writable (sym (ap (λ x. answerIn (outcomeOf x c .answer)) (reachable-book b r) ∙ call-answered (r .opening) (r .isLegal) (r .calls) c))
       (answer-writable (r .opening) (r .isLegal) (r .calls) (call c))
 
-  pub told-writable : (q : Query) → Writable (answerIn (told b q))
-  told-writable q =
-      subst Writable (sym (ap (λ x. answerIn (told x q)) (reached-book b r) ∙ query-answered (r .opening) (r .isLegal) (r .calls) q))
+  pub query-writable : (q : Query) → Writable (answerIn (queryAnswerIn b q))
+  query-writable q =
+      subst Writable (sym (ap (λ x. answerIn (queryAnswerIn x q)) (reachable-book b r) ∙ query-answered (r .opening) (r .isLegal) (r .calls) q))
       (answer-writable (r .opening) (r .isLegal) (r .calls) (query q))

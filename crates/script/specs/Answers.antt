@@ -5,16 +5,16 @@ use mathlib.Core.List.{List, [], _∷_, _++_}
 use Rattle.ledger.specs.Numbers.{unreadable}
 use Rattle.ledger.specs.Opening.{Opening, legal, openingRefusal}
 use Rattle.ledger.specs.Ledger.{Ledger, emptyLedger}
-use Rattle.ledger.specs.Season.{Answer, done, values, refused, answer, stepAsk}
+use Rattle.ledger.specs.Season.{Answer, done, values, refused, answer, stepRequest}
 use Rattle.lines.specs.declared.rows.Row.{Row}
 use Rattle.lines.specs.Text.{bytesOf, lineFeed, comma, digit, decimal}
-use Rattle.groups.specs.Groups.{Asked, nothing, asked, groupsOf, bookReadable, openingOfRows, callRows}
+use Rattle.groups.specs.Groups.{Group, unreadableGroup, request, groupsOf, bookReadable, openingOfRows, callRows}
 
 -- a group with an unreadable or absent line gets one 1 and is passed over
-unfoldable pub answersTo : Opening → Ledger → List Asked → List Answer
+unfoldable pub answersTo : Opening → Ledger → List Group → List Answer
 answersTo o L [] = []
-answersTo o L (nothing ∷ groups) = refused unreadable ∷ answersTo o L groups
-answersTo o L (asked a ∷ groups) = answer o L a ∷ answersTo o (stepAsk o L a) groups
+answersTo o L (unreadableGroup ∷ groups) = refused unreadable ∷ answersTo o L groups
+answersTo o L (request a ∷ groups) = answer o L a ∷ answersTo o (stepRequest o L a) groups
 
 -- after a refused book group the run stops
 unfoldable pub answersAfter : Opening → List Row → List Answer

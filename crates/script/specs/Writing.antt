@@ -1,4 +1,4 @@
--- What an answer's line asks for (01, Script and host).
+-- What an answer's line needs (01, Script and host).
 use Prim.Native.Nat.{ℕ, _≤_, _<_}
 use lib.ListN.{length}
 use Rattle.ledger.specs.Season.{Answer, values, refused}
@@ -14,7 +14,7 @@ unfoldable pub TwoDigits : Answer → Type 0
 TwoDigits (values vs) = Unit {0}
 TwoDigits (refused number) = number < 100
 
--- an answer that can be written in the bytes that a run asks for each line
+-- an answer that can be written in the bytes that a run needs for each line
 pub record Writable (a : Answer) : Type 0 where
   pub twoDigits : TwoDigits a
   pub short : length (textOf a) ≤ bytesPerLine

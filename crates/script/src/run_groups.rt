@@ -11,7 +11,7 @@ ghost use Rattle.book.specs.Reading.{bookOf};
 ghost use Rattle.book.specs.Reachable.{Reachable};
 ghost use Rattle.lines.specs.Rows.{rowsOf};
 ghost use Rattle.lines.specs.Writing.{writtenAt};
-ghost use Rattle.script.specs.Played.{textFrom};
+ghost use Rattle.script.specs.GroupTexts.{textFrom};
 ghost use Rattle.lines.specs.Text.{maxLines, maxBytes, bytesPerLine};
 
 // Puts what is left of a script to the book that was opened and writes the answers from a place on; says where they end.

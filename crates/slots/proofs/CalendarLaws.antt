@@ -1,4 +1,4 @@
--- The calendar's tests, as code makes them of the numbers behind the figures. Assumes nothing.
+-- The calendar's tests, as code makes them of the numbers after the figures. Assumes nothing.
 use Prim.Native.Nat.{ℕ}
 use mathlib.Core.Path.{_≡_, ap, _∙_}
 use mathlib.Core.Bool.{Bool, not, _&&_}

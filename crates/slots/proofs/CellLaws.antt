@@ -11,9 +11,9 @@ use lib.ListN.{length, getD, set, length-set, length-append, List·getD-append}
 use lib.Seq.{ext-getD, getD-set-same, getD-set-other, getD-append-add}
 use lib.Dec.{ltb}
 use borrow.Author.Tests.{ltb-true, ltb-false, lt-ltb, le-ltb, eq-eqb}
-use Rattle.tariff.specs.Sum.{listTo}
+use Rattle.tariff.specs.Sum.{tabulate}
 use Rattle.tariff.proofs.Tests.{and-join, and-right-false, decided, both-ways}
-use Rattle.tariff.proofs.Lists.{length-list-to, at-list-to}
+use Rattle.tariff.proofs.Lists.{length-tabulate, at-tabulate}
 use Rattle.ledger.specs.Effects.{same3}
 use Rattle.ledger.proofs.TiersSound.{same-place}
 use Rattle.slots.specs.Cells.{rows, cellOf, HasCell, readAt, lookAt, storedAt, addedAt, arrayOf, Shows}
@@ -95,22 +95,22 @@ module _ {A : Type 0} where
       record {
         sized = length-append cells rest ∙ ap (λ n. n + length rest) long;
         each = λ h p slot c. at h p slot c;
-        behind = λ k. ap (λ n. getD (cells ++ rest) (n + k) none) (sym long) ∙ getD-append-add cells rest k none;
+        tail = λ k. ap (λ n. getD (cells ++ rest) (n + k) none) (sym long) ∙ getD-append-add cells rest k none;
       }
     where
       from : ℕ → A
       from k = f (k / width / 16) (k / width % 16) (k % width)
 
       cells : List A
-      cells = listTo (rows * width) from
+      cells = tabulate (rows * width) from
 
       long : length cells ≡ rows * width
-      long = length-list-to (rows * width) from
+      long = length-tabulate (rows * width) from
 
       at : (h p slot : ℕ) → HasCell width h p slot → getD (cells ++ rest) (cellOf width h p slot) none ≡ f h p slot
       at h p slot c =
           List·getD-append cells rest none (cellOf width h p slot) (let l = cell-below width h p slot c in let e = long in omega arith)
-          ∙ at-list-to (rows * width) from none (cellOf width h p slot) (cell-below width h p slot c)
+          ∙ at-tabulate (rows * width) from none (cellOf width h p slot) (cell-below width h p slot c)
           ∙ (λ i. f (row i) (column i) (slot-at width h p slot c i))
         where
           above : cellOf width h p slot / width ≡ h * 16 + p
@@ -138,7 +138,7 @@ module _ {A : Type 0} where
       go k (inr t) =
           let past = ltb-false k (rows * width) t in
           let e : k ≡ rows * width + (k - rows * width) = omega arith in
-          ap (λ i. getD xs i none) e ∙ a .behind (k - rows * width) ∙ sym (b .behind (k - rows * width)) ∙ ap (λ i. getD ys i none) (sym e)
+          ap (λ i. getD xs i none) e ∙ a .tail (k - rows * width) ∙ sym (b .tail (k - rows * width)) ∙ ap (λ i. getD ys i none) (sym e)
 
   -- an array that shows a function is the function's array
   pub shown-is : (width : ℕ) (none : A) (f : ℕ → ℕ → ℕ → A) (xs rest : List A) → 0 < width → Shows width none xs f rest → xs ≡ arrayOf width f rest
@@ -146,7 +146,7 @@ module _ {A : Type 0} where
 
   -- it shows every function that agrees on the cells
   pub shows-agree : (width : ℕ) (none : A) (f g : ℕ → ℕ → ℕ → A) (xs rest : List A) → Shows width none xs f rest → ((h p slot : ℕ) → HasCell width h p slot → f h p slot ≡ g h p slot) → Shows width none xs g rest
-  shows-agree width none f g xs rest a same = record { sized = a .sized; each = λ h p slot c. a .each h p slot c ∙ same h p slot c; behind = a .behind }
+  shows-agree width none f g xs rest a same = record { sized = a .sized; each = λ h p slot c. a .each h p slot c ∙ same h p slot c; tail = a .tail }
 
   -- one stored cell
   pub shows-stored : (width : ℕ) (none v : A) (f : ℕ → ℕ → ℕ → A) (xs rest : List A) (a b c : ℕ) → Shows width none xs f rest → HasCell width a b c → Shows width none (storedAt width xs a b c v) (λ h p slot. cond (same3 a b c h p slot) v (f h p slot)) rest
@@ -155,7 +155,7 @@ module _ {A : Type 0} where
       record {
         sized = long ∙ s .sized;
         each = λ h p slot here. read-stored width none v xs a b c h p slot (let e = s .sized in omega arith) there here ∙ ap (cond (same3 a b c h p slot) v) (s .each h p slot here);
-        behind = λ k. past k ∙ s .behind k;
+        tail = λ k. past k ∙ s .tail k;
       }
     where
       long : length (storedAt width xs a b c v) ≡ length xs
@@ -175,9 +175,9 @@ module _ {A : Type 0} (width : ℕ) (none : A) (cells : List A) (h p slot : ℕ)
   unfolding lookAt
   look-here c = sym (ap (λ t. cond t (readAt width none cells h p slot) none) (and-join (and-join (lt-ltb h 8 (c .holder)) (lt-ltb p 16 (c .place))) (lt-ltb slot width (c .inRow))))
 
-  pub look-no-holder : 8 ≤ h → none ≡ lookAt width none cells h p slot
+  pub look-unknown-holder : 8 ≤ h → none ≡ lookAt width none cells h p slot
   unfolding lookAt
-  look-no-holder l = sym (ap (λ t. cond (t && ltb p 16 && ltb slot width) (readAt width none cells h p slot) none) (le-ltb h 8 l))
+  look-unknown-holder l = sym (ap (λ t. cond (t && ltb p 16 && ltb slot width) (readAt width none cells h p slot) none) (le-ltb h 8 l))
 
   pub look-no-place : 16 ≤ p → none ≡ lookAt width none cells h p slot
   unfolding lookAt

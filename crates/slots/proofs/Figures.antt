@@ -10,11 +10,11 @@ use lib.ListN.{take, drop}
 use lib.Dec.{ltb, eqb}
 use borrow.Author.Tests.{eq-eqb, ltb-true}
 use Rattle.tariff.specs.declared.evidence.Entry.{Entry}
-use Rattle.tariff.specs.Sum.{countIf, sumTo}
+use Rattle.tariff.specs.Sum.{whenTrue, sumTo}
 use Rattle.tariff.specs.Sizes.{terms, ownership, contract}
-use Rattle.tariff.specs.Ranges.{mostKw}
+use Rattle.tariff.specs.Ranges.{maxKw}
 use Rattle.tariff.specs.Evidence.{entryKw}
-use Rattle.tariff.proofs.Sums.{count-true, term-le-sum}
+use Rattle.tariff.proofs.Sums.{when-is-true, term-le-sum}
 use Rattle.tariff.proofs.Tests.{decided}
 use Rattle.tariff.proofs.EvidenceBounds.{entry-le}
 use Rattle.ledger.specs.Opening.{Opening, pathBase, endsAt}
@@ -22,7 +22,7 @@ use Rattle.ledger.specs.Ledger.{Ledger}
 use Rattle.ledger.specs.Limits.{sumAtBase, nominatedAt}
 use Rattle.ledger.proofs.Conserved.{carriedSum, awardedSum, loadSum}
 use Rattle.ledger.proofs.TierBounds.{nominatedSum}
-use Rattle.ledger.proofs.Bounds.{mostTogether, one-fits}
+use Rattle.ledger.proofs.Bounds.{maxTogether, one-fits}
 use Rattle.records.specs.Opening.{openingIn}
 use Rattle.slots.specs.Cells.{readAt}
 use Rattle.slots.specs.Groups.{Group, group, slotsOf, inSlot, figureFrom}
@@ -49,15 +49,15 @@ within-slot most (group count low figure ∷ later) h p slot w = go (decided (lt
     go (inr t) ih = le-trans (le-of-eq (ap (λ u. cond u (figure h p (slot + low)) (inSlot 0 later h p (slot - count))) t)) ih
 
 -- a figure within the bound has room for the kW of one call more
-pub room-for-more : (x kw : ℕ) → x ≤ maxFigure → kw ≤ mostKw → x + kw < 2 ^ 64
+pub room-for-more : (x kw : ℕ) → x ≤ maxFigure → kw ≤ maxKw → x + kw < 2 ^ 64
 room-for-more x kw a b = omega arith
 
 -- a nomination on a path is among those at its base
 nominated-at-base : (o : Opening) (L : Ledger) (h p t : ℕ) → p < o .paths → L .tiers .nominated h p t ≤ nominatedAt o L h (pathBase o p) t
 unfolding nominatedAt sumAtBase endsAt
 nominated-at-base o L h p t l =
-    let here = count-true (L .tiers .nominated h p t) (eq-eqb (pathBase o p) (pathBase o p) refl) in
-    let part = term-le-sum (λ q. countIf (eqb (pathBase o q) (pathBase o p)) (L .tiers .nominated h q t)) (o .paths) p l in
+    let here = when-is-true (L .tiers .nominated h p t) (eq-eqb (pathBase o p) (pathBase o p) refl) in
+    let part = term-le-sum (λ q. whenTrue (eqb (pathBase o q) (pathBase o p)) (L .tiers .nominated h q t)) (o .paths) p l in
     omega arith
 
 -- a figure that the ledger in the arrays has for a number is the one in that number's slot
@@ -81,31 +81,31 @@ module _ (o f : List ℕ) (m : List Bool) (x : List Entry) (r : Reachable o f m 
   shown i from count low figure at fits same h p j a b l =
       slot-shown 0 figureSlots from count low (take i (figureGroups L)) (drop (suc i) (figureGroups L)) at fits figure f (calendarOf L) h p j a b l (rw same (figures-shown o f m x r))
 
-  nominated-fits : (h p : ℕ) → h < O .holders → p < O .paths → L .tiers .nominated h p (L .tiers .openNow) ≤ mostTogether
+  nominated-fits : (h p : ℕ) → h < O .holders → p < O .paths → L .tiers .nominated h p (L .tiers .currentTier) ≤ maxTogether
   unfolding nominatedSum
   nominated-fits h p l k =
-      let t = L .tiers .openNow in
-      le-trans (nominated-at-base O L h p t k) (one-fits (λ y. nominatedAt O L y (pathBase O p) t) (O .holders) mostTogether h l (fits o f m x r .nominatedFit (pathBase O p) t))
+      let t = L .tiers .currentTier in
+      le-trans (nominated-at-base O L h p t k) (one-fits (λ y. nominatedAt O L y (pathBase O p) t) (O .holders) maxTogether h l (fits o f m x r .nominatedFit (pathBase O p) t))
 
   -- what evidence gives for a term stands at the source, ownership and contract apart
-  pub ownership-read : (h s term : ℕ) → h < 8 → s < 16 → term < terms → readAt figureSlots 0 f h s (ownershipSlot + term) ≡ entryKw term (L .papers .entry h s ownership)
+  pub ownership-read : (h s term : ℕ) → h < 8 → s < 16 → term < terms → readAt figureSlots 0 f h s (ownershipSlot + term) ≡ entryKw term (L .evidence .entry h s ownership)
   unfolding figureGroups slotsOf
-  ownership-read h s term a b l = shown 7 ownershipSlot terms 0 (λ h s n. entryKw n (L .papers .entry h s ownership)) refl (omega arith) refl h s term a b l ∙ ap (λ n. entryKw n (L .papers .entry h s ownership)) (add-zero term)
+  ownership-read h s term a b l = shown 7 ownershipSlot terms 0 (λ h s n. entryKw n (L .evidence .entry h s ownership)) refl (omega arith) refl h s term a b l ∙ ap (λ n. entryKw n (L .evidence .entry h s ownership)) (add-zero term)
 
-  pub contract-read : (h s term : ℕ) → h < 8 → s < 16 → term < terms → readAt figureSlots 0 f h s (contractSlot + term) ≡ entryKw term (L .papers .entry h s contract)
+  pub contract-read : (h s term : ℕ) → h < 8 → s < 16 → term < terms → readAt figureSlots 0 f h s (contractSlot + term) ≡ entryKw term (L .evidence .entry h s contract)
   unfolding figureGroups slotsOf
-  contract-read h s term a b l = shown 8 contractSlot terms 0 (λ h s n. entryKw n (L .papers .entry h s contract)) refl (omega arith) refl h s term a b l ∙ ap (λ n. entryKw n (L .papers .entry h s contract)) (add-zero term)
+  contract-read h s term a b l = shown 8 contractSlot terms 0 (λ h s n. entryKw n (L .evidence .entry h s contract)) refl (omega arith) refl h s term a b l ∙ ap (λ n. entryKw n (L .evidence .entry h s contract)) (add-zero term)
 
-  pub evidence-fits : (h s kind term : ℕ) → entryKw term (L .papers .entry h s kind) ≤ mostKw
-  evidence-fits h s kind term = entry-le mostKw term (L .papers .entry h s kind) (fits o f m x r .evidenceFits h s kind)
+  pub evidence-fits : (h s kind term : ℕ) → entryKw term (L .evidence .entry h s kind) ≤ maxKw
+  evidence-fits h s kind term = entry-le maxKw term (L .evidence .entry h s kind) (fits o f m x r .evidenceFits h s kind)
 
   -- the figures of one holder, within what all holders have together
-  pub load-fits : (h s t : ℕ) → h < O .holders → L .loads .kw h s t ≤ mostTogether
+  pub load-fits : (h s t : ℕ) → h < O .holders → L .loads .kw h s t ≤ maxTogether
   unfolding loadSum
-  load-fits h s t l = one-fits (λ i. L .loads .kw i s t) (O .holders) mostTogether h l (fits o f m x r .loadsFit s t)
+  load-fits h s t l = one-fits (λ i. L .loads .kw i s t) (O .holders) maxTogether h l (fits o f m x r .loadsFit s t)
 
-  one-of-all : (h : ℕ) → h < O .holders → (v : ℕ → ℕ) → sumTo (O .holders) v ≤ mostTogether → v h ≤ maxFigure
-  one-of-all h l v within = le-trans (one-fits v (O .holders) mostTogether h l within) (omega arith)
+  one-of-all : (h : ℕ) → h < O .holders → (v : ℕ → ℕ) → sumTo (O .holders) v ≤ maxTogether → v h ≤ maxFigure
+  one-of-all h l v within = le-trans (one-fits v (O .holders) maxTogether h l within) (omega arith)
 
   each-within : (h p : ℕ) → h < O .holders → p < O .paths → EachWithin maxFigure (figureGroups L) h p
   unfolding figureGroups carriedSum awardedSum
@@ -116,7 +116,7 @@ module _ (o f : List ℕ) (m : List Bool) (x : List Entry) (r : Reachable o f m 
         (
           λ j i. one (λ y. L .priors .allocated y p) (all .allocatedFit p),
           (
-            λ j i. one (λ y. L .priors .renewable y p) (all .renewableFit p),
+            λ j i. one (λ y. L .priors .remaining y p) (all .remainingFit p),
             (
               λ j i. one (λ y. L .rights .carried y p (j + 1)) (all .carriedFit p (j + 1)),
               (

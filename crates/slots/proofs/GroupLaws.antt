@@ -33,7 +33,7 @@ same-test a b c d to back = go (decided (eqb a b))
     go (inr e) = e ∙ sym (ne-eqb c d (λ q. eqb-false a b e (back q)))
 
 module _ {A : Type 0} (none : A) where
-  -- the slots of a group that stands behind others
+  -- the slots of a group that stands after others
   pub group-slot : (before after : List (Group A)) (count low : ℕ) (figure : ℕ → ℕ → ℕ → A) (h p j : ℕ) → j < count → inSlot none (before ++ (group count low figure ∷ after)) h p (slotsOf before + j) ≡ figure h p (j + low)
   unfolding inSlot slotsOf
   group-slot [] after count low figure h p j l =

@@ -8,7 +8,7 @@ use lib.Dec.{leb, eqb}
 use borrow.Author.Tests.{leb-true, eqb-true}
 use Rattle.tariff.specs.Terms.{isMonth, hasMonth}
 use Rattle.tariff.specs.Sizes.{lastMonth}
-use Rattle.tariff.proofs.Sums.{count-false}
+use Rattle.tariff.proofs.Sums.{when-is-false}
 use Rattle.tariff.proofs.Tests.{and-both, decided, both-ways}
 use Rattle.ledger.specs.Effects.{same2, same3, plusAt2, plusAt3, plusInTerm}
 use Rattle.ledger.proofs.TiersSound.{same-place}
@@ -41,25 +41,25 @@ not-there2 a b h p there none = go (decided (eqb h a && eqb p b))
 pub added-inside : (width low a b c kw : ℕ) (f : ℕ → ℕ → ℕ → ℕ) → inGroup width low a b c ≡ true → Inside width low 0 f → Inside width low 0 (plusAt3 a b c kw f)
 unfolding plusAt3
 added-inside width low a b c kw f there inside h p m none =
-    let old = inside h p m none in let more = count-false kw (not-there width low a b c h p m there none) in omega arith
+    let old = inside h p m none in let more = when-is-false kw (not-there width low a b c h p m there none) in omega arith
 
 pub added-inside2 : (a b kw : ℕ) (f : ℕ → ℕ → ℕ) → inGroup 1 0 a b 0 ≡ true → Inside2 0 f → Inside2 0 (plusAt2 a b kw f)
 unfolding plusAt2
 added-inside2 a b kw f there inside h p none =
-    let old = inside h p none in let more = count-false kw (not-there2 a b h p there none) in omega arith
+    let old = inside h p none in let more = when-is-false kw (not-there2 a b h p there none) in omega arith
 
-pub marked-inside : (width low a b c : ℕ) (f : ℕ → ℕ → ℕ → Bool) → inGroup width low a b c ≡ true → Inside width low false f → Inside width low false (λ i j k. same3 a b c i j k || f i j k)
-marked-inside width low a b c f there inside h p m none = (λ i. not-there width low a b c h p m there none i || inside h p m none i)
+pub posted-inside : (width low a b c : ℕ) (f : ℕ → ℕ → ℕ → Bool) → inGroup width low a b c ≡ true → Inside width low false f → Inside width low false (λ i j k. same3 a b c i j k || f i j k)
+posted-inside width low a b c f there inside h p m none = (λ i. not-there width low a b c h p m there none i || inside h p m none i)
 
-pub marked-inside2 : (a b : ℕ) (f : ℕ → ℕ → Bool) → inGroup 1 0 a b 0 ≡ true → Inside2 false f → Inside2 false (λ i j. same2 a b i j || f i j)
-marked-inside2 a b f there inside h p none = (λ i. not-there2 a b h p there none i || inside h p none i)
+pub posted-inside2 : (a b : ℕ) (f : ℕ → ℕ → Bool) → inGroup 1 0 a b 0 ≡ true → Inside2 false f → Inside2 false (λ i j. same2 a b i j || f i j)
+posted-inside2 a b f there inside h p none = (λ i. not-there2 a b h p there none i || inside h p none i)
 
 -- what is added in the months of a term
 pub term-inside : (term a b kw : ℕ) (f : ℕ → ℕ → ℕ → ℕ) → a < 8 → b < 16 → Inside lastMonth 1 0 f → Inside lastMonth 1 0 (plusInTerm term a b kw f)
 unfolding plusInTerm same2 hasMonth isMonth
 term-inside term a b kw f la lb inside h p m none =
     let old = inside h p m none in
-    let more = count-false kw (outside (decided (eqb h a && eqb p b && (leb 1 m && leb m 3 && (eqb term 0 || eqb term m))))) in
+    let more = when-is-false kw (outside (decided (eqb h a && eqb p b && (leb 1 m && leb m 3 && (eqb term 0 || eqb term m))))) in
     omega arith
   where
     outside : (eqb h a && eqb p b && (leb 1 m && leb m 3 && (eqb term 0 || eqb term m)) ≡ true) ⊎ (eqb h a && eqb p b && (leb 1 m && leb m 3 && (eqb term 0 || eqb term m)) ≡ false) → (eqb h a && eqb p b && (leb 1 m && leb m 3 && (eqb term 0 || eqb term m))) ≡ false

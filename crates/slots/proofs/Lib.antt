@@ -5,7 +5,7 @@ pub mod StoreLaws
 pub mod RoomLaws
 pub mod MonthLaws
 pub mod Inside
-pub mod MovesInside
+pub mod MigrationInside
 pub mod Confined
 pub mod ReadBack
 pub mod Reachable

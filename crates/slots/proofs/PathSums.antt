@@ -6,8 +6,8 @@ use mathlib.Core.List.{List}
 use native.Mathlib.Nat.{le-trans}
 use native.Mathlib.Omega.{arith}
 use lib.Dec.{eqb}
-use Rattle.tariff.specs.Sum.{countIf, sumTo}
-use Rattle.tariff.proofs.Sums.{count-le, sum-part-le}
+use Rattle.tariff.specs.Sum.{whenTrue, sumTo}
+use Rattle.tariff.proofs.Sums.{when-le, sum-part-le}
 use Rattle.ledger.specs.Opening.{Opening, pathBase, pathSource, endsAt, comesFrom}
 use Rattle.ledger.specs.Limits.{sumAtBase}
 use Rattle.ledger.specs.Verification.{sumFromSource}
@@ -19,29 +19,29 @@ use Rattle.slots.specs.Sums.{onPath, maxFigure, Summable}
 
 -- a figure on a path, where the path's sink has the base or the path comes from the source
 unfoldable pub atBase : Opening → ℕ → (ℕ → ℕ) → ℕ → ℕ
-atBase o base figure p = countIf (endsAt o base p) (figure p)
+atBase o base figure p = whenTrue (endsAt o base p) (figure p)
 
 unfoldable pub fromSource : Opening → ℕ → (ℕ → ℕ) → ℕ → ℕ
-fromSource o source figure p = countIf (comesFrom o source p) (figure p)
+fromSource o source figure p = whenTrue (comesFrom o source p) (figure p)
 
 -- the next path's figure, as code has it
-pub next-at-base : (o : Opening) (base : ℕ) (figure : ℕ → ℕ) (p there v w : ℕ) → w ≡ countIf (eqb there base) v → there ≡ pathBase o p → v ≡ figure p → w ≡ atBase o base figure p
+pub next-at-base : (o : Opening) (base : ℕ) (figure : ℕ → ℕ) (p there v w : ℕ) → w ≡ whenTrue (eqb there base) v → there ≡ pathBase o p → v ≡ figure p → w ≡ atBase o base figure p
 unfolding atBase endsAt
-next-at-base o base figure p there v w e t q = e ∙ (λ i. countIf (eqb (t i) base) (q i))
+next-at-base o base figure p there v w e t q = e ∙ (λ i. whenTrue (eqb (t i) base) (q i))
 
-pub next-from-source : (o : Opening) (source : ℕ) (figure : ℕ → ℕ) (p there v w : ℕ) → w ≡ countIf (eqb there source) v → there ≡ pathSource o p → v ≡ figure p → w ≡ fromSource o source figure p
+pub next-from-source : (o : Opening) (source : ℕ) (figure : ℕ → ℕ) (p there v w : ℕ) → w ≡ whenTrue (eqb there source) v → there ≡ pathSource o p → v ≡ figure p → w ≡ fromSource o source figure p
 unfolding fromSource comesFrom
-next-from-source o source figure p there v w e t q = e ∙ (λ i. countIf (eqb (t i) source) (q i))
+next-from-source o source figure p there v w e t q = e ∙ (λ i. whenTrue (eqb (t i) source) (q i))
 
 module _ (test : ℕ → Bool) (f : ℕ → ℕ) (n most : ℕ) (few : n ≤ 16) (each : (p : ℕ) → p < n → f p ≤ most) where
-  pub counted-fits : sumTo n (λ p. countIf (test p) (f p)) ≤ 16 * most
-  counted-fits = paths-fit (λ p. countIf (test p) (f p)) n most few (λ p l. le-trans (count-le (test p) (f p)) (each p l))
+  pub counted-fits : sumTo n (λ p. whenTrue (test p) (f p)) ≤ 16 * most
+  counted-fits = paths-fit (λ p. whenTrue (test p) (f p)) n most few (λ p l. le-trans (when-le (test p) (f p)) (each p l))
 
   -- a sum so far, with the next path's figure
-  counted-room : (p sum v : ℕ) → p < n → sum ≡ sumTo p (λ p. countIf (test p) (f p)) → v ≡ countIf (test p) (f p) → sum + v ≤ 16 * most
+  counted-room : (p sum v : ℕ) → p < n → sum ≡ sumTo p (λ p. whenTrue (test p) (f p)) → v ≡ whenTrue (test p) (f p) → sum + v ≤ 16 * most
   counted-room p sum v l e x =
-      let part = sum-part-le (λ p. countIf (test p) (f p)) n p l in
-      let whole = counted-fits in
+      let part = sum-part-le (λ p. whenTrue (test p) (f p)) n p l in
+      let all-of-it = counted-fits in
       omega arith
 
 module _ (o f : List ℕ) (h slot place : ℕ) (s : Summable o f h slot) where
@@ -67,5 +67,5 @@ module _ (o f : List ℕ) (h slot place : ℕ) (s : Summable o f h slot) where
   path-cell p n e l = record { holder = s .holder; place = let a = s .few in omega arith; inRow = s .inRow }
 
   -- the base of a path
-  pub base-asked : (p n : ℕ) → n ≡ openingIn o .paths → p < n → KeepsBases o × (p < 16)
-  base-asked p n e l = (s .bases, let a = s .few in omega arith)
+  pub base-inputs : (p n : ℕ) → n ≡ openingIn o .paths → p < n → KeepsBases o × (p < 16)
+  base-inputs p n e l = (s .bases, let a = s .few in omega arith)

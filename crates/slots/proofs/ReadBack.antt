@@ -39,7 +39,7 @@ group-back {A} none width rest before after from count low figure at fits h p k 
     go (inr e) = ap (λ t. cond t (readAt width none (arrayOf width (inSlot none groups) rest) h p (from + (k - low))) none) e ∙ sym (inside e)
 
 -- in a tier that is not open the nominations are the awards
-pub settled-even : (T : Tiers) → TiersSound T → (h p t : ℕ) → (t ≡ T .openNow → ⊥) → T .awards h p t ≡ T .nominated h p t
+pub settled-even : (T : Tiers) → TiersSound T → (h p t : ℕ) → (t ≡ T .currentTier → ⊥) → T .awards h p t ≡ T .nominated h p t
 settled-even T s h p t ne = go (leb t (T .lastClosed)) refl
   where
     go : (b : Bool) → leb t (T .lastClosed) ≡ b → T .awards h p t ≡ T .nominated h p t
@@ -63,29 +63,29 @@ module _ (L : Ledger) (k : Confined L) where
       ap (λ g. figureFrom postedSlots false (arrayOf postedSlots (inSlot false g) []) from count low h p n) e
       ∙ group-back false postedSlots [] (take i (postedGroups L)) (drop (suc i) (postedGroups L)) from count low figure at fits h p n inside
 
-  -- the numbers behind the figures
+  -- the numbers after the figures
   pub closed-back : lastClosedIn (figuresOf L) ≡ L .tiers .lastClosed
   unfolding lastClosedIn figuresOf calendarOf
-  closed-back = array-shows figureSlots 0 (inSlot 0 (figureGroups L)) (calendarOf L) .behind 0
+  closed-back = array-shows figureSlots 0 (inSlot 0 (figureGroups L)) (calendarOf L) .tail 0
 
-  pub current-back : currentTierIn (figuresOf L) ≡ L .tiers .openNow
+  pub current-back : currentTierIn (figuresOf L) ≡ L .tiers .currentTier
   unfolding currentTierIn figuresOf calendarOf
-  current-back = array-shows figureSlots 0 (inSlot 0 (figureGroups L)) (calendarOf L) .behind 1
+  current-back = array-shows figureSlots 0 (inSlot 0 (figureGroups L)) (calendarOf L) .tail 1
 
   nominated-back : (h p t : ℕ) → cond (eqb t (currentTierIn (figuresOf L))) (figureIn (figuresOf L) nominatedSlot 1 0 h p 0) (figureIn (figuresOf L) awardsSlot tierSlots 0 h p t) ≡ L .tiers .nominated h p t
   unfolding figureGroups slotsOf
-  nominated-back h p t = ap (λ n. cond (eqb t n) (figureIn (figuresOf L) nominatedSlot 1 0 h p 0) (figureIn (figuresOf L) awardsSlot tierSlots 0 h p t)) current-back ∙ go (eqb t (L .tiers .openNow)) refl
+  nominated-back h p t = ap (λ n. cond (eqb t n) (figureIn (figuresOf L) nominatedSlot 1 0 h p 0) (figureIn (figuresOf L) awardsSlot tierSlots 0 h p t)) current-back ∙ go (eqb t (L .tiers .currentTier)) refl
     where
-      opened : inGroup 1 0 h p 0 ≡ false → L .tiers .nominated h p (L .tiers .openNow) ≡ 0
-      opened none = k .tiers .nominated h p (L .tiers .openNow) (outside (decided (inGroup tierSlots 0 h p (L .tiers .openNow))))
+      opened : inGroup 1 0 h p 0 ≡ false → L .tiers .nominated h p (L .tiers .currentTier) ≡ 0
+      opened none = k .tiers .nominated h p (L .tiers .currentTier) (outside (decided (inGroup tierSlots 0 h p (L .tiers .currentTier))))
         where
-          outside : (inGroup tierSlots 0 h p (L .tiers .openNow) ≡ true) ⊎ (inGroup tierSlots 0 h p (L .tiers .openNow) ≡ false) → inGroup tierSlots 0 h p (L .tiers .openNow) ≡ false
-          outside (inl e) = let f = group-facts tierSlots 0 h p (L .tiers .openNow) e in absurd (both-ways (in-group 1 0 h p 0 (f .0) (f .1) (omega arith) (omega arith)) none)
+          outside : (inGroup tierSlots 0 h p (L .tiers .currentTier) ≡ true) ⊎ (inGroup tierSlots 0 h p (L .tiers .currentTier) ≡ false) → inGroup tierSlots 0 h p (L .tiers .currentTier) ≡ false
+          outside (inl e) = let f = group-facts tierSlots 0 h p (L .tiers .currentTier) e in absurd (both-ways (in-group 1 0 h p 0 (f .0) (f .1) (omega arith) (omega arith)) none)
           outside (inr e) = e
 
-      go : (b : Bool) → eqb t (L .tiers .openNow) ≡ b → cond b (figureIn (figuresOf L) nominatedSlot 1 0 h p 0) (figureIn (figuresOf L) awardsSlot tierSlots 0 h p t) ≡ L .tiers .nominated h p t
-      go true e = figure-back 5 nominatedSlot 1 0 (λ h p n. L .tiers .nominated h p (L .tiers .openNow)) refl (omega arith) refl h p 0 opened ∙ ap (L .tiers .nominated h p) (sym (eqb-true t (L .tiers .openNow) e))
-      go false e = figure-back 6 awardsSlot tierSlots 0 (L .tiers .awards) refl (omega arith) refl h p t (k .tiers .awards h p t) ∙ settled-even (L .tiers) (k .sound) h p t (eqb-false t (L .tiers .openNow) e)
+      go : (b : Bool) → eqb t (L .tiers .currentTier) ≡ b → cond b (figureIn (figuresOf L) nominatedSlot 1 0 h p 0) (figureIn (figuresOf L) awardsSlot tierSlots 0 h p t) ≡ L .tiers .nominated h p t
+      go true e = figure-back 5 nominatedSlot 1 0 (λ h p n. L .tiers .nominated h p (L .tiers .currentTier)) refl (omega arith) refl h p 0 opened ∙ ap (L .tiers .nominated h p) (sym (eqb-true t (L .tiers .currentTier) e))
+      go false e = figure-back 6 awardsSlot tierSlots 0 (L .tiers .awards) refl (omega arith) refl h p t (k .tiers .awards h p t) ∙ settled-even (L .tiers) (k .sound) h p t (eqb-false t (L .tiers .currentTier) e)
 
   pub read-back : ledgerIn (figuresOf L) (postedOf L) (evidenceOf L) ≡ L
   unfolding ledgerIn figureGroups postedGroups evidenceGroups evidenceOf slotsOf
@@ -94,7 +94,7 @@ module _ (L : Ledger) (k : Confined L) where
       record {
         loads = record { kw = λ h s t. figure-back 0 loadSlot terms 0 (L .loads .kw) refl (omega arith) refl h s t (k .loads .kw h s t) i; posted = λ h s t. posted-back 0 loadPostedSlot terms 0 (L .loads .posted) refl (omega arith) refl h s t (k .loads .posted h s t) i };
         rights = record { carried = λ h p m. figure-back 3 carriedSlot lastMonth 1 (L .rights .carried) refl (omega arith) refl h p m (k .rights .carried h p m) i; awarded = λ h p m. figure-back 4 awardedSlot lastMonth 1 (L .rights .awarded) refl (omega arith) refl h p m (k .rights .awarded h p m) i; posted = λ h p. posted-back 1 carryPostedSlot 1 0 (λ h p n. L .rights .posted h p) refl (omega arith) refl h p 0 (k .rights .posted h p) i };
-        priors = record { allocated = λ h p. figure-back 1 priorSlot 1 0 (λ h p n. L .priors .allocated h p) refl (omega arith) refl h p 0 (k .priors .allocated h p) i; renewable = λ h p. figure-back 2 priorRemainingSlot 1 0 (λ h p n. L .priors .renewable h p) refl (omega arith) refl h p 0 (k .priors .renewable h p) i; posted = λ h p. posted-back 2 priorPostedSlot 1 0 (λ h p n. L .priors .posted h p) refl (omega arith) refl h p 0 (k .priors .posted h p) i };
-        papers = record { entry = λ h s n. group-back noEntry evidenceSlots [] [] [] 0 evidenceKinds 1 (L .papers .entry) refl (omega arith) h s n (k .papers .entry h s n) i; posted = λ h s n. posted-back 3 evidencePostedSlot evidenceKinds 1 (L .papers .posted) refl (omega arith) refl h s n (k .papers .posted h s n) i };
-        tiers = record { nominated = λ h p t. nominated-back h p t i; awards = λ h p t. figure-back 6 awardsSlot tierSlots 0 (L .tiers .awards) refl (omega arith) refl h p t (k .tiers .awards h p t) i; lastClosed = closed-back i; openNow = current-back i };
+        priors = record { allocated = λ h p. figure-back 1 priorSlot 1 0 (λ h p n. L .priors .allocated h p) refl (omega arith) refl h p 0 (k .priors .allocated h p) i; remaining = λ h p. figure-back 2 priorRemainingSlot 1 0 (λ h p n. L .priors .remaining h p) refl (omega arith) refl h p 0 (k .priors .remaining h p) i; posted = λ h p. posted-back 2 priorPostedSlot 1 0 (λ h p n. L .priors .posted h p) refl (omega arith) refl h p 0 (k .priors .posted h p) i };
+        evidence = record { entry = λ h s n. group-back noEntry evidenceSlots [] [] [] 0 evidenceKinds 1 (L .evidence .entry) refl (omega arith) h s n (k .evidence .entry h s n) i; posted = λ h s n. posted-back 3 evidencePostedSlot evidenceKinds 1 (L .evidence .posted) refl (omega arith) refl h s n (k .evidence .posted h s n) i };
+        tiers = record { nominated = λ h p t. nominated-back h p t i; awards = λ h p t. figure-back 6 awardsSlot tierSlots 0 (L .tiers .awards) refl (omega arith) refl h p t (k .tiers .awards h p t) i; lastClosed = closed-back i; currentTier = current-back i };
       }

@@ -9,7 +9,7 @@ use Rattle.slots.specs.Layout.{figureSlots, figureCount}
 use Rattle.slots.specs.Months.{HasRoom}
 use Rattle.slots.proofs.CellLaws.{added-long, read-added}
 
--- what one addition asks for
+-- what one addition needs
 pub room-now : (f : List ℕ) (h p slot past kw v : ℕ) → HasRoom f h p slot past kw → slot < past → v ≤ kw → HasCell figureSlots h p slot × (length f ≡ figureCount) × (readAt figureSlots 0 f h p slot + v < 2 ^ 64)
 room-now f h p slot past kw v r l le =
     (record { holder = r .holder; place = r .place; inRow = let e = r .inRow in omega arith }, r .long, let fits = r .room slot (let e : slot ≤ slot = omega arith in e) l in omega arith)

@@ -68,8 +68,8 @@ beside-next-evidence O L c a f m x s = record { answered = s .answered; figures 
 module _ (O : Opening) (L : Ledger) (q : Query) (number : ℕ) (found : number ≡ queryRefusal O L q) where
   pub query-refused : (number ≡ 0 → ⊥) → Refused number ≡ queryAnswer O L q
   unfolding queryAnswer season.answer answerOf
-  query-refused ne = ap Refused found ∙ sym (ap (λ t. answerOf (cond t (season.value (season.figure O L q)) (season.refused (queryRefusal O L q)))) (ne-eqb (queryRefusal O L q) 0 (λ e. ne (found ∙ e))))
+  query-refused ne = ap Refused found ∙ sym (ap (λ t. answerOf (cond t (season.value (season.queryValue O L q)) (season.refused (queryRefusal O L q)))) (ne-eqb (queryRefusal O L q) 0 (λ e. ne (found ∙ e))))
 
-  pub query-answered : (v : ℕ) → number ≡ 0 → v ≡ season.figure O L q → Value v ≡ queryAnswer O L q
+  pub query-answered : (v : ℕ) → number ≡ 0 → v ≡ season.queryValue O L q → Value v ≡ queryAnswer O L q
   unfolding queryAnswer season.answer answerOf
-  query-answered v e is = ap Value is ∙ sym (ap (λ t. answerOf (cond t (season.value (season.figure O L q)) (season.refused (queryRefusal O L q)))) (eq-eqb (queryRefusal O L q) 0 (sym found ∙ e)))
+  query-answered v e is = ap Value is ∙ sym (ap (λ t. answerOf (cond t (season.value (season.queryValue O L q)) (season.refused (queryRefusal O L q)))) (eq-eqb (queryRefusal O L q) 0 (sym found ∙ e)))

@@ -8,8 +8,8 @@ use mathlib.Core.Logic.{_⊎_, inl, inr}
 use native.Mathlib.Omega.{arith}
 use lib.Dec.{eqb}
 use borrow.Author.Tests.{eq-eqb}
-use Rattle.tariff.specs.Sum.{countIf}
-use Rattle.tariff.proofs.Sums.{count-true, count-false}
+use Rattle.tariff.specs.Sum.{whenTrue}
+use Rattle.tariff.proofs.Sums.{when-is-true, when-is-false}
 use Rattle.tariff.proofs.Tests.{decided}
 use Rattle.ledger.specs.Effects.{same2, same3, plusAt2}
 use Rattle.ledger.proofs.TiersSound.{same-place}
@@ -42,19 +42,19 @@ module _ {A : Type 0} (none : A) (width from count low : ℕ) (before after : Li
 
 -- kW more, and nothing else
 module _ (width from count low : ℕ) (before after : List (Group ℕ)) (at : slotsOf before ≡ from) (fits : from + count ≤ width) where
-  pub slot-added : (old new : ℕ → ℕ → ℕ → ℕ) (xs rest : List ℕ) (h p j kw : ℕ) → h < 8 → p < 16 → j < count → ((x y n : ℕ) → low ≤ n → n < low + count → new x y n ≡ old x y n + countIf (same3 h p (j + low) x y n) kw) → Shows width 0 xs (inSlot 0 (before ++ (group count low old ∷ after))) rest → Shows width 0 (addedAt width xs h p (from + j) kw) (inSlot 0 (before ++ (group count low new ∷ after))) rest
+  pub slot-added : (old new : ℕ → ℕ → ℕ → ℕ) (xs rest : List ℕ) (h p j kw : ℕ) → h < 8 → p < 16 → j < count → ((x y n : ℕ) → low ≤ n → n < low + count → new x y n ≡ old x y n + whenTrue (same3 h p (j + low) x y n) kw) → Shows width 0 xs (inSlot 0 (before ++ (group count low old ∷ after))) rest → Shows width 0 (addedAt width xs h p (from + j) kw) (inSlot 0 (before ++ (group count low new ∷ after))) rest
   unfolding addedAt
   slot-added old new xs rest h p j kw a b l same s =
       slot-stored 0 width from count low before after at fits old new xs rest h p j (readAt width 0 xs h p (from + j) + kw) a b l (λ x y n u w. same x y n u w ∙ sym (go x y n (decided (same3 h p (j + low) x y n)))) s
     where
-      go : (x y n : ℕ) → (same3 h p (j + low) x y n ≡ true) ⊎ (same3 h p (j + low) x y n ≡ false) → cond (same3 h p (j + low) x y n) (readAt width 0 xs h p (from + j) + kw) (old x y n) ≡ old x y n + countIf (same3 h p (j + low) x y n) kw
+      go : (x y n : ℕ) → (same3 h p (j + low) x y n ≡ true) ⊎ (same3 h p (j + low) x y n ≡ false) → cond (same3 h p (j + low) x y n) (readAt width 0 xs h p (from + j) + kw) (old x y n) ≡ old x y n + whenTrue (same3 h p (j + low) x y n) kw
       go x y n (inl t) =
           let w = same-place h p (j + low) x y n t in
           let read = slot-shown 0 width from count low before after at fits old xs rest h p j a b l s in
           let here : old x y n ≡ old h p (j + low) = λ i. old (w .0 i) (w .1 i) (w .2 i) in
-          let more = count-true kw t in
-          ap (λ u. cond u (readAt width 0 xs h p (from + j) + kw) (old x y n)) t ∙ (let same : readAt width 0 xs h p (from + j) + kw ≡ old x y n + countIf (same3 h p (j + low) x y n) kw = omega arith in same)
-      go x y n (inr t) = ap (λ u. cond u (readAt width 0 xs h p (from + j) + kw) (old x y n)) t ∙ (let none = count-false kw t in omega arith)
+          let more = when-is-true kw t in
+          ap (λ u. cond u (readAt width 0 xs h p (from + j) + kw) (old x y n)) t ∙ (let same : readAt width 0 xs h p (from + j) + kw ≡ old x y n + whenTrue (same3 h p (j + low) x y n) kw = omega arith in same)
+      go x y n (inr t) = ap (λ u. cond u (readAt width 0 xs h p (from + j) + kw) (old x y n)) t ∙ (let none = when-is-false kw t in omega arith)
 
 -- what is noted as posted, by a number and without one
 pub number-posted : (count low h p k : ℕ) (old : ℕ → ℕ → ℕ → Bool) → StoredIn count low h p k true old (λ x y n. same3 h p k x y n || old x y n)
@@ -73,6 +73,6 @@ pub single-posted : (h p : ℕ) (old : ℕ → ℕ → Bool) → StoredIn 1 0 h 
 single-posted h p old x y n above below =
     ap (λ t. t || old x y) (sym (one-number h p x y n below)) ∙ number-posted 1 0 h p 0 (λ x y n. old x y) x y n above below
 
-pub single-added : (h p kw : ℕ) (old : ℕ → ℕ → ℕ) (x y n : ℕ) → 0 ≤ n → n < 1 → plusAt2 h p kw old x y ≡ old x y + countIf (same3 h p 0 x y n) kw
+pub single-added : (h p kw : ℕ) (old : ℕ → ℕ → ℕ) (x y n : ℕ) → 0 ≤ n → n < 1 → plusAt2 h p kw old x y ≡ old x y + whenTrue (same3 h p 0 x y n) kw
 unfolding plusAt2
-single-added h p kw old x y n above below = ap (λ t. old x y + countIf t kw) (sym (one-number h p x y n below))
+single-added h p kw old x y n above below = ap (λ t. old x y + whenTrue t kw) (sym (one-number h p x y n below))

@@ -6,7 +6,7 @@ use mathlib.Core.List.{List, _++_}
 use lib.ListN.{length, getD, set}
 use lib.Dec.{ltb}
 pub use Rattle.tariff.specs.Sizes.{maxHolders, maxPlaces}
-use Rattle.tariff.specs.Sum.{listTo}
+use Rattle.tariff.specs.Sum.{tabulate}
 
 -- how many holders and places there are together
 abbrev pub rows : ℕ
@@ -39,15 +39,15 @@ module _ {A : Type 0} where
   unfoldable pub storedAt : ℕ → List A → ℕ → ℕ → ℕ → A → List A
   storedAt width cells h p slot v = set cells (cellOf width h p slot) v
 
-  -- the array of a function of holder, place and slot, with a rest behind its cells
+  -- the array of a function of holder, place and slot, with a rest after its cells
   unfoldable pub arrayOf : ℕ → (ℕ → ℕ → ℕ → A) → List A → List A
-  arrayOf width f rest = listTo (rows * width) (λ k. f (k / width / maxPlaces) (k / width % maxPlaces) (k % width)) ++ rest
+  arrayOf width f rest = tabulate (rows * width) (λ k. f (k / width / maxPlaces) (k / width % maxPlaces) (k % width)) ++ rest
 
-  -- an array shows a function: what stands in each cell is the function's value, and the rest stands behind the cells
+  -- an array shows a function: what stands in each cell is the function's value, and the rest stands after the cells
   pub record Shows (width : ℕ) (none : A) (cells : List A) (f : ℕ → ℕ → ℕ → A) (rest : List A) : Type 0 where
     pub sized : length cells ≡ rows * width + length rest
     pub each : (h p slot : ℕ) → HasCell width h p slot → readAt width none cells h p slot ≡ f h p slot
-    pub behind : (k : ℕ) → getD cells (rows * width + k) none ≡ getD rest k none
+    pub tail : (k : ℕ) → getD cells (rows * width + k) none ≡ getD rest k none
 
 -- a slot put to 0 in the first n rows
 unfoldable pub clearedTo : ℕ → ℕ → List ℕ → ℕ → List ℕ

@@ -47,7 +47,7 @@ contractSlot = ownershipSlot + terms
 abbrev pub figureSlots : ℕ
 figureSlots = contractSlot + terms
 
--- behind the figures stand the tier last closed and the open one
+-- after the figures stand the tier last closed and the open one
 abbrev pub lastClosedAt : ℕ
 lastClosedAt = rows * figureSlots
 
@@ -91,13 +91,13 @@ module _ (L : Ledger) where
   figureGroups =
       group terms 0 (L .loads .kw)
       ∷ group 1 0 (λ h p k. L .priors .allocated h p)
-      ∷ group 1 0 (λ h p k. L .priors .renewable h p)
+      ∷ group 1 0 (λ h p k. L .priors .remaining h p)
       ∷ group lastMonth 1 (L .rights .carried)
       ∷ group lastMonth 1 (L .rights .awarded)
-      ∷ group 1 0 (λ h p k. L .tiers .nominated h p (L .tiers .openNow))
+      ∷ group 1 0 (λ h p k. L .tiers .nominated h p (L .tiers .currentTier))
       ∷ group tierSlots 0 (L .tiers .awards)
-      ∷ group terms 0 (λ h s term. entryKw term (L .papers .entry h s ownership))
-      ∷ group terms 0 (λ h s term. entryKw term (L .papers .entry h s contract))
+      ∷ group terms 0 (λ h s term. entryKw term (L .evidence .entry h s ownership))
+      ∷ group terms 0 (λ h s term. entryKw term (L .evidence .entry h s contract))
       ∷ []
 
   -- whether a load was posted, by term; a carry; a prior; evidence, by kind
@@ -106,16 +106,16 @@ module _ (L : Ledger) where
       group terms 0 (L .loads .posted)
       ∷ group 1 0 (λ h p k. L .rights .posted h p)
       ∷ group 1 0 (λ h p k. L .priors .posted h p)
-      ∷ group evidenceKinds 1 (L .papers .posted)
+      ∷ group evidenceKinds 1 (L .evidence .posted)
       ∷ []
 
   -- evidence, by kind
   unfoldable pub evidenceGroups : List (Group Entry)
-  evidenceGroups = group evidenceKinds 1 (L .papers .entry) ∷ []
+  evidenceGroups = group evidenceKinds 1 (L .evidence .entry) ∷ []
 
-  -- behind the figures stand the tier last closed and the open one, 0 for none
+  -- after the figures stand the tier last closed and the open one, 0 for none
   unfoldable pub calendarOf : List ℕ
-  calendarOf = L .tiers .lastClosed ∷ L .tiers .openNow ∷ []
+  calendarOf = L .tiers .lastClosed ∷ L .tiers .currentTier ∷ []
 
   unfoldable pub figuresOf : List ℕ
   figuresOf = arrayOf figureSlots (inSlot 0 figureGroups) calendarOf
@@ -146,13 +146,13 @@ ledgerIn f m x =
     record {
       loads = record { kw = figureIn f loadSlot terms 0; posted = postedIn m loadPostedSlot terms 0 };
       rights = record { carried = figureIn f carriedSlot lastMonth 1; awarded = figureIn f awardedSlot lastMonth 1; posted = λ h p. postedIn m carryPostedSlot 1 0 h p 0 };
-      priors = record { allocated = λ h p. figureIn f priorSlot 1 0 h p 0; renewable = λ h p. figureIn f priorRemainingSlot 1 0 h p 0; posted = λ h p. postedIn m priorPostedSlot 1 0 h p 0 };
-      papers = record { entry = figureFrom evidenceSlots noEntry x 0 evidenceKinds 1; posted = postedIn m evidencePostedSlot evidenceKinds 1 };
+      priors = record { allocated = λ h p. figureIn f priorSlot 1 0 h p 0; remaining = λ h p. figureIn f priorRemainingSlot 1 0 h p 0; posted = λ h p. postedIn m priorPostedSlot 1 0 h p 0 };
+      evidence = record { entry = figureFrom evidenceSlots noEntry x 0 evidenceKinds 1; posted = postedIn m evidencePostedSlot evidenceKinds 1 };
       tiers =
           record {
             nominated = λ h p t. cond (eqb t (currentTierIn f)) (figureIn f nominatedSlot 1 0 h p 0) (figureIn f awardsSlot tierSlots 0 h p t);
             awards = figureIn f awardsSlot tierSlots 0;
             lastClosed = lastClosedIn f;
-            openNow = currentTierIn f;
+            currentTier = currentTierIn f;
           };
     }

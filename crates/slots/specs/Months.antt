@@ -3,7 +3,7 @@ use Prim.Native.Nat.{ℕ, _+_, _^_, _≤_, _<_}
 use mathlib.Core.Path.{_≡_}
 use mathlib.Core.List.{List}
 use lib.ListN.{length}
-use Rattle.tariff.specs.Sum.{countIf}
+use Rattle.tariff.specs.Sum.{whenTrue}
 use Rattle.tariff.specs.Terms.{hasMonth}
 use Rattle.slots.specs.Cells.{maxHolders, maxPlaces, readAt, addedAt}
 use Rattle.slots.specs.Layout.{figureSlots, figureCount}
@@ -12,9 +12,9 @@ unfoldable pub addedInTerm : List ℕ → (h p from term kw : ℕ) → List ℕ
 addedInTerm f h p from term kw =
     addedAt figureSlots
     (addedAt figureSlots
-    (addedAt figureSlots f h p from (countIf (hasMonth term 1) kw))
-    h p (from + 1) (countIf (hasMonth term 2) kw))
-    h p (from + 2) (countIf (hasMonth term 3) kw)
+    (addedAt figureSlots f h p from (whenTrue (hasMonth term 1) kw))
+    h p (from + 1) (whenTrue (hasMonth term 2) kw))
+    h p (from + 2) (whenTrue (hasMonth term 3) kw)
 
 -- figures whose slots from one on have room for kW more
 pub record HasRoom (f : List ℕ) (h p first past kw : ℕ) : Type 0 where

@@ -1,4 +1,4 @@
-// The tier last closed and the open one, which stand behind a book's figures.
+// The tier last closed and the open one, which stand after a book's figures.
 use crate::layout::CURRENT_TIER;
 use crate::layout::LAST_CLOSED;
 use records::lists::number_at;

@@ -1,5 +1,5 @@
 // The slots of a book's arrays: what is kept for a holder at a place, and where. A place is a sink for loads, a source for verified kW, else a path.
-// Each slot stands behind the one before it, so that a figure more moves those that follow it.
+// Each slot stands after the one before it, so that a figure more moves those that follow it.
 use tariff::sizes::EVIDENCE_KINDS;
 use tariff::sizes::LAST_MONTH;
 use tariff::sizes::LAST_TIER;
@@ -34,7 +34,7 @@ pub const VERIFIED: u64 = AWARDS + (LAST_TIER + 1);
 
 pub const FIGURE_SLOTS: u64 = VERIFIED + EVIDENCE_KINDS * TERMS;
 
-// Behind the figures stand the tier last closed and the open one.
+// After the figures stand the tier last closed and the open one.
 pub const LAST_CLOSED: usize = (ROWS * FIGURE_SLOTS) as usize;
 
 pub const CURRENT_TIER: usize = LAST_CLOSED + 1;

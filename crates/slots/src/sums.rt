@@ -3,7 +3,7 @@ use crate::cells::read;
 use records::setup::path_base;
 use records::setup::path_source;
 use records::setup::paths;
-use records::sums::count_if;
+use records::sums::when_true;
 ghost use mathlib.Core.Path.{_≡_};
 ghost use Rattle.ledger.specs.Limits.{sumAtBase};
 ghost use Rattle.ledger.specs.Verification.{sumFromSource};
@@ -19,7 +19,7 @@ pub fn sum_at_base(o: &[u64], f: &[u64], h: u64, slot: u64, base: u64) -> u64
     let mut sum: u64 = 0;
     for p in 0..past {
         let there = path_base(o, p) == base;
-        sum += count_if(there, read(f, h, p, slot));
+        sum += when_true(there, read(f, h, p, slot));
     }
     sum
 }
@@ -33,7 +33,7 @@ pub fn sum_from_source(o: &[u64], f: &[u64], h: u64, slot: u64, source: u64) -> 
     let mut sum: u64 = 0;
     for p in 0..past {
         let there = path_source(o, p) == source;
-        sum += count_if(there, read(f, h, p, slot));
+        sum += when_true(there, read(f, h, p, slot));
     }
     sum
 }

@@ -10,9 +10,9 @@ use native.Mathlib.Omega.{arith}
 use lib.Dec.{leb}
 use lib.ListN.{length, getD, drop, drop-of-length-le}
 use lib.Seq.{drop-cons}
-use Rattle.tariff.specs.Sum.{sumOver, anyOf, only}
-use Rattle.tariff.specs.Load.{Block, inOrder, presentHours, hoursAbove, mayExceed, seldomExceeded, smallest, metric}
-use Rattle.tariff.specs.Metered.{blocksOf}
+use Rattle.tariff.specs.Sum.{sumOver, anyOf, filter}
+use Rattle.tariff.specs.Load.{Block, inOrder, presentHours, hoursAbove, exceedanceHours, withinExceedance, smallest, metric}
+use Rattle.tariff.specs.Metering.{blocksOf}
 use Rattle.tariff.specs.Levels.{kwsOf}
 
 -- the blocks from number i on
@@ -79,14 +79,14 @@ present-of-retimed : (bs : List Block) → presentHours (map retimed bs) ≡ pre
 unfolding presentHours retimed
 present-of-retimed bs = sum-of-map retimed (λ b. b .hours) bs
 
-seldom-of-retimed : (bs : List Block) (kw : ℕ) → seldomExceeded (map retimed bs) kw ≡ seldomExceeded bs kw
-unfolding seldomExceeded mayExceed hoursAbove retimed
-seldom-of-retimed bs kw =
+exceedance-of-retimed : (bs : List Block) (kw : ℕ) → withinExceedance (map retimed bs) kw ≡ withinExceedance bs kw
+unfolding withinExceedance exceedanceHours hoursAbove retimed
+exceedance-of-retimed bs kw =
     ap₂ leb (sum-of-map retimed _ bs) (ap (λ p. p / 200) (present-of-retimed bs))
 
 metric-of-retimed : (bs : List Block) → metric (map retimed bs) ≡ metric bs
 unfolding metric retimed
-metric-of-retimed bs = ap₂ (λ test ks. smallest (only test ks)) (fun-ext (seldom-of-retimed bs)) (map-map (λ b. b .kw) retimed bs)
+metric-of-retimed bs = ap₂ (λ test ks. smallest (filter test ks)) (fun-ext (exceedance-of-retimed bs)) (map-map (λ b. b .kw) retimed bs)
 
 pub metric-by-loads : (fs hs ks : List ℕ) → length fs ≡ length hs → metric (blocksOf hs hs ks) ≡ metric (blocksOf fs hs ks)
 metric-by-loads fs hs ks e = ap metric (sym (retimed-all fs hs ks e)) ∙ metric-of-retimed (blocksOf fs hs ks)

@@ -7,7 +7,7 @@ use Rattle.tariff.specs.declared.evidence.Evidence.{Evidence}
 use Rattle.tariff.specs.declared.evidence.Evidence.the-variants.{Empty, Ownership, Contract}
 use Rattle.tariff.specs.declared.evidence.Entry.{Entry}
 use Rattle.tariff.specs.Evidence.{evidenceOf, highestRight, evidenceKw, countsFor, entryKw}
-use Rattle.tariff.proofs.Sums.{count-le}
+use Rattle.tariff.proofs.Sums.{when-le}
 
 -- the numbers of an evidence are in range, for a highest kW
 abbrev pub InRange : ℕ → Evidence → Type 0
@@ -31,4 +31,4 @@ evidence-le most (Contract right) r = r
 
 pub entry-le : (most term : ℕ) (e : Entry) → InRange most (e .evidence) → entryKw term e ≤ most
 unfolding entryKw
-entry-le most term e r = le-trans (count-le (countsFor term e) (evidenceKw (e .evidence))) (evidence-le most (e .evidence) r)
+entry-le most term e r = le-trans (when-le (countsFor term e) (evidenceKw (e .evidence))) (evidence-le most (e .evidence) r)

@@ -6,33 +6,33 @@ use lib.Dec.{leb}
 use borrow.Author.Tests.{leb-true, ltb-false, eq-eqb, ne-eqb, not-false}
 use Rattle.tariff.specs.Terms.{isMonth}
 use Rattle.tariff.specs.declared.evidence.Evidence.the-variants.{Ownership, Contract}
-use Rattle.tariff.specs.declared.evidence.Filing.the-variants.{OutOfRange, Filed}
+use Rattle.tariff.specs.declared.evidence.Filing.the-variants.{OutOfRange, Valid}
 use Rattle.tariff.specs.Evidence.{evidenceOf, entryOf, highestRight}
 use Rattle.tariff.specs.Filing.{filingOf, filingBy}
-use Rattle.tariff.specs.Ranges.{mostKw, within, wrongKw, wrongMonth, wrongEvidence}
+use Rattle.tariff.specs.Ranges.{maxKw, within, kwOutOfRange, monthOutOfRange, evidenceOutOfRange}
 use Rattle.tariff.proofs.Tests.{or-unmet, and-both, not-or, not-not, not-ltb}
 
 pub within-bounds : (low high x : ℕ) → within low high x ≡ true → (low ≤ x) × (x ≤ high)
 unfolding within
 within-bounds low high x e = let both = and-both (leb low x) (leb x high) e in (leb-true low x (both .0), leb-true x high (both .1))
 
-pub is-month : (m : ℕ) → wrongMonth m ≡ false → (1 ≤ m) × (m ≤ 3)
-unfolding wrongMonth isMonth
+pub is-month : (m : ℕ) → monthOutOfRange m ≡ false → (1 ≤ m) × (m ≤ 3)
+unfolding monthOutOfRange isMonth
 is-month m e = let both = and-both (leb 1 m) (leb m 3) (not-false (leb 1 m && leb m 3) e) in (leb-true 1 m (both .0), leb-true m 3 (both .1))
 
 -- the six tests, as the code joins them, are those of the definition
-pub all-six : (kind capacity right first last : ℕ) → (within 1 2 kind && within 1 mostKw capacity && within 1 (highestRight kind capacity) right && within 1 3 first && within 1 3 last && leb first last) ≡ not (wrongEvidence kind capacity right first last)
-unfolding wrongEvidence wrongKw wrongMonth isMonth within
+pub all-six : (kind capacity right first last : ℕ) → (within 1 2 kind && within 1 maxKw capacity && within 1 (highestRight kind capacity) right && within 1 3 first && within 1 3 last && leb first last) ≡ not (evidenceOutOfRange kind capacity right first last)
+unfolding evidenceOutOfRange kwOutOfRange monthOutOfRange isMonth within
 all-six kind capacity right first last = sym (simp (not-or, not-not, not-ltb))
 
 pub record EvidenceFacts (kind capacity right first last : ℕ) : Type 0 where
   pub kinds : (1 ≤ kind) × (kind ≤ 2)
-  pub capacities : (1 ≤ capacity) × (capacity ≤ mostKw)
+  pub capacities : (1 ≤ capacity) × (capacity ≤ maxKw)
   pub rights : (1 ≤ right) × (right ≤ highestRight kind capacity)
   pub months : (1 ≤ first) × (first ≤ last) × (last ≤ 3)
 
-pub evidence-facts : (kind capacity right first last : ℕ) → wrongEvidence kind capacity right first last ≡ false → EvidenceFacts kind capacity right first last
-unfolding wrongEvidence wrongKw
+pub evidence-facts : (kind capacity right first last : ℕ) → evidenceOutOfRange kind capacity right first last ≡ false → EvidenceFacts kind capacity right first last
+unfolding evidenceOutOfRange kwOutOfRange
 evidence-facts kind capacity right first last e =
     let order = or-unmet _ _ e in
     let lastMonth = or-unmet _ _ (order .0) in
@@ -41,20 +41,20 @@ evidence-facts kind capacity right first last e =
     let kindRange = or-unmet _ _ (rightRange .0) in
     record {
       kinds = within-bounds 1 2 kind (not-false _ (kindRange .0));
-      capacities = within-bounds 1 mostKw capacity (not-false _ (kindRange .1));
+      capacities = within-bounds 1 maxKw capacity (not-false _ (kindRange .1));
       rights = within-bounds 1 (highestRight kind capacity) right (not-false _ (rightRange .1));
       months = (is-month first (firstMonth .1) .0, ltb-false _ _ (order .1), is-month last (lastMonth .1) .1);
     }
 
 -- what a filing comes to
-pub filing-wrong : (kind capacity right first last : ℕ) → wrongEvidence kind capacity right first last ≡ true → filingOf kind capacity right first last ≡ OutOfRange
+pub filing-out-of-range : (kind capacity right first last : ℕ) → evidenceOutOfRange kind capacity right first last ≡ true → filingOf kind capacity right first last ≡ OutOfRange
 unfolding filingOf filingBy
-filing-wrong kind capacity right first last w = rw w
+filing-out-of-range kind capacity right first last w = rw w
 
-pub filing-owned : (kind capacity right first last : ℕ) → wrongEvidence kind capacity right first last ≡ false → kind ≡ 1 → filingOf kind capacity right first last ≡ Filed (record { evidence = Ownership capacity right; first = first; last = last })
+pub filing-owned : (kind capacity right first last : ℕ) → evidenceOutOfRange kind capacity right first last ≡ false → kind ≡ 1 → filingOf kind capacity right first last ≡ Valid (record { evidence = Ownership capacity right; first = first; last = last })
 unfolding filingOf entryOf evidenceOf filingBy
 filing-owned kind capacity right first last w k = rw (w, eq-eqb kind 1 k)
 
-pub filing-contract : (kind capacity right first last : ℕ) → wrongEvidence kind capacity right first last ≡ false → (kind ≡ 1 → ⊥) → filingOf kind capacity right first last ≡ Filed (record { evidence = Contract right; first = first; last = last })
+pub filing-contract : (kind capacity right first last : ℕ) → evidenceOutOfRange kind capacity right first last ≡ false → (kind ≡ 1 → ⊥) → filingOf kind capacity right first last ≡ Valid (record { evidence = Contract right; first = first; last = last })
 unfolding filingOf entryOf evidenceOf filingBy
 filing-contract kind capacity right first last w k = rw (w, ne-eqb kind 1 k)

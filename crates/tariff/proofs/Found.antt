@@ -1,4 +1,4 @@
--- The metric, found on the way down from the highest kW. Each step comes to a block's kW that is seldom exceeded, with more hours at or above it than
+-- The metric, found on the way down from the highest kW. Each step comes to a block's kW that is within the exceedance, with more hours at or above it than
 -- the step before. The metric is the first that has more hours at or above it than may be exceeded. Assumes nothing.
 use Prim.Native.Nat.{ℕ, suc, _/_, _≤_, _<_}
 use mathlib.Core.Path.{_≡_, ap}
@@ -8,8 +8,8 @@ use native.Mathlib.Omega.{arith}
 use lib.ListN.{length}
 use borrow.Author.Tests.{le-leb, lt-leb}
 use Rattle.tariff.specs.declared.load.Level.{Level}
-use Rattle.tariff.specs.Load.{Block, presentHours, hoursAbove, mayExceed, seldomExceeded, metric}
-use Rattle.tariff.specs.Metered.{blocksOf}
+use Rattle.tariff.specs.Load.{Block, presentHours, hoursAbove, exceedanceHours, withinExceedance, metric}
+use Rattle.tariff.specs.Metering.{blocksOf}
 use Rattle.tariff.specs.Levels.{highestKw, highestBelow, hoursFrom, levelBelow, kwsOf, EachLasts}
 use Rattle.tariff.proofs.Blocks.{kws-of}
 use Rattle.tariff.proofs.Lowest.{Among, smallest-passing, among-highest}
@@ -18,7 +18,7 @@ use Rattle.tariff.proofs.Levels.{from-within-above, from-more, none-abo
 -- where the way down stands: at a block's kW that is exceeded in no more hours than may be
 pub record Standing (bs : List Block) (kw : ℕ) : Type 0 where
   pub among : Among kw (kwsOf bs)
-  pub seldom : hoursAbove kw bs ≤ mayExceed bs
+  pub metric-allowed : hoursAbove kw bs ≤ exceedanceHours bs
 
 -- what a step down is, and what may be exceeded, as the code has them
 pub level-kw : {below : Level} (kw : ℕ) (bs : List Block) → below ≡ levelBelow kw bs → below .kw ≡ highestBelow kw bs
@@ -29,9 +29,9 @@ pub level-above : {below : Level} (kw : ℕ) (bs : List Block) → below ≡ lev
 unfolding levelBelow
 level-above kw bs e = ap (λ l. l .above) e
 
-pub may-is : {present : ℕ} (bs : List Block) → presentHours bs ≡ present → present / 200 ≡ mayExceed bs
-unfolding mayExceed
-may-is bs e = rw e
+pub exceedance-is : {present : ℕ} (bs : List Block) → presentHours bs ≡ present → present / 200 ≡ exceedanceHours bs
+unfolding exceedanceHours
+exceedance-is bs e = rw e
 
 module _ (bs : List Block) (lasting : EachLasts bs) where
   -- some block, of an hour or more, is at this kW
@@ -39,28 +39,28 @@ module _ (bs : List Block) (lasting : EachLasts bs) where
   from-some kw m = let h = from-more (suc kw) kw bs (le-refl (suc kw)) m lasting in omega arith
 
   -- hours at or above a kW that may be exceeded leave others
-  some-below : (kw : ℕ) → Standing bs kw → hoursFrom kw bs ≤ mayExceed bs → hoursFrom kw bs < presentHours bs
-  unfolding mayExceed
+  some-below : (kw : ℕ) → Standing bs kw → hoursFrom kw bs ≤ exceedanceHours bs → hoursFrom kw bs < presentHours bs
+  unfolding exceedanceHours
   some-below kw s h = let some = from-some kw (s .among) in omega arith
 
-  -- a step down: the next kW is seldom exceeded too, and has more hours at or above it
-  pub step-down : (kw : ℕ) → Standing bs kw → hoursFrom kw bs ≤ mayExceed bs → Standing bs (highestBelow kw bs)
+  -- a step down: the next kW is within the exceedance too, and has more hours at or above it
+  pub step-down : (kw : ℕ) → Standing bs kw → hoursFrom kw bs ≤ exceedanceHours bs → Standing bs (highestBelow kw bs)
   step-down kw s h =
       let next = next-among kw bs (some-below kw s h) in
       let fewer = above-next kw (highestBelow kw bs) bs (le-refl (highestBelow kw bs)) in
-      record { among = next .1; seldom = omega arith }
+      record { among = next .1; metric-allowed = omega arith }
 
-  pub step-adds : (kw : ℕ) → Standing bs kw → hoursFrom kw bs ≤ mayExceed bs → hoursFrom kw bs < hoursFrom (highestBelow kw bs) bs
+  pub step-adds : (kw : ℕ) → Standing bs kw → hoursFrom kw bs ≤ exceedanceHours bs → hoursFrom kw bs < hoursFrom (highestBelow kw bs) bs
   step-adds kw s h =
       let next = next-among kw bs (some-below kw s h) in
       from-more kw (highestBelow kw bs) bs (next .0) (next .1) lasting
 
 -- where too many hours are at or above a kW, every lower one is exceeded too often
-pub metric-found : (bs : List Block) (kw : ℕ) → Standing bs kw → mayExceed bs < hoursFrom kw bs → metric bs ≡ kw
-unfolding metric seldomExceeded
+pub metric-found : (bs : List Block) (kw : ℕ) → Standing bs kw → exceedanceHours bs < hoursFrom kw bs → metric bs ≡ kw
+unfolding metric withinExceedance
 metric-found bs kw s h =
-    smallest-passing (seldomExceeded bs) kw (kwsOf bs) (s .among) (le-leb (hoursAbove kw bs) (mayExceed bs) (s .seldom))
-    (λ x l. let more = from-within-above kw x bs l in lt-leb (hoursAbove x bs) (mayExceed bs) (omega arith))
+    smallest-passing (withinExceedance bs) kw (kwsOf bs) (s .among) (le-leb (hoursAbove kw bs) (exceedanceHours bs) (s .metric-allowed))
+    (λ x l. let more = from-within-above kw x bs l in lt-leb (hoursAbove x bs) (exceedanceHours bs) (omega arith))
 
 -- the way down starts at the highest kW, which no hour exceeds
 pub stand-highest : (fs hs ks : List ℕ) → length fs ≡ length ks → length hs ≡ length ks → 0 < length ks
@@ -68,4 +68,4 @@ pub stand-highest : (fs hs ks : List ℕ) → length fs ≡ length ks → length
 stand-highest fs hs ks p q some =
     let e = kws-of fs hs ks p q in
     let none = none-above-highest (highestKw ks) (blocksOf fs hs ks) (rw e (le-refl (highestKw ks))) in
-    record { among = rw e (among-highest ks some); seldom = omega arith }
+    record { among = rw e (among-highest ks some); metric-allowed = omega arith }

@@ -9,18 +9,18 @@ use native.Mathlib.Omega.{arith}
 use lib.Dec.{leb, ltb, eqb}
 use lib.ListN.{length, getD}
 use borrow.Author.Tests.{leb-true, ltb-true, ltb-false, eqb-false, le-leb, lt-leb, lt-ltb, le-ltb}
-use Rattle.tariff.specs.Sum.{countIf, sumOver, anyOf}
+use Rattle.tariff.specs.Sum.{whenTrue, sumOver, anyOf}
 use Rattle.tariff.specs.Load.{Block, presentHours, hoursAbove}
 use Rattle.tariff.specs.Levels.{highestKw, highestBelow, hoursFrom, kwsOf, EachLasts}
-use Rattle.tariff.proofs.Sums.{count-true, count-false, count-le}
+use Rattle.tariff.proofs.Sums.{when-is-true, when-is-false, when-le}
 use Rattle.tariff.proofs.Tests.{or-unmet}
 use Rattle.tariff.proofs.Blocks.{blocksFrom, blockAt, blocks-left, no-blocks-left}
 use Rattle.tariff.proofs.Lowest.{Among, among-larger}
 
 -- where one test passes only if another does, it counts no more
-count-mono : (s t : Bool) (v : ℕ) → (s ≡ true → t ≡ true) → countIf s v ≤ countIf t v
-count-mono true t v h = let e = count-true v (h refl) in let l = count-le true v in omega arith
-count-mono false t v h = let e = count-false {t = false} v refl in omega arith
+when-mono : (s t : Bool) (v : ℕ) → (s ≡ true → t ≡ true) → whenTrue s v ≤ whenTrue t v
+when-mono true t v h = let e = when-is-true v (h refl) in let l = when-le true v in omega arith
+when-mono false t v h = let e = when-is-false {t = false} v refl in omega arith
 
 sum-mono : (f g : Block → ℕ) (bs : List Block) → ((b : Block) → f b ≤ g b) → sumOver bs f ≤ sumOver bs g
 unfolding sumOver
@@ -31,15 +31,15 @@ sum-mono f g (b ∷ bs) h = add-le-add (h b) (sum-mono f g bs h)
 pub from-within-above : (v w : ℕ) (bs : List Block) → w < v → hoursFrom v bs ≤ hoursAbove w bs
 unfolding hoursFrom hoursAbove
 from-within-above v w bs l =
-    sum-mono (λ b. countIf (leb v (b .kw)) (b .hours)) (λ b. countIf (ltb w (b .kw)) (b .hours)) bs
-    (λ b. count-mono (leb v (b .kw)) (ltb w (b .kw)) (b .hours) (λ e. let h = leb-true v (b .kw) e in lt-ltb w (b .kw) (omega arith)))
+    sum-mono (λ b. whenTrue (leb v (b .kw)) (b .hours)) (λ b. whenTrue (ltb w (b .kw)) (b .hours)) bs
+    (λ b. when-mono (leb v (b .kw)) (ltb w (b .kw)) (b .hours) (λ e. let h = leb-true v (b .kw) e in lt-ltb w (b .kw) (omega arith)))
 
 -- the lower the kW, the more hours are at or above it
 pub from-lower : (v w : ℕ) (bs : List Block) → w ≤ v → hoursFrom v bs ≤ hoursFrom w bs
 unfolding hoursFrom
 from-lower v w bs l =
-    sum-mono (λ b. countIf (leb v (b .kw)) (b .hours)) (λ b. countIf (leb w (b .kw)) (b .hours)) bs
-    (λ b. count-mono (leb v (b .kw)) (leb w (b .kw)) (b .hours) (λ e. let h = leb-true v (b .kw) e in le-leb w (b .kw) (omega arith)))
+    sum-mono (λ b. whenTrue (leb v (b .kw)) (b .hours)) (λ b. whenTrue (leb w (b .kw)) (b .hours)) bs
+    (λ b. when-mono (leb v (b .kw)) (leb w (b .kw)) (b .hours) (λ e. let h = leb-true v (b .kw) e in le-leb w (b .kw) (omega arith)))
 
 -- and a lower kW that some block has adds that block's hours, one or more
 pub from-more : (v w : ℕ) (bs : List Block) → w < v → Among w (kwsOf bs) → EachLasts bs → hoursFrom v bs < hoursFrom w bs
@@ -48,12 +48,12 @@ from-more v w [] l m e = absurd m
 from-more v w (b ∷ bs) l (inl q) e =
     let rest = from-lower v w bs (omega arith) in
     let some = eqb-false (b .hours) 0 (or-unmet (eqb (b .hours) 0) (anyOf bs (λ b. eqb (b .hours) 0)) e .0) in
-    let out = count-false (b .hours) (lt-leb v (b .kw) (omega (arith, q))) in
-    let here = count-true (b .hours) (le-leb w (b .kw) (omega (arith, q))) in
+    let out = when-is-false (b .hours) (lt-leb v (b .kw) (omega (arith, q))) in
+    let here = when-is-true (b .hours) (le-leb w (b .kw) (omega (arith, q))) in
     omega (arith, some)
 from-more v w (b ∷ bs) l (inr m) e =
     let rest = from-more v w bs l m (or-unmet (eqb (b .hours) 0) (anyOf bs (λ b. eqb (b .hours) 0)) e .1) in
-    let here = count-mono (leb v (b .kw)) (leb w (b .kw)) (b .hours) (λ e. let h = leb-true v (b .kw) e in le-leb w (b .kw) (omega arith)) in
+    let here = when-mono (leb v (b .kw)) (leb w (b .kw)) (b .hours) (λ e. let h = leb-true v (b .kw) e in le-leb w (b .kw) (omega arith)) in
     omega arith
 
 -- no block is above the highest
@@ -62,7 +62,7 @@ unfolding hoursAbove sumOver highestKw
 none-above-highest m [] h = refl
 none-above-highest m (b ∷ bs) h =
     let rest = none-above-highest m bs (omega arith) in
-    let here = count-false (b .hours) (le-ltb m (b .kw) (omega arith)) in
+    let here = when-is-false (b .hours) (le-ltb m (b .kw) (omega arith)) in
     omega arith
 
 -- the hours above the next kW are no more than those at or above this one
@@ -71,12 +71,12 @@ unfolding hoursAbove hoursFrom sumOver highestBelow
 above-next cap m [] h = zero-le
 above-next cap m (b ∷ bs) h =
     let rest = above-next cap m bs (omega arith) in
-    let here = count-mono (ltb m (b .kw)) (leb cap (b .kw)) (b .hours) (not-below (ltb (b .kw) cap) refl) in
+    let here = when-mono (ltb m (b .kw)) (leb cap (b .kw)) (b .hours) (not-below (ltb (b .kw) cap) refl) in
     omega arith
   where
     not-below : (t : Bool) → ltb (b .kw) cap ≡ t → ltb m (b .kw) ≡ true → leb cap (b .kw) ≡ true
     not-below true l e =
-        let own = count-true (b .kw) l in
+        let own = when-is-true (b .kw) l in
         let above = ltb-true m (b .kw) e in
         absurd (omega arith)
     not-below false l e = le-leb cap (b .kw) (ltb-false (b .kw) cap l)
@@ -86,16 +86,16 @@ module _ (cap : ℕ) (b : Block) (bs : List Block) where
   pub pass-below : b .kw < cap → (highestBelow cap (b ∷ bs) ≡ max (b .kw) (highestBelow cap bs)) × (hoursFrom cap (b ∷ bs) ≡ hoursFrom cap bs)
   unfolding highestBelow hoursFrom sumOver
   pass-below l =
-      let kw = count-true (b .kw) (lt-ltb (b .kw) cap l) in
-      let out = count-false (b .hours) (lt-leb cap (b .kw) l) in
+      let kw = when-is-true (b .kw) (lt-ltb (b .kw) cap l) in
+      let out = when-is-false (b .hours) (lt-leb cap (b .kw) l) in
       (omega arith, omega arith)
 
   -- and any other adds its hours
   pub pass-from : cap ≤ b .kw → (highestBelow cap (b ∷ bs) ≡ highestBelow cap bs) × (hoursFrom cap (b ∷ bs) ≡ b .hours + hoursFrom cap bs)
   unfolding highestBelow hoursFrom sumOver
   pass-from l =
-      let kw = count-false (b .kw) (le-ltb (b .kw) cap l) in
-      let hours = count-true (b .hours) (le-leb cap (b .kw) l) in
+      let kw = when-is-false (b .kw) (le-ltb (b .kw) cap l) in
+      let hours = when-is-true (b .hours) (le-leb cap (b .kw) l) in
       (omega arith, omega arith)
 
 -- some block has the next kW, or none is below this one and all the hours are at or above it
@@ -142,7 +142,7 @@ next-among cap bs h = go (next-or-none cap bs)
 pub from-within-present : (cap : ℕ) (bs : List Block) → hoursFrom cap bs ≤ presentHours bs
 unfolding hoursFrom presentHours
 from-within-present cap bs =
-    sum-mono (λ b. countIf (leb cap (b .kw)) (b .hours)) (λ b. b .hours) bs (λ b. count-le (leb cap (b .kw)) (b .hours))
+    sum-mono (λ b. whenTrue (leb cap (b .kw)) (b .hours)) (λ b. b .hours) bs (λ b. when-le (leb cap (b .kw)) (b .hours))
 
 -- the same steps in a pass over the slices, at block number i
 module _ (cap : ℕ) (hs ks : List ℕ) (i : ℕ) where

@@ -8,7 +8,7 @@ use borrow.Author.Tests.{eqb-true, eqb-false, ne-eqb, leb-true, leb-false, le-le
 use Rattle.tariff.specs.declared.limit.Sums.{Sums}
 use Rattle.tariff.specs.Ranges.{within}
 use Rattle.tariff.specs.Eligible.{seasonalEligible, priorityEligible}
-use Rattle.tariff.specs.Limit.{limitTier1, limitTier2, limitTier3, limitEvenTier, limitOddTier, limitBy, formulaOf, limit}
+use Rattle.tariff.specs.Limit.{limitTier1, limitTier2, limitTier3, limitEvenTier, limitOddTier, limitBy, formulaOf, limitOfSums}
 
 pub seasonal-le : (load : ℕ) → seasonalEligible load ≤ load
 unfolding seasonalEligible
@@ -24,24 +24,24 @@ unfolding priorityEligible seasonalEligible
 half-load-never-tighter load = omega arith
 
 -- the limit by the tier's number, one law to a formula
-pub limit-one : (s : Sums) → limit 1 s ≡ limitTier1 s
-unfolding limit limitBy formulaOf within
+pub limit-one : (s : Sums) → limitOfSums 1 s ≡ limitTier1 s
+unfolding limitOfSums limitBy formulaOf within
 limit-one s = refl
 
-pub limit-two : (s : Sums) → limit 2 s ≡ limitTier2 s
-unfolding limit limitBy formulaOf within
+pub limit-two : (s : Sums) → limitOfSums 2 s ≡ limitTier2 s
+unfolding limitOfSums limitBy formulaOf within
 limit-two s = refl
 
-pub limit-three : (s : Sums) → limit 3 s ≡ limitTier3 s
-unfolding limit limitBy formulaOf within
+pub limit-three : (s : Sums) → limitOfSums 3 s ≡ limitTier3 s
+unfolding limitOfSums limitBy formulaOf within
 limit-three s = refl
 
-pub limit-even : (tier : ℕ) (s : Sums) → 3 < tier → eqb (tier % 2) 0 ≡ true → limit tier s ≡ limitEvenTier s
-unfolding limit limitBy formulaOf within
+pub limit-even : (tier : ℕ) (s : Sums) → 3 < tier → eqb (tier % 2) 0 ≡ true → limitOfSums tier s ≡ limitEvenTier s
+unfolding limitOfSums limitBy formulaOf within
 limit-even tier s l e = rw (ne-eqb tier 1 (λ q. omega (arith, q)), le-leb 2 tier (omega arith), lt-leb tier 3 l, e)
 
-pub limit-odd : (tier : ℕ) (s : Sums) → 3 < tier → eqb (tier % 2) 0 ≡ false → limit tier s ≡ limitOddTier s
-unfolding limit limitBy formulaOf within
+pub limit-odd : (tier : ℕ) (s : Sums) → 3 < tier → eqb (tier % 2) 0 ≡ false → limitOfSums tier s ≡ limitOddTier s
+unfolding limitOfSums limitBy formulaOf within
 limit-odd tier s l e = rw (ne-eqb tier 1 (λ q. omega (arith, q)), le-leb 2 tier (omega arith), lt-leb tier 3 l, e)
 
 -- which formula a tier has
@@ -72,11 +72,11 @@ tier-case tier low = by-three (leb tier 3) refl
     by-three false e = above (leb-false tier 3 e) (eqb (tier % 2) 0) refl
 
 -- a limit is at most the load
-pub limit-le-load : (tier : ℕ) (s : Sums) → 1 ≤ tier → limit tier s ≤ s .load
+pub limit-le-load : (tier : ℕ) (s : Sums) → 1 ≤ tier → limitOfSums tier s ≤ s .load
 unfolding limitTier1 limitTier2 limitTier3 limitEvenTier limitOddTier
 limit-le-load tier s low = let seasonal = seasonal-le (s .load) in let priority = priority-le (s .load) in go seasonal priority (tier-case tier low)
   where
-    go : {n : ℕ} → seasonalEligible (s .load) ≤ s .load → priorityEligible (s .load) ≤ s .load → TierCase n → limit n s ≤ s .load
+    go : {n : ℕ} → seasonalEligible (s .load) ≤ s .load → priorityEligible (s .load) ≤ s .load → TierCase n → limitOfSums n s ≤ s .load
     go seasonal priority first = rw (limit-one s) (omega arith)
     go seasonal priority second = rw (limit-two s) (omega arith)
     go seasonal priority third = rw (limit-three s) (omega arith)
@@ -94,11 +94,11 @@ pub record SameBefore (tier : ℕ) (s u : Sums) : Type 0 where
   pub before : s .before ≡ u .before
 
 -- a tier's limit rests on earlier tiers alone
-pub limit-reads-before : (tier : ℕ) (s u : Sums) → 1 ≤ tier → SameBefore tier s u → limit tier s ≡ limit tier u
+pub limit-reads-before : (tier : ℕ) (s u : Sums) → 1 ≤ tier → SameBefore tier s u → limitOfSums tier s ≡ limitOfSums tier u
 unfolding limitTier1 limitTier2 limitTier3 limitEvenTier limitOddTier
 limit-reads-before tier s u low same = go (tier-case tier low) same
   where
-    go : {n : ℕ} → TierCase n → SameBefore n s u → limit n s ≡ limit n u
+    go : {n : ℕ} → TierCase n → SameBefore n s u → limitOfSums n s ≡ limitOfSums n u
     go first k = let p = ap priorityEligible (k .load) in rw (limit-one s, limit-one u) (omega arith)
     go second k = let p = ap priorityEligible (k .load) in rw (limit-two s, limit-two u) (omega (arith, k .tier1 (omega arith)))
     go third k =

@@ -12,7 +12,7 @@ use lib.Dec.{leb, ltb}
 use lib.ListN.{length, getD, drop, drop-of-length-le}
 use lib.Seq.{drop-cons}
 use borrow.Author.Tests.{leb-true, leb-false, ltb-false, ltb-true}
-use Rattle.tariff.specs.Sum.{only}
+use Rattle.tariff.specs.Sum.{filter}
 use Rattle.tariff.specs.Load.{smallest}
 use Rattle.tariff.specs.Levels.{highestKw}
 use Rattle.tariff.proofs.Tests.{both-ways}
@@ -41,18 +41,18 @@ smallest-is v (x ∷ y ∷ ys) (inl e) a = let rest = from-smallest v y ys (a .1
 smallest-is v (x ∷ y ∷ ys) (inr m) a = let rest = smallest-is v (y ∷ ys) m (a .1) in let here = a .0 in omega arith
 
 module _ (test : ℕ → Bool) (v : ℕ) where
-  among-passing : test v ≡ true → (xs : List ℕ) → Among v xs → Among v (only test xs)
-  unfolding only
+  among-passing : test v ≡ true → (xs : List ℕ) → Among v xs → Among v (filter test xs)
+  unfolding filter
   among-passing p [] m = absurd m
   among-passing p (x ∷ xs) (inl e) = rw (e, p) (inl refl)
   among-passing p (x ∷ xs) (inr m) = kept (test x) (among-passing p xs m)
     where
-      kept : (t : Bool) → Among v (only test xs) → Among v (cond t (x ∷ only test xs) (only test xs))
+      kept : (t : Bool) → Among v (filter test xs) → Among v (cond t (x ∷ filter test xs) (filter test xs))
       kept true r = inr r
       kept false r = r
 
-  all-passing : ((x : ℕ) → x < v → test x ≡ false) → (xs : List ℕ) → AllFrom v (only test xs)
-  unfolding only
+  all-passing : ((x : ℕ) → x < v → test x ≡ false) → (xs : List ℕ) → AllFrom v (filter test xs)
+  unfolding filter
   all-passing low [] = tt
   all-passing low (x ∷ xs) = kept (test x) refl (all-passing low xs)
     where
@@ -60,12 +60,12 @@ module _ (test : ℕ → Bool) (v : ℕ) where
       at-least true l p = absurd (both-ways p (low x (ltb-true x v l)))
       at-least false l p = ltb-false x v l
 
-      kept : (t : Bool) → test x ≡ t → AllFrom v (only test xs) → AllFrom v (cond t (x ∷ only test xs) (only test xs))
+      kept : (t : Bool) → test x ≡ t → AllFrom v (filter test xs) → AllFrom v (cond t (x ∷ filter test xs) (filter test xs))
       kept true p a = (at-least (ltb x v) refl p, a)
       kept false p a = a
 
-  pub smallest-passing : (xs : List ℕ) → Among v xs → test v ≡ true → ((x : ℕ) → x < v → test x ≡ false) → smallest (only test xs) ≡ v
-  smallest-passing xs m p low = smallest-is v (only test xs) (among-passing p xs m) (all-passing low xs)
+  pub smallest-passing : (xs : List ℕ) → Among v xs → test v ≡ true → ((x : ℕ) → x < v → test x ≡ false) → smallest (filter test xs) ≡ v
+  smallest-passing xs m p low = smallest-is v (filter test xs) (among-passing p xs m) (all-passing low xs)
 
 -- the larger of two numbers that stand in a list stands there too
 pub among-larger : (a b : ℕ) (xs : List ℕ) → Among a xs → Among b xs → Among (max a b) xs

@@ -6,18 +6,18 @@ use mathlib.Core.List.{List, [], _∷_, map}
 use native.Mathlib.Nat.{le-trans, min-le-left, sub-le}
 use lib.Dec.{ltb}
 use borrow.Author.Tests.{ltb-false}
-use Rattle.tariff.specs.Sum.{anyOf, only}
-use Rattle.tariff.specs.Load.{Block, smallest, seldomExceeded, metric, loadPosted}
+use Rattle.tariff.specs.Sum.{anyOf, filter}
+use Rattle.tariff.specs.Load.{Block, smallest, withinExceedance, metric, loadPosted}
 use Rattle.tariff.proofs.Tests.{or-unmet}
 
 module _ {A : Type 0} (test : A → Bool) where
   -- what no line passes, none of the lines picked out passes
-  none-picked : (pick : A → Bool) (xs : List A) → anyOf xs test ≡ false → anyOf (only pick xs) test ≡ false
-  unfolding anyOf only
-  none-picked pick [] e = refl
-  none-picked pick (x ∷ xs) e = go (pick x) (or-unmet (test x) (anyOf xs test) e .0) (none-picked pick xs (or-unmet (test x) (anyOf xs test) e .1))
+  none-picked : (select : A → Bool) (xs : List A) → anyOf xs test ≡ false → anyOf (filter select xs) test ≡ false
+  unfolding anyOf filter
+  none-picked select [] e = refl
+  none-picked select (x ∷ xs) e = go (select x) (or-unmet (test x) (anyOf xs test) e .0) (none-picked select xs (or-unmet (test x) (anyOf xs test) e .1))
     where
-      go : (b : Bool) → test x ≡ false → anyOf (only pick xs) test ≡ false → anyOf (cond b (x ∷ only pick xs) (only pick xs)) test ≡ false
+      go : (b : Bool) → test x ≡ false → anyOf (filter select xs) test ≡ false → anyOf (cond b (x ∷ filter select xs) (filter select xs)) test ≡ false
       go true p ih = rw (p, ih)
       go false p ih = ih
 
@@ -39,8 +39,8 @@ smallest-le most (x ∷ y ∷ ys) e = le-trans (min-le-left x (smallest (y ∷ y
 pub metric-le : (most : ℕ) (bs : List Block) → anyOf bs (λ b. ltb most (b .kw)) ≡ false → metric bs ≤ most
 unfolding metric
 metric-le most bs e =
-    smallest-le most (only (seldomExceeded bs) (map (λ b. b .kw) bs))
-    (none-picked (λ x. ltb most x) (seldomExceeded bs) (map (λ b. b .kw) bs) (any-of-map (λ x. ltb most x) (λ b. b .kw) bs e))
+    smallest-le most (filter (withinExceedance bs) (map (λ b. b .kw) bs))
+    (none-picked (λ x. ltb most x) (withinExceedance bs) (map (λ b. b .kw) bs) (any-of-map (λ x. ltb most x) (λ b. b .kw) bs e))
 
 pub posted-le : (most contract : ℕ) (bs : List Block) → anyOf bs (λ b. ltb most (b .kw)) ≡ false → loadPosted contract bs ≤ most
 unfolding loadPosted

@@ -11,7 +11,7 @@ use borrow.Author.Tests.{leb-true, le-leb, lt-leb, ne-eqb}
 use Rattle.tariff.specs.declared.load.InOrder.the-variants.{Broken, Hours}
 use Rattle.tariff.specs.Sum.{sumOver, anyOf}
 use Rattle.tariff.specs.Load.{Block, inOrder, presentHours}
-use Rattle.tariff.specs.Metered.{blocksOf}
+use Rattle.tariff.specs.Metering.{blocksOf}
 use Rattle.tariff.specs.Levels.{orderedHours, EachLasts}
 use Rattle.tariff.proofs.Tests.{and-both, and-left-false, and-right-false}
 use Rattle.tariff.proofs.Blocks.{blocksFrom, blockAt, blocks-left, no-blocks-left, any-by-loads}
@@ -86,7 +86,7 @@ pub present-none-left : (fs hs : List ℕ) (i : ℕ) → length fs ≤ i → pre
 unfolding presentHours sumOver
 present-none-left fs hs i h = rw (no-blocks-left fs hs hs i h)
 
--- what the pass hands back
+-- what the pass returns
 pub ordered-broken : (n : ℕ) (bs : List Block) → inOrder n 0 bs ≡ false → Broken ≡ orderedHours n bs
 unfolding orderedHours
 ordered-broken n bs e = rw e

@@ -1,4 +1,4 @@
--- What a block list in three slices is refused for, and what it gives, from what a pass over it tells. Assumes nothing.
+-- What a block list in three slices is refused for, and what it gives, from what a pass over it gives. Assumes nothing.
 use Prim.Native.Nat.{ℕ, _*_, _-_, _/_, _≤_, _<_}
 use mathlib.Core.Path.{_≡_, refl, sym, ap, _∙_}
 use mathlib.Core.Bool.{Bool, true, false, cond, _||_}
@@ -7,11 +7,11 @@ use native.Mathlib.Omega.{arith}
 use lib.Dec.{eqb}
 use lib.ListN.{length}
 use borrow.Author.Tests.{eq-eqb, eqb-true, lt-ltb, le-ltb}
-use Rattle.tariff.specs.declared.load.Metered.{Metered}
-use Rattle.tariff.specs.declared.load.Metered.the-variants.{Unequal, Broken, Missing, Kw}
+use Rattle.tariff.specs.declared.load.Metering.{Metering}
+use Rattle.tariff.specs.declared.load.Metering.the-variants.{Unequal, Broken, Missing, Kw}
 use Rattle.tariff.specs.declared.load.InOrder.the-variants.{Hours, Broken as OutOfOrder}
 use Rattle.tariff.specs.Load.{Block, inOrder, isEmpty, blocksBroken, presentHours, missingHours, tooManyMissing, metric, loadPosted}
-use Rattle.tariff.specs.Metered.{blocksOf, sameLengths, unlessRefused, meteredOf, postedOf, meteredBy, blockRefusal}
+use Rattle.tariff.specs.Metering.{blocksOf, sameLengths, unlessRefused, metricOrCause, loadOrCause, meteringBy, blockRefusal}
 use Rattle.tariff.specs.Levels.{spansOf, loadsOf, orderedHours, Covering}
 use Rattle.tariff.proofs.Tests.{and-join, and-both}
 use Rattle.tariff.proofs.Blocks.{metric-by-loads, present-by-loads, present-by-spans, order-by-spans}
@@ -66,8 +66,8 @@ broken-order n bs e = go (inOrder n 0 bs) refl e
     go false p q = p
 
 module _ (fs hs ks : List ℕ) (n : ℕ) where
-  pub unequal : sameLengths fs hs ks ≡ false → Unequal ≡ meteredOf fs hs ks n
-  unfolding meteredOf meteredBy
+  pub unequal : sameLengths fs hs ks ≡ false → Unequal ≡ metricOrCause fs hs ks n
+  unfolding metricOrCause meteringBy
   unequal e = rw e
 
   pub lengths-same : sameLengths fs hs ks ≡ true → (length fs ≡ length hs) × (length hs ≡ length ks)
@@ -79,17 +79,17 @@ module _ (fs hs ks : List ℕ) (n : ℕ) where
     unfolding sameLengths
     same-lengths = and-join (eq-eqb (length fs) (length hs) p) (eq-eqb (length hs) (length ks) q)
 
-    refused-broken : blocksBroken n (blocksOf fs hs ks) ≡ true → Broken ≡ meteredOf fs hs ks n
-    unfolding meteredOf unlessRefused meteredBy blockRefusal
+    refused-broken : blocksBroken n (blocksOf fs hs ks) ≡ true → Broken ≡ metricOrCause fs hs ks n
+    unfolding metricOrCause unlessRefused meteringBy blockRefusal
     refused-broken e = rw (same-lengths, e)
 
     -- no block
-    pub broken-empty : length hs ≡ 0 → Broken ≡ meteredOf fs hs ks n
+    pub broken-empty : length hs ≡ 0 → Broken ≡ metricOrCause fs hs ks n
     unfolding blocksBroken
     broken-empty e = let none = empty-blocks fs hs ks (p ∙ e) in refused-broken (rw none)
 
     -- blocks out of order
-    pub broken-blocks : OutOfOrder ≡ orderedHours n (spansOf fs hs) → Broken ≡ meteredOf fs hs ks n
+    pub broken-blocks : OutOfOrder ≡ orderedHours n (spansOf fs hs) → Broken ≡ metricOrCause fs hs ks n
     broken-blocks e = refused-broken (out-of-order n (blocksOf fs hs ks) (sym (order-by-spans n fs hs ks q) ∙ broken-order n (spansOf fs hs) e))
 
 -- what is known past the tests of lengths and order
@@ -124,41 +124,41 @@ module _ {fs hs ks : List ℕ} {n present : ℕ} (w : Passed fs hs ks n present)
       }
 
   -- more than 1 hour in 50 is missing
-  pub missing-hours : n / 50 < n - present → Missing ≡ meteredOf fs hs ks n
-  unfolding meteredOf unlessRefused meteredBy blockRefusal
+  pub missing-hours : n / 50 < n - present → Missing ≡ metricOrCause fs hs ks n
+  unfolding metricOrCause unlessRefused meteringBy blockRefusal
   missing-hours l =
       let many = too-many n present (blocksOf fs hs ks) covered l in
       rw (same-lengths fs hs ks n (w .timed) (w .paired), unbroken, many)
 
   -- no refusal
-  pub metered : {kw : ℕ} → n - present ≤ n / 50 → kw ≡ metric (loadsOf hs ks) → Kw kw ≡ meteredOf fs hs ks n
-  unfolding meteredOf unlessRefused meteredBy blockRefusal
+  pub metered : {kw : ℕ} → n - present ≤ n / 50 → kw ≡ metric (loadsOf hs ks) → Kw kw ≡ metricOrCause fs hs ks n
+  unfolding metricOrCause unlessRefused meteringBy blockRefusal
   metered l found =
       let few = few-enough n present (blocksOf fs hs ks) covered l in
       rw (same-lengths fs hs ks n (w .timed) (w .paired), unbroken, few, found, metric-by-loads fs hs ks (w .timed))
 
 -- contract load off a kW; a refusal stays
-abbrev pub less : ℕ → Metered → Metered
-less contract Unequal = Unequal
-less contract Broken = Broken
-less contract Missing = Missing
-less contract (Kw kw) = Kw (kw - contract)
+abbrev pub afterContract : ℕ → Metering → Metering
+afterContract contract Unequal = Unequal
+afterContract contract Broken = Broken
+afterContract contract Missing = Missing
+afterContract contract (Kw kw) = Kw (kw - contract)
 
-posted-is-less : (fs hs ks : List ℕ) (n contract : ℕ) → less contract (meteredOf fs hs ks n) ≡ postedOf fs hs ks n contract
-unfolding meteredOf postedOf unlessRefused meteredBy blockRefusal loadPosted
-posted-is-less fs hs ks n contract = go (sameLengths fs hs ks) (blocksBroken n (blocksOf fs hs ks)) (tooManyMissing n (blocksOf fs hs ks))
+posted-after-contract : (fs hs ks : List ℕ) (n contract : ℕ) → afterContract contract (metricOrCause fs hs ks n) ≡ loadOrCause fs hs ks n contract
+unfolding metricOrCause loadOrCause unlessRefused meteringBy blockRefusal loadPosted
+posted-after-contract fs hs ks n contract = go (sameLengths fs hs ks) (blocksBroken n (blocksOf fs hs ks)) (tooManyMissing n (blocksOf fs hs ks))
   where
     kw : ℕ
     kw = metric (blocksOf fs hs ks)
 
-    go : (same broken missing : Bool) → less contract (cond same (meteredBy (cond broken 6 (cond missing 7 0)) kw) (meteredBy 1 0))
-        ≡ cond same (meteredBy (cond broken 6 (cond missing 7 0)) (kw - contract)) (meteredBy 1 0)
+    go : (same broken missing : Bool) → afterContract contract (cond same (meteringBy (cond broken 6 (cond missing 7 0)) kw) (meteringBy 1 0))
+        ≡ cond same (meteringBy (cond broken 6 (cond missing 7 0)) (kw - contract)) (meteringBy 1 0)
     go false broken missing = refl
     go true true missing = refl
     go true false true = refl
     go true false false = refl
 
--- the load posted, from what the metric's function handed back
-pub posted-from : (fs hs ks : List ℕ) (n contract : ℕ) {handed m : Metered} → handed ≡ meteredOf fs hs ks n → handed ≡ m
-    → less contract m ≡ postedOf fs hs ks n contract
-posted-from fs hs ks n contract e same = ap (less contract) (sym same ∙ e) ∙ posted-is-less fs hs ks n contract
+-- the load posted, from what the metric's function returned
+pub posted-from : (fs hs ks : List ℕ) (n contract : ℕ) {given m : Metering} → given ≡ metricOrCause fs hs ks n → given ≡ m
+    → afterContract contract m ≡ loadOrCause fs hs ks n contract
+posted-from fs hs ks n contract e same = ap (afterContract contract) (sym same ∙ e) ∙ posted-after-contract fs hs ks n contract

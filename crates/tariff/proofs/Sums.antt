@@ -8,30 +8,30 @@ use native.Mathlib.Numerals.{add-one}
 use native.Mathlib.Omega.{arith}
 use lib.Dec.{eqb}
 use borrow.Author.Tests.{eqb-true, eqb-false, eq-eqb, ne-eqb}
-use Rattle.tariff.specs.Sum.{countIf, sumTo}
+use Rattle.tariff.specs.Sum.{whenTrue, sumTo}
 
-pub count-true : {t : Bool} (v : ℕ) → t ≡ true → countIf t v ≡ v
-unfolding countIf
-count-true v e = rw e
+pub when-is-true : {t : Bool} (v : ℕ) → t ≡ true → whenTrue t v ≡ v
+unfolding whenTrue
+when-is-true v e = rw e
 
-pub count-false : {t : Bool} (v : ℕ) → t ≡ false → countIf t v ≡ 0
-unfolding countIf
-count-false v e = rw e
+pub when-is-false : {t : Bool} (v : ℕ) → t ≡ false → whenTrue t v ≡ 0
+unfolding whenTrue
+when-is-false v e = rw e
 
-pub count-le : (t : Bool) (v : ℕ) → countIf t v ≤ v
-unfolding countIf
-count-le true v = le-refl v
-count-le false v = zero-le
+pub when-le : (t : Bool) (v : ℕ) → whenTrue t v ≤ v
+unfolding whenTrue
+when-le true v = le-refl v
+when-le false v = zero-le
 
-pub count-zero : (t : Bool) → countIf t 0 ≡ 0
-unfolding countIf
-count-zero true = refl
-count-zero false = refl
+pub when-zero : (t : Bool) → whenTrue t 0 ≡ 0
+unfolding whenTrue
+when-zero true = refl
+when-zero false = refl
 
-pub count-add : (t : Bool) (a b : ℕ) → countIf t (a + b) ≡ countIf t a + countIf t b
-unfolding countIf
-count-add true a b = refl
-count-add false a b = refl
+pub when-add : (t : Bool) (a b : ℕ) → whenTrue t (a + b) ≡ whenTrue t a + whenTrue t b
+unfolding whenTrue
+when-add true a b = refl
+when-add false a b = refl
 
 pub below-suc : {k n : ℕ} → k < suc n → (k < n) ⊎ (k ≡ n)
 below-suc {k} {n} h = split (eqb k n) refl
@@ -86,19 +86,19 @@ term-le-sum f (suc n) k h = go (below-suc h) (term-le-sum f n k)
     go (inr e) ih = let t = ap f e in omega arith
 
 -- v in one place below n, and 0 elsewhere
-pub sum-one : (v n k : ℕ) → k < n → sumTo n (λ i. countIf (eqb i k) v) ≡ v
+pub sum-one : (v n k : ℕ) → k < n → sumTo n (λ i. whenTrue (eqb i k) v) ≡ v
 unfolding sumTo
 sum-one v zero k h = absurd (not-suc-le-zero h)
 sum-one v (suc n) k h = go (below-suc h) (sum-one v n k)
   where
-    other : (i : ℕ) → (i ≡ k → ⊥) → countIf (eqb i k) v ≡ 0
-    other i ne = count-false v (ne-eqb i k ne)
+    other : (i : ℕ) → (i ≡ k → ⊥) → whenTrue (eqb i k) v ≡ 0
+    other i ne = when-is-false v (ne-eqb i k ne)
 
-    go : (k < n) ⊎ (k ≡ n) → (k < n → sumTo n (λ i. countIf (eqb i k) v) ≡ v) → sumTo n (λ i. countIf (eqb i k) v) + countIf (eqb n k) v ≡ v
+    go : (k < n) ⊎ (k ≡ n) → (k < n → sumTo n (λ i. whenTrue (eqb i k) v) ≡ v) → sumTo n (λ i. whenTrue (eqb i k) v) + whenTrue (eqb n k) v ≡ v
     go (inl l) ih = let a = ih l in let b = other n (λ e. omega (arith, e)) in omega arith
     go (inr e) ih =
-        let a = sum-zero {f = λ i. countIf (eqb i k) v} n (λ i l. other i (λ q. omega (arith, q))) in
-        let b = count-true v (eq-eqb n k (sym e)) in
+        let a = sum-zero {f = λ i. whenTrue (eqb i k) v} n (λ i l. other i (λ q. omega (arith, q))) in
+        let b = when-is-true v (eq-eqb n k (sym e)) in
         omega arith
 
 -- a sum that a loop forms: nothing yet, one term more, all

@@ -5,7 +5,7 @@ use lib.Dec.{leb, eqb}
 use Rattle.tariff.specs.declared.evidence.Evidence.{Evidence}
 use Rattle.tariff.specs.declared.evidence.Evidence.the-variants.{Empty, Ownership, Contract}
 use Rattle.tariff.specs.declared.evidence.Entry.{Entry}
-use Rattle.tariff.specs.Sum.{countIf}
+use Rattle.tariff.specs.Sum.{whenTrue}
 use Rattle.tariff.specs.Sizes.{lastMonth, ownership, wholePlant}
 
 -- an entry that nothing was filed in
@@ -36,4 +36,4 @@ countsFor term e = cond (eqb term 0) (eqb (e .first) 1 && eqb (e .last) lastMont
 
 -- the kW of an entry for a term
 unfoldable pub entryKw : ℕ → Entry → ℕ
-entryKw term e = countIf (countsFor term e) (evidenceKw (e .evidence))
+entryKw term e = whenTrue (countsFor term e) (evidenceKw (e .evidence))

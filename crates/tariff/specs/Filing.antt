@@ -4,14 +4,14 @@ use mathlib.Core.Bool.{cond}
 use lib.Dec.{eqb}
 use Rattle.tariff.specs.declared.evidence.Entry.{Entry}
 use Rattle.tariff.specs.declared.evidence.Filing.{Filing}
-use Rattle.tariff.specs.declared.evidence.Filing.the-variants.{OutOfRange, Filed}
+use Rattle.tariff.specs.declared.evidence.Filing.the-variants.{OutOfRange, Valid}
 use Rattle.tariff.specs.Numbers.{outOfRange}
 use Rattle.tariff.specs.Evidence.{entryOf}
-use Rattle.tariff.specs.Ranges.{wrongEvidence}
+use Rattle.tariff.specs.Ranges.{evidenceOutOfRange}
 
 -- 01's number for each case, and the entry where no cause is met
 unfoldable pub filingBy : ℕ → Entry → Filing
-filingBy number e = cond (eqb number outOfRange) OutOfRange (Filed e)
+filingBy number e = cond (eqb number outOfRange) OutOfRange (Valid e)
 
 unfoldable pub filingOf : ℕ → ℕ → ℕ → ℕ → ℕ → Filing
-filingOf kind capacity right first last = filingBy (cond (wrongEvidence kind capacity right first last) outOfRange 0) (entryOf kind capacity right first last)
+filingOf kind capacity right first last = filingBy (cond (evidenceOutOfRange kind capacity right first last) outOfRange 0) (entryOf kind capacity right first last)

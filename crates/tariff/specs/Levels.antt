@@ -9,9 +9,9 @@ use lib.ListN.{length}
 use Rattle.tariff.specs.declared.load.InOrder.{InOrder}
 use Rattle.tariff.specs.declared.load.InOrder.the-variants.{Broken, Hours}
 use Rattle.tariff.specs.declared.load.Level.{Level}
-use Rattle.tariff.specs.Sum.{countIf, sumOver, anyOf}
+use Rattle.tariff.specs.Sum.{whenTrue, sumOver, anyOf}
 use Rattle.tariff.specs.Load.{Block, inOrder, presentHours}
-use Rattle.tariff.specs.Metered.{blocksOf}
+use Rattle.tariff.specs.Metering.{blocksOf}
 
 -- blocks by their first hours and hours, where the kW do not matter
 abbrev pub spansOf : List ℕ → List ℕ → List Block
@@ -33,11 +33,11 @@ highestKw (k ∷ ks) = max k (highestKw ks)
 -- the highest kW of the blocks that are below a kW, 0 without one
 unfoldable pub highestBelow : ℕ → List Block → ℕ
 highestBelow cap [] = 0
-highestBelow cap (b ∷ bs) = max (countIf (ltb (b .kw) cap) (b .kw)) (highestBelow cap bs)
+highestBelow cap (b ∷ bs) = max (whenTrue (ltb (b .kw) cap) (b .kw)) (highestBelow cap bs)
 
 -- the present hours in which the load is at or above a kW
 unfoldable pub hoursFrom : ℕ → List Block → ℕ
-hoursFrom cap bs = sumOver bs (λ b. countIf (leb cap (b .kw)) (b .hours))
+hoursFrom cap bs = sumOver bs (λ b. whenTrue (leb cap (b .kw)) (b .hours))
 
 -- a step down from a kW: the next kW, and the hours above that one
 unfoldable pub levelBelow : ℕ → List Block → Level

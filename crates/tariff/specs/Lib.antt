@@ -3,7 +3,7 @@ pub mod Sizes
 pub mod Numbers
 pub mod Sum
 pub mod Load
-pub mod Metered
+pub mod Metering
 pub mod Levels
 pub mod Eligible
 pub mod Terms

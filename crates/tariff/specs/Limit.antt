@@ -46,5 +46,5 @@ formulaOf tier = cond (eqb tier 1) First (cond (within 2 lastSeasonTier tier) (c
 unfoldable pub ruleOf : ℕ → TierRule
 ruleOf tier = record { formula = formulaOf tier; term = termOf tier }
 
-unfoldable pub limit : ℕ → Sums → ℕ
-limit tier s = limitBy (formulaOf tier) s
+unfoldable pub limitOfSums : ℕ → Sums → ℕ
+limitOfSums tier s = limitBy (formulaOf tier) s

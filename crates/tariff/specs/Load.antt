@@ -3,7 +3,7 @@ use Prim.Native.Nat.{ℕ, _+_, _*_, _-_, _/_, min}
 use mathlib.Core.Bool.{Bool, true, false, not, _&&_, _||_}
 use mathlib.Core.List.{List, [], _∷_, map}
 use lib.Dec.{leb, ltb}
-use Rattle.tariff.specs.Sum.{countIf, sumOver, only}
+use Rattle.tariff.specs.Sum.{whenTrue, sumOver, filter}
 
 -- a run of hours with one load: its first hour, counted from 0, how many hours it has, and the kW
 pub record Block : Type 0 where
@@ -38,15 +38,15 @@ tooManyMissing n bs = ltb n (missingHours n bs * 50)
 
 -- the present hours in which the load is above kw: hours are counted, not blocks
 unfoldable pub hoursAbove : ℕ → List Block → ℕ
-hoursAbove kw bs = sumOver bs (λ b. countIf (ltb kw (b .kw)) (b .hours))
+hoursAbove kw bs = sumOver bs (λ b. whenTrue (ltb kw (b .kw)) (b .hours))
 
 -- how many present hours may lie above the metric: 0.5% of them, rounded down
-unfoldable pub mayExceed : List Block → ℕ
-mayExceed bs = presentHours bs / 200
+unfoldable pub exceedanceHours : List Block → ℕ
+exceedanceHours bs = presentHours bs / 200
 
 -- this kW is exceeded in no more hours than may be
-unfoldable pub seldomExceeded : List Block → ℕ → Bool
-seldomExceeded bs kw = leb (hoursAbove kw bs) (mayExceed bs)
+unfoldable pub withinExceedance : List Block → ℕ → Bool
+withinExceedance bs kw = leb (hoursAbove kw bs) (exceedanceHours bs)
 
 -- the smallest number of a list, 0 for an empty one
 unfoldable pub smallest : List ℕ → ℕ
@@ -54,9 +54,9 @@ smallest [] = 0
 smallest (x ∷ []) = x
 smallest (x ∷ y ∷ ys) = min x (smallest (y ∷ ys))
 
--- the load metric: the smallest kW among the blocks that is exceeded seldom enough
+-- the load metric: the smallest kW among the blocks that is exceeded in few enough hours
 unfoldable pub metric : List Block → ℕ
-metric bs = smallest (only (seldomExceeded bs) (map (λ b. b .kw) bs))
+metric bs = smallest (filter (withinExceedance bs) (map (λ b. b .kw) bs))
 
 -- the load posted: the metric less the contract load, not below 0 (house)
 unfoldable pub loadPosted : ℕ → List Block → ℕ

@@ -7,27 +7,27 @@ use Rattle.tariff.specs.Terms.{isMonth}
 use Rattle.tariff.specs.Evidence.{highestRight}
 
 -- no kW is above this one, and that of carry, prior's a, capacity, nominate and award is 1 or more
-abbrev pub mostKw : ℕ
-mostKw = 99999999
+abbrev pub maxKw : ℕ
+maxKw = 99999999
 
 unfoldable pub within : ℕ → ℕ → ℕ → Bool
 within low high x = leb low x && leb x high
 
-unfoldable pub wrongKw : ℕ → Bool
-wrongKw kw = not (within 1 mostKw kw)
+unfoldable pub kwOutOfRange : ℕ → Bool
+kwOutOfRange kw = not (within 1 maxKw kw)
 
-unfoldable pub wrongTerm : ℕ → Bool
-wrongTerm term = ltb lastTerm term
+unfoldable pub termOutOfRange : ℕ → Bool
+termOutOfRange term = ltb lastTerm term
 
-unfoldable pub wrongMonth : ℕ → Bool
-wrongMonth m = not (isMonth m)
+unfoldable pub monthOutOfRange : ℕ → Bool
+monthOutOfRange m = not (isMonth m)
 
 -- verify: kind 1 or 2, the right from 1 to the highest of its kind, months 1 to 3 in order
-unfoldable pub wrongEvidence : ℕ → ℕ → ℕ → ℕ → ℕ → Bool
-wrongEvidence kind capacity right first last =
+unfoldable pub evidenceOutOfRange : ℕ → ℕ → ℕ → ℕ → ℕ → Bool
+evidenceOutOfRange kind capacity right first last =
     not (within ownership contract kind)
-    || wrongKw capacity
+    || kwOutOfRange capacity
     || not (within 1 (highestRight kind capacity) right)
-    || wrongMonth first
-    || wrongMonth last
+    || monthOutOfRange first
+    || monthOutOfRange last
     || ltb last first

@@ -4,8 +4,8 @@ use mathlib.Core.Bool.{Bool, true, false, cond, _&&_, _||_}
 use mathlib.Core.List.{List, [], _∷_, _++_}
 
 -- v where the test passes, else 0
-unfoldable pub countIf : Bool → ℕ → ℕ
-countIf test v = cond test v 0
+unfoldable pub whenTrue : Bool → ℕ → ℕ
+whenTrue test v = cond test v 0
 
 -- f 0 + f 1 + .. + f (n − 1)
 unfoldable pub sumTo : ℕ → (ℕ → ℕ) → ℕ
@@ -34,11 +34,11 @@ module _ {A : Type 0} where
   anyOf (x ∷ xs) test = test x || anyOf xs test
 
   -- the lines of a list that pass the test
-  unfoldable pub only : (A → Bool) → List A → List A
-  only test [] = []
-  only test (x ∷ xs) = cond (test x) (x ∷ only test xs) (only test xs)
+  unfoldable pub filter : (A → Bool) → List A → List A
+  filter test [] = []
+  filter test (x ∷ xs) = cond (test x) (x ∷ filter test xs) (filter test xs)
 
   -- the list of f 0, f 1, .. f (n − 1)
-  unfoldable pub listTo : ℕ → (ℕ → A) → List A
-  listTo zero f = []
-  listTo (suc n) f = listTo n f ++ (f n ∷ [])
+  unfoldable pub tabulate : ℕ → (ℕ → A) → List A
+  tabulate zero f = []
+  tabulate (suc n) f = tabulate n f ++ (f n ∷ [])

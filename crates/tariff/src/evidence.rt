@@ -7,7 +7,7 @@ use crate::sizes::WHOLE_PLANT;
 ghost use mathlib.Core.Path.{_≡_};
 ghost use mathlib.Core.Bool.{not};
 ghost use Rattle.tariff.specs.Evidence.{evidenceKw, countsFor, entryKw, highestRight};
-ghost use Rattle.tariff.specs.Ranges.{wrongEvidence, within};
+ghost use Rattle.tariff.specs.Ranges.{evidenceOutOfRange, within};
 ghost use Rattle.tariff.specs.Filing.{filingOf};
 
 // What a holder has shown: nothing, a part of a plant, or a contract.
@@ -29,7 +29,7 @@ pub struct Entry {
 // What a caller's numbers come to: an entry, or a field outside its range.
 pub enum Filing {
     OutOfRange,
-    Filed(Entry),
+    Valid(Entry),
 }
 
 // A number from low to high.
@@ -52,7 +52,7 @@ fn highest_right(kind: u64, capacity: u64) -> u64
 
 // Whether a caller's numbers are those of an evidence.
 pub fn evidence_in_range(kind: u64, capacity: u64, right: u64, first: u64, last: u64) -> bool
-    ensures { λ r. ⌜ r ≡ not (wrongEvidence kind capacity right first last) ⌝ }
+    ensures { λ r. ⌜ r ≡ not (evidenceOutOfRange kind capacity right first last) ⌝ }
 {
     let kind_fits = is_within(OWNERSHIP, CONTRACT, kind);
     let capacity_fits = is_within(1, MAX_KW, capacity);
@@ -75,7 +75,7 @@ pub fn file_evidence(kind: u64, capacity: u64, right: u64, first: u64, last: u64
             capacity: capacity as u32,
             right: right as u16,
         };
-        return Filing::Filed(Entry {
+        return Filing::Valid(Entry {
             evidence,
             first: first as u8,
             last: last as u8,
@@ -84,7 +84,7 @@ pub fn file_evidence(kind: u64, capacity: u64, right: u64, first: u64, last: u64
     let evidence = Evidence::Contract {
         right: right as u32,
     };
-    Filing::Filed(Entry {
+    Filing::Valid(Entry {
         evidence,
         first: first as u8,
         last: last as u8,

@@ -4,7 +4,7 @@ use crate::terms::term_of;
 ghost use mathlib.Core.Path.{_≡_};
 ghost use Prim.Native.Nat.{_-_};
 ghost use Rattle.tariff.specs.Eligible.{seasonalEligible, priorityEligible};
-ghost use Rattle.tariff.specs.Limit.{limitTier1, limitTier2, limitTier3, limitEvenTier, limitOddTier, limitBy, ruleOf, limit};
+ghost use Rattle.tariff.specs.Limit.{limitTier1, limitTier2, limitTier3, limitEvenTier, limitOddTier, limitBy, ruleOf, limitOfSums};
 
 // What a limit is made of, for one holder, base and tier.
 pub struct Sums {
@@ -66,7 +66,7 @@ pub fn tier_rule(tier: u64) -> TierRule
 }
 
 // a less b, not below 0.
-pub fn less(a: u64, b: u64) -> u64
+pub fn saturating_sub(a: u64, b: u64) -> u64
     ensures { λ r. ⌜ r ≡ a - b ⌝ }
 {
     if b <= a { a - b } else { 0 }
@@ -90,8 +90,8 @@ pub fn priority_eligible(load: u64) -> u64
 fn limit_tier_1(s: Sums) -> u64
     ensures { λ r. ⌜ r ≡ limitTier1 s ⌝ }
 {
-    let by_load = less(priority_eligible(s.load), s.carried);
-    let by_prior = less(s.prior, s.carried);
+    let by_load = saturating_sub(priority_eligible(s.load), s.carried);
+    let by_prior = saturating_sub(s.prior, s.carried);
     if by_load <= by_prior {
         by_load
     } else {
@@ -102,14 +102,17 @@ fn limit_tier_1(s: Sums) -> u64
 fn limit_tier_2(s: Sums) -> u64
     ensures { λ r. ⌜ r ≡ limitTier2 s ⌝ }
 {
-    less(less(priority_eligible(s.load), s.tier1), s.carried)
+    saturating_sub(
+        saturating_sub(priority_eligible(s.load), s.tier1),
+        s.carried,
+    )
 }
 
 fn limit_tier_3(s: Sums) -> u64
     ensures { λ r. ⌜ r ≡ limitTier3 s ⌝ }
 {
-    less(
-        less(less(seasonal_eligible(s.load), s.tier1), s.tier2),
+    saturating_sub(
+        saturating_sub(saturating_sub(seasonal_eligible(s.load), s.tier1), s.tier2),
         s.carried,
     )
 }
@@ -118,8 +121,11 @@ fn limit_tier_3(s: Sums) -> u64
 fn limit_even_tier(s: Sums) -> u64
     ensures { λ r. ⌜ r ≡ limitEvenTier s ⌝ }
 {
-    less(
-        less(less(less(s.load, s.tier1), s.tier2), s.tier3),
+    saturating_sub(
+        saturating_sub(
+            saturating_sub(saturating_sub(s.load, s.tier1), s.tier2),
+            s.tier3,
+        ),
         s.carried,
     )
 }
@@ -128,7 +134,7 @@ fn limit_odd_tier(s: Sums) -> u64
     ensures { λ r. ⌜ r ≡ limitOddTier s ⌝ }
 {
     let before = s.before;
-    less(limit_even_tier(s), before)
+    saturating_sub(limit_even_tier(s), before)
 }
 
 // The limit by a formula.
@@ -145,8 +151,8 @@ pub fn limit_by(formula: Formula, s: Sums) -> u64
 }
 
 // The limit in a tier.
-pub fn tier_limit(tier: u64, s: Sums) -> u64
-    ensures { λ r. ⌜ r ≡ limit tier s ⌝ }
+pub fn limit_of_sums(tier: u64, s: Sums) -> u64
+    ensures { λ r. ⌜ r ≡ limitOfSums tier s ⌝ }
 {
     let rule = tier_rule(tier);
     let formula = rule.formula;

@@ -4,12 +4,12 @@ ghost use mathlib.Core.Path.{_≡_};
 ghost use Prim.Native.Nat.{max};
 ghost use lib.ListN.{length};
 ghost use Rattle.tariff.specs.Load.{metric};
-ghost use Rattle.tariff.specs.Metered.{sameLengths, meteredOf, postedOf};
+ghost use Rattle.tariff.specs.Metering.{sameLengths, metricOrCause, loadOrCause};
 ghost use Rattle.tariff.specs.Levels.{spansOf, loadsOf, orderedHours, highestKw, levelBelow, Countable, Covering};
-use crate::limit::less;
+use crate::limit::saturating_sub;
 
 // What a block list gives: the kW, or why it is refused.
-pub enum Metered {
+pub enum Metering {
     // The three slices differ in length: 1, as an unreadable line.
     Unequal,
     // 6
@@ -32,7 +32,7 @@ struct Level {
 }
 
 // The larger of two numbers.
-pub fn larger(a: u64, b: u64) -> u64
+pub fn max(a: u64, b: u64) -> u64
     ensures { λ r. ⌜ r ≡ max a b ⌝ }
 {
     if a < b { b } else { a }
@@ -75,7 +75,7 @@ fn highest(kws: &[u64]) -> u64
     let mut highest: u64 = 0;
     let mut i = 0;
     while i < kws.len() {
-        highest = larger(highest, kws[i]);
+        highest = max(highest, kws[i]);
         i += 1;
     }
     highest
@@ -92,7 +92,7 @@ fn level_below(hours: &[u64], kws: &[u64], cap: u64) -> Level
     while i < hours.len() {
         let length = hours[i];
         if kws[i] < cap {
-            kw = larger(kw, kws[i]);
+            kw = max(kw, kws[i]);
         } else {
             above += length;
         }
@@ -102,17 +102,17 @@ fn level_below(hours: &[u64], kws: &[u64], cap: u64) -> Level
 }
 
 // The smallest kW among the blocks that is exceeded in at most 0.5% of the present hours, rounded down. From the highest kW it goes
-// down to the next lower one as long as that one is exceeded seldom enough.
-fn seldom_exceeded(hours: &[u64], kws: &[u64], present: u64) -> u64
+// down to the next lower one as long as that one is exceeded in few enough hours.
+fn metric_of_blocks(hours: &[u64], kws: &[u64], present: u64) -> u64
     requires { ⌜ Covering (now hours) (now kws) present ⌝ }
     ensures { λ r. ⌜ r ≡ metric (loadsOf (now (hours .entry)) (now (kws .entry))) ⌝ }
 {
-    let may_exceed = present / 200;
+    let exceedance_hours = present / 200;
     let mut kw = highest(kws);
     let mut below = level_below(hours, kws, kw);
-    // Each turn goes on to a lower kW that some block has, and that block's hours, 1 or more, add to those above the next. So the passes
-    // over the blocks are at most may_exceed + 2, for 2,208 hours 13, however many blocks there are.
-    while below.above <= may_exceed {
+    // Each pass goes down to a lower kW that some block has, and that block's hours, 1 or more, add to those above the next. So the passes
+    // over the blocks are at most exceedance_hours + 2, for 2,208 hours 13, however many blocks there are.
+    while below.above <= exceedance_hours {
         kw = below.kw;
         below = level_below(hours, kws, kw);
     }
@@ -127,34 +127,34 @@ pub fn same_lengths(firsts: &[u64], hours: &[u64], kws: &[u64]) -> bool
 }
 
 // The load metric of a block list over n hours. Any numbers may stand in the slices.
-pub fn load_metric(firsts: &[u64], hours: &[u64], kws: &[u64], n: u64) -> Metered
-    ensures { λ r. ⌜ r ≡ meteredOf (now (firsts .entry)) (now (hours .entry)) (now (kws .entry)) n ⌝ }
+pub fn load_metric(firsts: &[u64], hours: &[u64], kws: &[u64], n: u64) -> Metering
+    ensures { λ r. ⌜ r ≡ metricOrCause (now (firsts .entry)) (now (hours .entry)) (now (kws .entry)) n ⌝ }
 {
     if !same_lengths(firsts, hours, kws) {
-        return Metered::Unequal;
+        return Metering::Unequal;
     }
     if hours.len() == 0 {
-        return Metered::Broken;
+        return Metering::Broken;
     }
     let InOrder::Hours(present) = present_in_order(firsts, hours, n) else {
-        return Metered::Broken;
+        return Metering::Broken;
     };
     // The rule compares 50 times the missing hours with n. That product may not fit, and this test says the same.
     let missing = n - present;
     if missing > n / 50 {
-        return Metered::Missing;
+        return Metering::Missing;
     }
-    Metered::Kw(seldom_exceeded(hours, kws, present))
+    Metering::Kw(metric_of_blocks(hours, kws, present))
 }
 
 // The load posted: the metric less the contract load, not below 0.
-pub fn load_posted(firsts: &[u64], hours: &[u64], kws: &[u64], n: u64, contract: u64) -> Metered
-    ensures { λ r. ⌜ r ≡ postedOf (now (firsts .entry)) (now (hours .entry)) (now (kws .entry)) n contract ⌝ }
+pub fn load_posted(firsts: &[u64], hours: &[u64], kws: &[u64], n: u64, contract: u64) -> Metering
+    ensures { λ r. ⌜ r ≡ loadOrCause (now (firsts .entry)) (now (hours .entry)) (now (kws .entry)) n contract ⌝ }
 {
     match load_metric(firsts, hours, kws, n) {
-        Metered::Unequal => Metered::Unequal,
-        Metered::Broken => Metered::Broken,
-        Metered::Missing => Metered::Missing,
-        Metered::Kw(kw) => Metered::Kw(less(kw, contract)),
+        Metering::Unequal => Metering::Unequal,
+        Metering::Broken => Metering::Broken,
+        Metering::Missing => Metering::Missing,
+        Metering::Kw(kw) => Metering::Kw(saturating_sub(kw, contract)),
     }
 }

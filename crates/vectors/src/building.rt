@@ -12,7 +12,7 @@ ghost use lib.ListN.{length};
 // The bytes that a script is built up in, and the most that are lent for the output.
 const ROOM: usize = 65_600;
 
-const MOST_LENT: usize = 65_536;
+const MAX_LENT: usize = 65_536;
 
 // Where N starts in `#times N LINE`, `#cut N` and `#lend N`.
 const TIMES_AT: usize = 7;
@@ -22,23 +22,23 @@ const CUT_AT: usize = 5;
 const LEND_AT: usize = 6;
 
 // Puts bytes after the script so far, as many as find room, and says how long it then is.
-fn append(script: &mut [u8; 65_600], used: usize, bytes: &[u8]) -> usize
-    requires { ⌜ used ≤ 65600 ⌝ }
+fn append(script: &mut [u8; 65_600], filled: usize, bytes: &[u8]) -> usize
+    requires { ⌜ filled ≤ 65600 ⌝ }
     ensures { λ r. ⌜ r ≤ 65600 ⌝ }
 {
-    let room = ROOM - used;
+    let room = ROOM - filled;
     if bytes.len() < room {
-        return write_bytes(script, used, bytes);
+        return write_bytes(script, filled, bytes);
     }
-    write_bytes(script, used, &bytes[..room])
+    write_bytes(script, filled, &bytes[..room])
 }
 
 // Appends so many copies of a line.
-fn append_times(script: &mut [u8; 65_600], used: usize, line: &[u8], times: usize) -> usize
-    requires { ⌜ used ≤ 65600 ⌝ }
+fn append_times(script: &mut [u8; 65_600], filled: usize, line: &[u8], times: usize) -> usize
+    requires { ⌜ filled ≤ 65600 ⌝ }
     ensures { λ r. ⌜ r ≤ 65600 ⌝ }
 {
-    let mut end = used;
+    let mut end = filled;
     let mut left = times;
     while 0 < left {
         end = append(script, end, line);
@@ -48,45 +48,45 @@ fn append_times(script: &mut [u8; 65_600], used: usize, line: &[u8], times: usiz
 }
 
 // What `#times N LINE` says. LINE starts after the blank that follows the number.
-fn append_copies(script: &mut [u8; 65_600], used: usize, line: &[u8]) -> usize
-    requires { ⌜ used ≤ 65600 ⌝ }
+fn append_copies(script: &mut [u8; 65_600], filled: usize, line: &[u8]) -> usize
+    requires { ⌜ filled ≤ 65600 ⌝ }
     ensures { λ r. ⌜ r ≤ 65600 ⌝ }
 {
     if line.len() <= TIMES_AT {
-        return used;
+        return filled;
     }
     let blank = TIMES_AT + bytes_before(&line[TIMES_AT..], b' ');
     if line.len() <= blank {
-        return used;
+        return filled;
     }
     let times = number_of(&line[TIMES_AT..blank]);
     let start = blank + 1;
-    append_times(script, used, &line[start..], times)
+    append_times(script, filled, &line[start..], times)
 }
 
 // What `#cut N` says.
-fn cut(used: usize, line: &[u8]) -> usize
-    requires { ⌜ used ≤ 65600 ⌝ }
+fn cut(filled: usize, line: &[u8]) -> usize
+    requires { ⌜ filled ≤ 65600 ⌝ }
     ensures { λ r. ⌜ r ≤ 65600 ⌝ }
 {
     let bytes = number_from(line, CUT_AT);
-    if bytes < used { used - bytes } else { 0 }
+    if bytes < filled { filled - bytes } else { 0 }
 }
 
 // The script's length after a line.
-fn after_line(script: &mut [u8; 65_600], used: usize, line: &[u8]) -> usize
-    requires used { ⌜ used ≤ 65600 ⌝ }
+fn after_line(script: &mut [u8; 65_600], filled: usize, line: &[u8]) -> usize
+    requires filled { ⌜ filled ≤ 65600 ⌝ }
     requires some { ⌜ 0 < length (now line) ⌝ }
     ensures { λ r. ⌜ r ≤ 65600 ⌝ }
 {
     let said = line_at(line, 0);
     match said {
-        Line::Script => append(script, used, line),
-        Line::Times => append_copies(script, used, line),
-        Line::Cut => cut(used, line),
-        Line::Vector => used,
-        Line::Lend => used,
-        Line::Note => used,
+        Line::Script => append(script, filled, line),
+        Line::Times => append_copies(script, filled, line),
+        Line::Cut => cut(filled, line),
+        Line::Vector => filled,
+        Line::Lend => filled,
+        Line::Note => filled,
     }
 }
 
@@ -94,14 +94,14 @@ fn after_line(script: &mut [u8; 65_600], used: usize, line: &[u8]) -> usize
 pub fn build(script: &mut [u8; 65_600], vector: &[u8]) -> usize
     ensures { λ r. ⌜ r ≤ 65600 ⌝ }
 {
-    let mut used: usize = 0;
+    let mut filled: usize = 0;
     let mut at: usize = 0;
     while at < vector.len() {
         let end = line_end(vector, at);
-        used = after_line(script, used, &vector[at..end]);
+        filled = after_line(script, filled, &vector[at..end]);
         at = end;
     }
-    used
+    filled
 }
 
 // How many bytes are lent after a line.
@@ -114,14 +114,14 @@ fn lent_after(lent: usize, line: &[u8]) -> usize
         return lent;
     };
     let bytes = number_from(line, LEND_AT);
-    if bytes < MOST_LENT { bytes } else { MOST_LENT }
+    if bytes < MAX_LENT { bytes } else { MAX_LENT }
 }
 
 // How many bytes a vector lends for the output.
 pub fn lent_bytes(vector: &[u8]) -> usize
     ensures { λ r. ⌜ r ≤ 65536 ⌝ }
 {
-    let mut lent = MOST_LENT;
+    let mut lent = MAX_LENT;
     let mut at: usize = 0;
     while at < vector.len() {
         let end = line_end(vector, at);

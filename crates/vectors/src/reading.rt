@@ -75,7 +75,7 @@ pub fn next_vector(text: &[u8], start: usize) -> usize
 // The number that a field writes, as in a script; 0 where it writes none.
 pub fn number_of(field: &[u8]) -> usize {
     match read_number(field) {
-        Numeral::No => 0,
+        Numeral::Invalid => 0,
         Numeral::Value(value) => value as usize,
     }
 }

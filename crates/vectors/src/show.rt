@@ -20,12 +20,12 @@ fn answer(script: &[u8], out: &mut [u8]) {
 
 // Runs the script at the start of an array, with so many bytes for its output. The array comes by value because the checker covers no part of an
 // array behind a reference.
-fn run_built(script: [u8; 65_600], used: usize, lent: usize)
-    requires used { ⌜ used ≤ 65600 ⌝ }
+fn run_built(script: [u8; 65_600], filled: usize, lent: usize)
+    requires filled { ⌜ filled ≤ 65600 ⌝ }
     requires lent { ⌜ lent ≤ 65536 ⌝ }
 {
     let mut out = io::large_buffer();
-    answer(&script[..used], &mut out[..lent]);
+    answer(&script[..filled], &mut out[..lent]);
 }
 
 // Prints the line that begins a vector.
@@ -42,7 +42,7 @@ pub fn run_vector(vector: &[u8])
 {
     show_title(vector);
     let mut script = [0u8; 65_600];
-    let used = build(&mut script, vector);
+    let filled = build(&mut script, vector);
     let lent = lent_bytes(vector);
-    run_built(script, used, lent);
+    run_built(script, filled, lent);
 }

@@ -1,7 +1,7 @@
 //! The scripts that are measured. Each stays within 65,536 bytes and 4,096
 //! lines.
 
-/// Four load-serving entities and two outside entities, four sources, a
+/// Four LSEs and two OBAALSEs, four sources, a
 /// Default LAP, a Sub-LAP of it, a custom LAP and a scheduling point, and a
 /// path from each source to each sink.
 fn opening() -> String {

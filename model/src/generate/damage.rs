@@ -62,7 +62,7 @@ fn double(random: &mut Random, script: &mut Vec<u8>) {
 fn insert(random: &mut Random, script: &mut Vec<u8>) {
     let place = random.below(script.len());
     let any = random.bits() as u8;
-    let byte = random.pick(&[b',', b'\n', b'0', b'9', b' ', b'-', 0, 255, any]);
+    let byte = random.select(&[b',', b'\n', b'0', b'9', b' ', b'-', 0, 255, any]);
     script.insert(place, byte);
 }
 
@@ -74,21 +74,21 @@ fn places(script: &[u8], test: impl Fn(u8) -> bool) -> Vec<usize> {
 fn change_digit(random: &mut Random, script: &mut [u8]) {
     let digits = places(script, |byte| byte.is_ascii_digit());
     if !digits.is_empty() {
-        script[random.pick(&digits)] = b'0' + random.up_to(9) as u8;
+        script[random.select(&digits)] = b'0' + random.up_to(9) as u8;
     }
 }
 
 fn remove_lf(random: &mut Random, script: &mut Vec<u8>) {
     let ends = places(script, |byte| byte == b'\n');
     if !ends.is_empty() {
-        script.remove(random.pick(&ends));
+        script.remove(random.select(&ends));
     }
 }
 
 fn add_cr(random: &mut Random, script: &mut Vec<u8>) {
     let ends = places(script, |byte| byte == b'\n');
     if !ends.is_empty() {
-        script.insert(random.pick(&ends), b'\r');
+        script.insert(random.select(&ends), b'\r');
     }
 }
 
@@ -101,7 +101,7 @@ fn count_off_by_one(random: &mut Random, script: &mut Vec<u8>) {
     if heads.is_empty() {
         return;
     }
-    let line = &mut lines[random.pick(&heads)];
+    let line = &mut lines[random.select(&heads)];
     let text = String::from_utf8_lossy(line).into_owned();
     let Some((start, count)) = text.trim_end().rsplit_once(',') else {
         return;

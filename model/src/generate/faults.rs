@@ -3,7 +3,7 @@
 use super::draft::Draft;
 use super::random::Random;
 use super::writer::Writer;
-use super::{moves, posting};
+use super::{migrate, posting};
 use crate::calendar::first_tier_of;
 
 /// Writes one call that is wrong in some way, or likely so.
@@ -13,7 +13,7 @@ pub(crate) fn fault(writer: &mut Writer) {
         2 => again(writer),
         3 | 4 => bad_blocks(writer),
         5 | 6 => bad_migration(writer),
-        7 => wrong_sink(writer),
+        7 => ineligible_sink(writer),
         8 => return unreadable(writer),
         9 => untimely(writer),
         10 => return far_migration(writer),
@@ -63,7 +63,7 @@ fn any_call(writer: &mut Writer) -> Draft {
 fn bent(writer: &mut Writer) -> Option<Draft> {
     let mut draft = any_call(writer);
     let odd = [0, 4, 9, 10, 16, 2_209, 100_000_000, 999_999_999];
-    let number = writer.random.pick(&odd);
+    let number = writer.random.select(&odd);
     let in_rows = !draft.rows.is_empty() && writer.random.one_in(2);
     let fields = if in_rows {
         let row = writer.random.below(draft.rows.len());
@@ -103,7 +103,7 @@ fn bad_blocks(writer: &mut Writer) -> Option<Draft> {
         0 => draft.rows.clear(),
         1 => draft.rows[place][1] = 0,
         2 => draft.rows[place][1] = hours + 1,
-        3 => draft.rows[place][0] = random.pick(&[hours, 999_999_999]),
+        3 => draft.rows[place][0] = random.select(&[hours, 999_999_999]),
         4 => draft.rows.reverse(),
         5 => draft.rows.insert(place, draft.rows[place].clone()),
         _ => {
@@ -126,8 +126,8 @@ fn bad_migration(writer: &mut Writer) -> Option<Draft> {
     let sink = random.below(writer.book.sinks) as u64;
     let from = random.below(writer.book.holders) as u64;
     let to = random.below(writer.book.holders) as u64;
-    let watts = random.pick(&[0, 1_000, 9_999_999, 10_000_000]);
-    let class = random.pick(&[1, 8, 8, 9]);
+    let watts = random.select(&[0, 1_000, 9_999_999, 10_000_000]);
+    let class = random.select(&[1, 8, 8, 9]);
     let times = if random.one_in(10) { 65 } else { 1 };
     let rows = vec![vec![from, to, class, 9_999, watts]; times];
     Some(Draft::migrate(term, sink, rows))
@@ -136,25 +136,25 @@ fn bad_migration(writer: &mut Writer) -> Option<Draft> {
 /// A migration of a term taken at random, mostly at a bad time.
 fn far_migration(writer: &mut Writer) {
     let term = writer.random.up_to(3);
-    moves::migration(writer, term);
+    migrate::write_migration(writer, term);
 }
 
 /// A posting or nomination at a sink that is not for the holder.
-fn wrong_sink(writer: &mut Writer) -> Option<Draft> {
+fn ineligible_sink(writer: &mut Writer) -> Option<Draft> {
     let (book, random) = (&writer.book, &mut writer.random);
-    let mut wrong = Vec::new();
+    let mut ineligible = Vec::new();
     for holder in 0..book.holders {
         for path in 0..book.paths {
             let sink = book.path_sink[path];
             if book.sink_ineligible(holder, sink) || book.is_sub_lap(sink) {
-                wrong.push([holder as u64, path as u64, sink as u64]);
+                ineligible.push([holder as u64, path as u64, sink as u64]);
             }
         }
     }
-    if wrong.is_empty() {
+    if ineligible.is_empty() {
         return None;
     }
-    let [holder, path, sink] = random.pick(&wrong);
+    let [holder, path, sink] = random.select(&ineligible);
     let word = if book.open_tier.is_some() {
         "nominate"
     } else {
@@ -182,7 +182,7 @@ fn untimely(writer: &mut Writer) -> Option<Draft> {
 /// A group with one line that cannot be read, or a line that no head counts.
 fn unreadable(writer: &mut Writer) {
     let mut text = match writer.random.up_to(3) {
-        0 => writer.random.pick(&STRAY_LINES).to_string(),
+        0 => writer.random.select(&STRAY_LINES).to_string(),
         _ => any_call(writer).text(),
     };
     mangle_one_line(&mut writer.random, &mut text);

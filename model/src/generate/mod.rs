@@ -7,7 +7,7 @@
 mod damage;
 mod draft;
 mod faults;
-mod moves;
+mod migrate;
 mod openings;
 mod posting;
 mod random;
@@ -52,7 +52,7 @@ fn write_season(mut writer: Writer) -> Vec<u8> {
     let mut later = posting::plan(&mut writer);
     for tier in 1..=last {
         posting::before_tier(&mut writer, tier, &mut later);
-        moves::before_tier(&mut writer, tier);
+        migrate::before_tier(&mut writer, tier);
         tiers::hold(&mut writer, tier);
     }
     faults::tail(&mut writer);

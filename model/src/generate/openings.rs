@@ -69,12 +69,12 @@ fn add_sink(random: &mut Random, opening: &mut Opening, sink: u64) {
         CUSTOM_LAP,
         SCHEDULING_POINT,
     ];
-    let mut kind = random.pick(&kinds);
+    let mut kind = random.select(&kinds);
     if sink == 0 && random.percent(70) || kind == SUB_LAP && default_laps.is_empty() {
         kind = DEFAULT_LAP;
     }
     let parent = if kind == SUB_LAP {
-        random.pick(&default_laps)
+        random.select(&default_laps)
     } else {
         sink
     };
@@ -106,14 +106,14 @@ fn break_a_rule(random: &mut Random, opening: &mut Opening) {
         3 => &mut opening.path_sources,
         4 => &mut opening.path_sinks,
         5 => {
-            opening.sources = random.pick(&[17, 100]);
+            opening.sources = random.select(&[17, 100]);
             return;
         }
         _ => return double_a_path(random, opening),
     };
     if !list.is_empty() {
         let place = random.below(list.len());
-        list[place] = random.pick(&[0, 3, 5, 16, 99]);
+        list[place] = random.select(&[0, 3, 5, 16, 99]);
     }
 }
 

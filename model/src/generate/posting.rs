@@ -3,7 +3,7 @@
 use super::draft::Draft;
 use super::random::Random;
 use super::writer::Writer;
-use super::{faults, moves, tiers};
+use super::{faults, migrate, tiers};
 use crate::calendar::first_tier_of;
 use crate::sizes::MAX_KW;
 
@@ -25,9 +25,9 @@ fn plan_loads(writer: &mut Writer, later: &mut Later) {
     let mut pairs = Vec::new();
     for holder in 0..writer.book.holders {
         for sink in 0..writer.book.sinks {
-            let used = writer.book.paths_with_base(sink).next().is_some();
+            let consumed = writer.book.paths_with_base(sink).next().is_some();
             let fits = writer.fits(holder, sink) && !writer.book.is_sub_lap(sink);
-            if fits && (used || writer.random.one_in(8)) {
+            if fits && (consumed || writer.random.one_in(8)) {
                 pairs.push((holder as u64, sink as u64));
             }
         }
@@ -52,12 +52,12 @@ fn plan_rights(writer: &mut Writer, later: &mut Later) {
     for (holder, path) in pairs {
         let on_path = [holder as u64, path as u64];
         if writer.random.percent(35) {
-            let part = writer.random.pick(&[1, 6, 12, 12, 30]);
+            let part = writer.random.select(&[1, 6, 12, 12, 30]);
             let kw = writer.kw(part);
             later.push((1, Draft::line("carry", &[on_path[0], on_path[1], kw])));
         }
         if writer.random.percent(70) {
-            let part = writer.random.pick(&[1, 2, 4]);
+            let part = writer.random.select(&[1, 2, 4]);
             let allocated = writer.kw(part);
             let long_term = match writer.random.up_to(4) {
                 0 => allocated,
@@ -92,10 +92,10 @@ fn plan_evidence(writer: &mut Writer, later: &mut Later) {
 
 /// Evidence that is in range; it may have been filed before.
 pub(crate) fn verify(writer: &mut Writer, holder: u64, source: u64, kind: u64) -> Draft {
-    let part = writer.random.pick(&[1, 1, 2, 8]);
+    let part = writer.random.select(&[1, 1, 2, 8]);
     let capacity = writer.kw(part);
     let right = match kind {
-        1 => writer.random.pick(&[1, 3_333, 5_000, 9_999, 10_000]),
+        1 => writer.random.select(&[1, 3_333, 5_000, 9_999, 10_000]),
         _ => writer.random.between(1, capacity),
     };
     let first = if writer.random.percent(75) {
@@ -116,7 +116,7 @@ pub(crate) fn verify(writer: &mut Writer, holder: u64, source: u64, kind: u64) -
 pub(crate) fn load(writer: &mut Writer, holder: u64, sink: u64, term: u64) -> Draft {
     let random_hours = writer.random.between(1, 2_208);
     let choices = [1, 50, 100, 199, 200, 400, 720, 2_208, random_hours];
-    let hours = writer.random.pick(&choices);
+    let hours = writer.random.select(&choices);
     let usual = writer.kw(1);
     let contract = match writer.random.up_to(9) {
         0 => usual + writer.random.up_to(3),
@@ -191,7 +191,7 @@ pub(crate) fn before_tier(writer: &mut Writer, tier: u64, later: &mut Later) {
     for (_, draft) in due {
         writer.say(&draft);
         if tier == 1 && writer.random.one_in(14) {
-            moves::migration(writer, 0);
+            migrate::write_migration(writer, 0);
         }
         if writer.random.one_in(9) {
             faults::fault(writer);

@@ -50,7 +50,7 @@ impl Random {
     }
 
     /// One of a list, which is not empty.
-    pub fn pick<T: Copy>(&mut self, list: &[T]) -> T {
+    pub fn select<T: Copy>(&mut self, list: &[T]) -> T {
         list[self.below(list.len())]
     }
 

@@ -46,8 +46,8 @@ fn nominate(writer: &mut Writer, holder: usize, path: usize, tier: u64) -> bool 
     let kw = match writer.random.up_to(9) {
         0..=3 => room,
         4 => room.saturating_add(1),
-        5 => writer.random.pick(&rooms).saturating_add(1),
-        6 => writer.random.pick(&rooms),
+        5 => writer.random.select(&rooms).saturating_add(1),
+        6 => writer.random.select(&rooms),
         _ => writer.random.up_to(room),
     };
     let fields = [holder as u64, path as u64, kw.clamp(1, MAX_KW)];

@@ -25,7 +25,7 @@ pub(crate) struct Writer {
 
 impl Writer {
     pub(crate) fn new(mut random: Random, book: Book, text: String) -> Writer {
-        let scale = random.pick(&[4, 60, 1_000, 1_000, 50_000, 3_000_000, MAX_KW]);
+        let scale = random.select(&[4, 60, 1_000, 1_000, 50_000, 3_000_000, MAX_KW]);
         Writer {
             lines: script::count_lines(text.as_bytes()),
             random,

@@ -11,12 +11,12 @@ use tally::Tally;
 
 /// What was drawn in the seasons replayed so far.
 #[derive(Default, Debug)]
-pub struct Drawn {
+pub struct Coverage {
     pub seasons: u64,
     /// How often each number was answered.
     pub numbers: [u64; 17],
     /// Seasons in which tier 9 was opened and closed.
-    pub whole: u64,
+    pub complete: u64,
     /// Seasons in which a migration moved load, by term.
     pub load_moved: [u64; 4],
     /// Seasons in which a migration moved a carried or awarded holding, by term.
@@ -34,24 +34,24 @@ struct Replay<'a> {
     book: Book,
     tally: Tally,
     answers: Vec<u8>,
-    drawn: &'a mut Drawn,
+    coverage: &'a mut Coverage,
     load_moved: [bool; 4],
     rights_moved: [bool; 4],
 }
 
 /// Replays the season of a seed: every sum is checked after every accepted
 /// call, and the answers are those that the script gets when it is run.
-pub fn replay(seed: u64, drawn: &mut Drawn) {
+pub fn replay(seed: u64, coverage: &mut Coverage) {
     let script = model::generate::season(seed);
     let expected = model::answers(&script).expect("a season is within its limits");
-    drawn.seasons += 1;
+    coverage.seasons += 1;
     let text = String::from_utf8(script).expect("a season is ASCII");
     let (opening, groups) = groups(&text);
     let opened = opening.ok_or(1).and_then(|opening| Book::open(&opening));
     let book = match opened {
         Ok(book) => book,
         Err(number) => {
-            drawn.numbers[number as usize] += 1;
+            coverage.numbers[number as usize] += 1;
             let refused = format!("no,{number:02}\n");
             assert_eq!(expected, refused.as_bytes(), "seed {seed}");
             return;
@@ -62,7 +62,7 @@ pub fn replay(seed: u64, drawn: &mut Drawn) {
         book,
         tally: Tally::default(),
         answers: b"ok\n".to_vec(),
-        drawn,
+        coverage,
         load_moved: [false; 4],
         rights_moved: [false; 4],
     };
@@ -73,12 +73,12 @@ pub fn replay(seed: u64, drawn: &mut Drawn) {
 impl Replay<'_> {
     fn answer(&mut self, group: &Group) {
         let answer = match group {
-            Group::Unreadable => Answer::No(1),
+            Group::Unreadable => Answer::Refused(1),
             Group::Query(query) => Answer::from_query(self.book.query(query)),
             Group::Call(call) => Answer::from_call(self.call(&call.lend())),
         };
-        if let Answer::No(number) = answer {
-            self.drawn.numbers[number as usize] += 1;
+        if let Answer::Refused(number) = answer {
+            self.coverage.numbers[number as usize] += 1;
         }
         answer.write(&mut self.answers);
     }
@@ -101,20 +101,20 @@ impl Replay<'_> {
 
     fn check_migration(&mut self, migrate: &Migrate, before: &Book) {
         let term = migrate.term as usize;
-        let moved = tally::check_migration(migrate, before, &self.book, self.seed);
+        let transfer = tally::check_migration(migrate, before, &self.book, self.seed);
         tally::check_other_loads(migrate, before, &self.book, self.seed);
-        self.load_moved[term] |= moved.load;
-        self.rights_moved[term] |= moved.rights;
+        self.load_moved[term] |= transfer.load;
+        self.rights_moved[term] |= transfer.rights;
     }
 
     fn count(&mut self, call: &Call) {
         match call {
             Call::Nominate(nominate) => {
-                self.drawn.nominated += 1;
+                self.coverage.nominated += 1;
                 let at = self.tally.at_the_limit(nominate, &self.book);
-                self.drawn.at_the_limit += u64::from(at);
+                self.coverage.at_the_limit += u64::from(at);
             }
-            Call::Award(_) => self.drawn.awarded += 1,
+            Call::Award(_) => self.coverage.awarded += 1,
             _ => {}
         }
     }
@@ -122,10 +122,10 @@ impl Replay<'_> {
     fn finish(&mut self, expected: &[u8]) {
         assert_eq!(self.answers, expected, "seed {}", self.seed);
         self.tally.check(&self.book, self.seed);
-        self.drawn.whole += u64::from(self.book.last_closed() == 9);
+        self.coverage.complete += u64::from(self.book.last_closed() == 9);
         for term in 0..4 {
-            self.drawn.load_moved[term] += u64::from(self.load_moved[term]);
-            self.drawn.rights_moved[term] += u64::from(self.rights_moved[term]);
+            self.coverage.load_moved[term] += u64::from(self.load_moved[term]);
+            self.coverage.rights_moved[term] += u64::from(self.rights_moved[term]);
         }
     }
 }

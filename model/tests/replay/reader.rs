@@ -91,15 +91,15 @@ pub fn groups(text: &str) -> (Option<Opening>, Vec<Group>) {
     let Some(Some(("book", counts))) = lines.first() else {
         return (None, Vec::new());
     };
-    let Some((opening, used)) = opening(counts, &lines[1..]) else {
+    let Some((opening, consumed)) = opening(counts, &lines[1..]) else {
         return (None, Vec::new());
     };
     let mut groups = Vec::new();
-    let mut at = 1 + used;
+    let mut at = 1 + consumed;
     while at < lines.len() {
-        let (group, used) = group(&lines[at], &lines[at + 1..]);
+        let (group, consumed) = group(&lines[at], &lines[at + 1..]);
         groups.push(group);
-        at += 1 + used;
+        at += 1 + consumed;
     }
     (Some(opening), groups)
 }
@@ -115,8 +115,8 @@ fn opening(counts: &[u64], lines: &[Line]) -> Option<(Opening, usize)> {
         paths,
         ..Opening::default()
     };
-    let used = (holders + sinks + paths) as usize;
-    for (place, line) in lines.get(..used)?.iter().enumerate() {
+    let consumed = (holders + sinks + paths) as usize;
+    for (place, line) in lines.get(..consumed)?.iter().enumerate() {
         let place = place as u64;
         let due = match place {
             _ if place < holders => "holder",
@@ -135,7 +135,7 @@ fn opening(counts: &[u64], lines: &[Line]) -> Option<(Opening, usize)> {
             }
         }
     }
-    Some((opening, used))
+    Some((opening, consumed))
 }
 
 /// A group, and the lines it takes after its head.
@@ -147,15 +147,15 @@ fn group(head: &Line, rest: &[Line]) -> (Group, usize) {
         return (one_line(word, n), 0);
     }
     let count = n[n.len() - 1] as usize;
-    let used = count.min(rest.len());
+    let consumed = count.min(rest.len());
     let due = if *word == "load" { "block" } else { "class" };
-    let whole = rest[..used]
+    let complete = rest[..consumed]
         .iter()
         .all(|line| matches!(line, Some((w, _)) if *w == due));
-    if !whole || used < count {
-        return (Group::Unreadable, used);
+    if !complete || consumed < count {
+        return (Group::Unreadable, consumed);
     }
-    let rows = rest[..used].iter().flatten().map(|line| &line.1);
+    let rows = rest[..consumed].iter().flatten().map(|line| &line.1);
     let call = if *word == "load" {
         let blocks = rows.map(|r| Block {
             first: r[0],
@@ -166,7 +166,7 @@ fn group(head: &Line, rest: &[Line]) -> (Group, usize) {
     } else {
         Owned::Migrate([n[0], n[1]], rows.map(|row| class_line(row)).collect())
     };
-    (Group::Call(call), used)
+    (Group::Call(call), consumed)
 }
 
 fn class_line(row: &[u64]) -> ClassLine {

@@ -187,7 +187,7 @@ fn load_posted(load: &Load) -> u64 {
 }
 
 /// Whether a migration moved anything.
-pub struct Moved {
+pub struct Transfer {
     pub load: bool,
     pub rights: bool,
 }
@@ -198,7 +198,7 @@ type Read = Box<dyn Fn(&Book, usize, usize) -> u64>;
 /// One record of a holder on a path, read from a book.
 struct Record {
     /// Whether the term's migration shares it out; otherwise it stays.
-    moves: bool,
+    transfers: bool,
     /// Whether it is a holding.
     held: bool,
     read: Read,
@@ -206,35 +206,40 @@ struct Record {
 
 /// Migration, said once more: m by pair, what each holder loses and gains of
 /// its load and of every record, and that no one loses more than it had.
-pub fn check_migration(migrate: &Migrate, before: &Book, after: &Book, seed: u64) -> Moved {
+pub fn check_migration(migrate: &Migrate, before: &Book, after: &Book, seed: u64) -> Transfer {
     let (sink, term) = (migrate.sink as usize, migrate.term as usize);
     let m = m_by_pair(migrate);
     let load: Vec<u64> = (0..before.holders())
         .map(|holder| before.load(holder, sink, term))
         .collect();
     let now = |holder| after.load(holder, sink, term);
-    let mut moved = Moved {
+    let mut transfer = Transfer {
         load: check_record(&load, now, |loser, gainer| m[loser][gainer], seed),
         rights: false,
     };
     for path in 0..before.paths() {
         let takes_part = before.base(before.path_sink(path)) == sink;
-        for Record { moves, held, read } in records(term) {
+        for Record {
+            transfers,
+            held,
+            read,
+        } in records(term)
+        {
             let values: Vec<u64> = (0..before.holders())
                 .map(|holder| read(before, holder, path))
                 .collect();
             let share = |loser: usize, gainer: usize| match m[loser][gainer] {
-                kw if kw > 0 && takes_part && moves => {
+                kw if kw > 0 && takes_part && transfers => {
                     let product = u128::from(values[loser]) * u128::from(kw);
                     (product / u128::from(load[loser])) as u64
                 }
                 _ => 0,
             };
             let now = |holder| read(after, holder, path);
-            moved.rights |= check_record(&values, now, share, seed) && held;
+            transfer.rights |= check_record(&values, now, share, seed) && held;
         }
     }
-    moved
+    transfer
 }
 
 /// One record of all holders: each loses its shares together, at most what it
@@ -245,15 +250,15 @@ fn check_record(
     share: impl Fn(usize, usize) -> u64,
     seed: u64,
 ) -> bool {
-    let mut moved = false;
+    let mut transfer = false;
     for (holder, &value) in values.iter().enumerate() {
         let lost: u64 = (0..values.len()).map(|other| share(holder, other)).sum();
         let gained: u64 = (0..values.len()).map(|other| share(other, holder)).sum();
         assert!(lost <= value, "seed {seed}");
         assert_eq!(now(holder), value - lost + gained, "seed {seed}");
-        moved |= lost + gained > 0;
+        transfer |= lost + gained > 0;
     }
-    moved
+    transfer
 }
 
 /// kW from the first holder to the second, by pair: signed watts, netted, then
@@ -274,19 +279,19 @@ fn records(term: usize) -> Vec<Record> {
     let mut records = Vec::new();
     for month in 1..=3 {
         records.push(Record {
-            moves: term == 0 || term == month,
+            transfers: term == 0 || term == month,
             held: true,
             read: Box::new(move |book, holder, path| book.carried(holder, path, month)),
         });
         records.push(Record {
-            moves: term == month,
+            transfers: term == month,
             held: true,
             read: Box::new(move |book, holder, path| book.awarded(holder, path, month)),
         });
     }
     for read in [Book::prior_allocated, Book::prior_rest] {
         records.push(Record {
-            moves: term == 0,
+            transfers: term == 0,
             held: false,
             read: Box::new(read),
         });

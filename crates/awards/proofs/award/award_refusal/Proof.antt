@@ -15,24 +15,24 @@ use borrow.Author.Needs.{needs}
 use Rattle.awards.proofs.award.award_refusal.Statement.{statement}
 use Rattle.awards.proofs.award.award_refusal.Tie as tie
 
-no-holder-requires : tie.Need-no-holder-requires
-no-holder-requires c κs = search needs
+unknown-holder-requires : tie.Need-unknown-holder-requires
+unknown-holder-requires c κs = search needs
 
-no-path-requires : tie.Need-no-path-requires
-no-path-requires c κs = search needs
+unknown-path-requires : tie.Need-unknown-path-requires
+unknown-path-requires c κs = search needs
 
 returns : tie.Need-returns
 unfolding refusal callCauses awardCauses
-returns c = λ m x r. met-first notInBook _ _ (sym (ap₂ (λ a b. a || b) (c .before .before .no-holder .ensures) (c .before .no-path .ensures)) ∙ c .if1 .taken)
+returns c = λ m x r. met-first notInBook _ _ (sym (ap₂ (λ a b. a || b) (c .before .before .unknown-holder .ensures) (c .before .unknown-path .ensures)) ∙ c .if1 .taken)
 
-wrong-kw-requires : tie.Need-wrong-kw-requires
-wrong-kw-requires c κs = search needs
+kw-out-of-range-requires : tie.Need-kw-out-of-range-requires
+kw-out-of-range-requires c κs = search needs
 
 returns-2 : tie.Need-returns-2
 unfolding refusal callCauses awardCauses
 returns-2 c = λ m x r.
-    unmet-first notInBook _ _ (sym (ap₂ (λ a b. a || b) (c .before .before .before .before .no-holder .ensures) (c .before .before .before .no-path .ensures)) ∙ c .before .before .if1 .left)
-    (met-first outOfRange _ _ (sym (c .before .wrong-kw .ensures) ∙ c .if2 .taken))
+    unmet-first notInBook _ _ (sym (ap₂ (λ a b. a || b) (c .before .before .before .before .unknown-holder .ensures) (c .before .before .before .unknown-path .ensures)) ∙ c .before .before .if1 .left)
+    (met-first outOfRange _ _ (sym (c .before .kw-out-of-range .ensures) ∙ c .if2 .taken))
 
 current-tier-requires : tie.Need-current-tier-requires
 current-tier-requires c κs = search needs
@@ -43,12 +43,12 @@ is-open-requires c κs = search needs
 returns-3 : tie.Need-returns-3
 unfolding refusal callCauses awardCauses tierIsOpen ledgerIn
 returns-3 c = λ m x r.
-    unmet-first notInBook _ _ (sym (ap₂ (λ a b. a || b) (c .before .before .before .before .before .before .before .no-holder .ensures) (c .before .before .before .before .before .before .no-path .ensures)) ∙ c .before .before .before .before .before .if1 .left)
-    (unmet-first outOfRange _ _ (sym (c .before .before .before .before .wrong-kw .ensures) ∙ c .before .before .before .if2 .left)
+    unmet-first notInBook _ _ (sym (ap₂ (λ a b. a || b) (c .before .before .before .before .before .before .before .unknown-holder .ensures) (c .before .before .before .before .before .before .unknown-path .ensures)) ∙ c .before .before .before .before .before .if1 .left)
+    (unmet-first outOfRange _ _ (sym (c .before .before .before .before .kw-out-of-range .ensures) ∙ c .before .before .before .if2 .left)
     (met-first notAtThisTime _ _ (sym (ap not (open-test _ _ _ (c .before .is-open .ensures) (c .before .before .current-tier .ensures))) ∙ c .if3 .taken)))
 
 exceeds-nominated-requires : tie.Need-exceeds-nominated-requires
-exceeds-nominated-requires c κs = (c .before .before .current-tier .ensures, tier-within _ _ _ _ _ (c .before .before .before .before .before .before .before .before .before .before .pre .reachable) (c .before .before .current-tier .ensures), known-room _ _ _ _ _ _ _ _ _ (c .before .before .before .before .before .before .before .before .before .before .pre .reachable) (c .before .before .before .before .before .before .before .no-holder .ensures) (c .before .before .before .before .before .before .no-path .ensures) (c .before .before .before .before .before .if1 .left) (c .before .before .before .before .wrong-kw .ensures) (c .before .before .before .if2 .left) (omega arith))
+exceeds-nominated-requires c κs = (c .before .before .current-tier .ensures, tier-within _ _ _ _ _ (c .before .before .before .before .before .before .before .before .before .before .pre .reachable) (c .before .before .current-tier .ensures), known-room _ _ _ _ _ _ _ _ _ (c .before .before .before .before .before .before .before .before .before .before .pre .reachable) (c .before .before .before .before .before .before .before .unknown-holder .ensures) (c .before .before .before .before .before .before .unknown-path .ensures) (c .before .before .before .before .before .if1 .left) (c .before .before .before .before .kw-out-of-range .ensures) (c .before .before .before .if2 .left) (omega arith))
 
 refuse-requires : tie.Need-refuse-requires
 refuse-requires c κs = search needs
@@ -56,8 +56,8 @@ refuse-requires c κs = search needs
 returns-4 : tie.Need-returns-4
 unfolding refusal callCauses awardCauses tierIsOpen ledgerIn
 returns-4 c = λ m x r.
-    unmet-first notInBook _ _ (sym (ap₂ (λ a b. a || b) (c .before .before .before .before .before .before .before .before .before .no-holder .ensures) (c .before .before .before .before .before .before .before .before .no-path .ensures)) ∙ c .before .before .before .before .before .before .before .if1 .left)
-    (unmet-first outOfRange _ _ (sym (c .before .before .before .before .before .before .wrong-kw .ensures) ∙ c .before .before .before .before .before .if2 .left)
+    unmet-first notInBook _ _ (sym (ap₂ (λ a b. a || b) (c .before .before .before .before .before .before .before .before .before .unknown-holder .ensures) (c .before .before .before .before .before .before .before .before .unknown-path .ensures)) ∙ c .before .before .before .before .before .before .before .if1 .left)
+    (unmet-first outOfRange _ _ (sym (c .before .before .before .before .before .before .kw-out-of-range .ensures) ∙ c .before .before .before .before .before .if2 .left)
     (unmet-first notAtThisTime _ _ (sym (ap not (open-test _ _ _ (c .before .before .before .is-open .ensures) (c .before .before .before .before .current-tier .ensures))) ∙ c .before .before .if3 .left)
     (link aboveNominated _ _ _ (c .refuse .ensures) (c .before .exceeds-nominated .ensures m x) no-more)))
 
@@ -65,10 +65,10 @@ pub award-refusal-spec : {M : Type 1} → statement M
 award-refusal-spec =
     tie.close
     (tie.spec
-    no-holder-requires
-    no-path-requires
+    unknown-holder-requires
+    unknown-path-requires
     returns
-    wrong-kw-requires
+    kw-out-of-range-requires
     returns-2
     current-tier-requires
     is-open-requires

@@ -8,14 +8,14 @@ use borrow.Author.Needs.{needs}
 use Rattle.awards.proofs.holdings.held_refusal.Statement.{statement}
 use Rattle.awards.proofs.holdings.held_refusal.Tie as tie
 
-no-holder-requires : tie.Need-no-holder-requires
-no-holder-requires c κs = search needs
+unknown-holder-requires : tie.Need-unknown-holder-requires
+unknown-holder-requires c κs = search needs
 
-no-path-requires : tie.Need-no-path-requires
-no-path-requires c κs = search needs
+unknown-path-requires : tie.Need-unknown-path-requires
+unknown-path-requires c κs = search needs
 
-wrong-month-requires : tie.Need-wrong-month-requires
-wrong-month-requires c κs = search needs
+month-out-of-range-requires : tie.Need-month-out-of-range-requires
+month-out-of-range-requires c κs = search needs
 
 refuse-requires : tie.Need-refuse-requires
 refuse-requires c κs = search needs
@@ -25,15 +25,15 @@ refuse-requires-2 c κs = search needs
 
 returns : tie.Need-returns
 unfolding queryRefusal queryCauses heldCauses
-returns c = λ L. link notInBook _ _ _ (c .refuse2 .ensures) (ap₂ (λ a b. a || b) (c .before .before .before .before .no-holder .ensures) (c .before .before .before .no-path .ensures)) (link outOfRange _ _ _ (c .before .refuse .ensures) (c .before .before .wrong-month .ensures) no-more)
+returns c = λ L. link notInBook _ _ _ (c .refuse2 .ensures) (ap₂ (λ a b. a || b) (c .before .before .before .before .unknown-holder .ensures) (c .before .before .before .unknown-path .ensures)) (link outOfRange _ _ _ (c .before .refuse .ensures) (c .before .before .month-out-of-range .ensures) no-more)
 
 pub held-refusal-spec : {M : Type 1} → statement M
 held-refusal-spec =
     tie.close
     (tie.spec
-    no-holder-requires
-    no-path-requires
-    wrong-month-requires
+    unknown-holder-requires
+    unknown-path-requires
+    month-out-of-range-requires
     refuse-requires
     refuse-requires-2
     returns)

@@ -6,11 +6,11 @@ use borrow.Author.Needs.{needs}
 use Rattle.awards.proofs.holdings.net_refusal.Statement.{statement}
 use Rattle.awards.proofs.holdings.net_refusal.Tie as tie
 
-no-path-requires : tie.Need-no-path-requires
-no-path-requires c κs = search needs
+unknown-path-requires : tie.Need-unknown-path-requires
+unknown-path-requires c κs = search needs
 
-wrong-month-requires : tie.Need-wrong-month-requires
-wrong-month-requires c κs = search needs
+month-out-of-range-requires : tie.Need-month-out-of-range-requires
+month-out-of-range-requires c κs = search needs
 
 refuse-requires : tie.Need-refuse-requires
 refuse-requires c κs = search needs
@@ -20,9 +20,9 @@ refuse-requires-2 c κs = search needs
 
 returns : tie.Need-returns
 unfolding queryRefusal queryCauses netCauses
-returns c = λ L. link notInBook _ _ _ (c .refuse2 .ensures) (c .before .before .before .no-path .ensures) (link outOfRange _ _ _ (c .before .refuse .ensures) (c .before .before .wrong-month .ensures) no-more)
+returns c = λ L. link notInBook _ _ _ (c .refuse2 .ensures) (c .before .before .before .unknown-path .ensures) (link outOfRange _ _ _ (c .before .refuse .ensures) (c .before .before .month-out-of-range .ensures) no-more)
 
 pub net-refusal-spec : {M : Type 1} → statement M
 net-refusal-spec =
     tie.close
-    (tie.spec no-path-requires wrong-month-requires refuse-requires refuse-requires-2 returns)
+    (tie.spec unknown-path-requires month-out-of-range-requires refuse-requires refuse-requires-2 returns)

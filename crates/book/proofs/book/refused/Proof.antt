@@ -1,6 +1,6 @@
 -- `book::book::refused` meets its contract. Assumes nothing.
 use mathlib.Core.Path.{refl}
-use Rattle.book.specs.Handed.{refusedWith}
+use Rattle.book.specs.Outcomes.{refusedWith}
 use Rattle.book.proofs.book.refused.Statement.{statement}
 use Rattle.book.proofs.book.refused.Tie as tie
 

@@ -1,5 +1,5 @@
 -- `book::book::with_figures` meets its contract. Assumes nothing.
-use Rattle.book.specs.Handed.{besideFigures}
+use Rattle.book.specs.Outcomes.{besideFigures}
 use borrow.Author.Needs.{needs}
 use Rattle.book.proofs.book.with_figures.Statement.{statement}
 use Rattle.book.proofs.book.with_figures.Tie as tie

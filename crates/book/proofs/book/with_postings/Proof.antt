@@ -1,7 +1,7 @@
 -- `book::book::with_postings` meets its contract. Assumes nothing.
 use mathlib.Core.Path.{refl}
 use Rattle.book.specs.Reading.{bookIn}
-use Rattle.book.specs.Handed.{besidePostings}
+use Rattle.book.specs.Outcomes.{besidePostings}
 use Rattle.book.proofs.book.with_postings.Statement.{statement}
 use Rattle.book.proofs.book.with_postings.Tie as tie
 

@@ -1,26 +1,26 @@
--- `book::class_lines::migrate_columns` meets its contract: past 64 lines the refusal, else what the core hands back. Assumes nothing.
+-- `book::class_lines::migrate_columns` meets its contract: past 64 lines the refusal, else what the core returns. Assumes nothing.
 use mathlib.Core.Path.{ap, ap₂, _∙_}
 use mathlib.Core.Bool.{cond, _||_}
 use native.Mathlib.Omega.{arith}
 use Rattle.ledger.specs.Numbers.{notInBook, outOfRange}
-use Rattle.book.specs.Reading.{openedWith}
-use Rattle.book.specs.Handed.{refusedWith}
-use Rattle.book.proofs.ClassLineLaws.{first-long, many-handed, few-handed}
+use Rattle.book.specs.Reading.{openingOfBook}
+use Rattle.book.specs.Outcomes.{refusedWith}
+use Rattle.book.proofs.ClassLineLaws.{first-long, many-outcome, few-outcome}
 use borrow.Author.Needs.{needs}
 use Rattle.book.proofs.class_lines.migrate_columns.Statement.{statement}
 use Rattle.book.proofs.class_lines.migrate_columns.Tie as tie
 
-slice-aggregate-no-sink : tie.Need-slice-aggregate-no-sink
-slice-aggregate-no-sink c = search needs
+slice-aggregate-unknown-sink : tie.Need-slice-aggregate-unknown-sink
+slice-aggregate-unknown-sink c = search needs
 
-no-sink-requires : tie.Need-no-sink-requires
-no-sink-requires c κs = search needs
+unknown-sink-requires : tie.Need-unknown-sink-requires
+unknown-sink-requires c κs = search needs
 
-slice-aggregate-no-holder : tie.Need-slice-aggregate-no-holder
-slice-aggregate-no-holder c = search needs
+slice-aggregate-unknown-holder : tie.Need-slice-aggregate-unknown-holder
+slice-aggregate-unknown-holder c = search needs
 
-no-holder-requires : tie.Need-no-holder-requires
-no-holder-requires c κs = search needs
+unknown-holder-requires : tie.Need-unknown-holder-requires
+unknown-holder-requires c κs = search needs
 
 refuse-requires : tie.Need-refuse-requires
 refuse-requires c κs = search needs
@@ -29,8 +29,8 @@ refused-requires : tie.Need-refused-requires
 refused-requires c κs = search needs
 
 returns : tie.Need-returns
-unfolding openedWith
-returns c = let a = c .before .before .before .before .before .before .before .before .args in c .refused .ensures ∙ ap (refusedWith (a .b)) (c .before .refuse .ensures ∙ ap (λ t. cond t notInBook outOfRange) (ap₂ (λ x y. x || y) (c .before .before .before .before .no-sink .ensures) (c .before .before .no-holder .ensures))) ∙ many-handed (a .b) (a .term) (a .sink) (a .n) (a .c) (c .before .before .before .before .before .before .before .if1 .taken)
+unfolding openingOfBook
+returns c = let a = c .before .before .before .before .before .before .before .before .args in c .refused .ensures ∙ ap (refusedWith (a .b)) (c .before .refuse .ensures ∙ ap (λ t. cond t notInBook outOfRange) (ap₂ (λ x y. x || y) (c .before .before .before .before .unknown-sink .ensures) (c .before .before .unknown-holder .ensures))) ∙ many-outcome (a .b) (a .term) (a .sink) (a .n) (a .c) (c .before .before .before .before .before .before .before .if1 .taken)
 
 array-share-prefix-froms : tie.Need-array-share-prefix-froms
 array-share-prefix-froms c = let full = c .before .before .before .before .before .before .pre .1 .ofFroms in let few = c .before .before .before .before .before .if1 .left in omega arith
@@ -66,16 +66,16 @@ migrate-requires : tie.Need-migrate-requires
 migrate-requires c κs = search needs
 
 returns-2 : tie.Need-returns-2
-returns-2 c = let a = c .before .before .before .before .before .before .before .before .before .before .before .before .args in c .migrate .ensures ∙ few-handed (a .b) (a .term) (a .sink) (a .n) (a .c) (c .before .before .before .before .before .before .before .before .before .before .before .if1 .left)
+returns-2 c = let a = c .before .before .before .before .before .before .before .before .before .before .before .before .args in c .migrate .ensures ∙ few-outcome (a .b) (a .term) (a .sink) (a .n) (a .c) (c .before .before .before .before .before .before .before .before .before .before .before .if1 .left)
 
 pub migrate-columns-spec : {M : Type 1} → statement M
 migrate-columns-spec =
     tie.close
     (tie.spec
-    slice-aggregate-no-sink
-    no-sink-requires
-    slice-aggregate-no-holder
-    no-holder-requires
+    slice-aggregate-unknown-sink
+    unknown-sink-requires
+    slice-aggregate-unknown-holder
+    unknown-holder-requires
     refuse-requires
     refused-requires
     returns

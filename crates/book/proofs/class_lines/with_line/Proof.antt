@@ -21,11 +21,11 @@ place-requires-4 c κs = search needs
 place-requires-5 : tie.Need-place-requires-5
 place-requires-5 c κs = search needs
 
-larger-requires : tie.Need-larger-requires
-larger-requires c κs = search needs
+max-requires : tie.Need-max-requires
+max-requires c κs = search needs
 
-larger-requires-2 : tie.Need-larger-requires-2
-larger-requires-2 c κs = search needs
+max-requires-2 : tie.Need-max-requires-2
+max-requires-2 c κs = search needs
 
 returns : tie.Need-returns
 unfolding withLine
@@ -38,7 +38,7 @@ returns c =
       classes = c .before .before .before .before .place3 .ensures i;
       customers = c .before .before .before .place4 .ensures i;
       watts = c .before .before .place5 .ensures i;
-      top = (c .larger2 .ensures ∙ ap (max (a .c .top)) (c .before .larger .ensures)) i;
+      top = (c .max2 .ensures ∙ ap (max (a .c .top)) (c .before .max .ensures)) i;
     }
 
 pub with-line-spec : {M : Type 1} → statement M
@@ -50,6 +50,6 @@ with-line-spec =
     place-requires-3
     place-requires-4
     place-requires-5
-    larger-requires
-    larger-requires-2
+    max-requires
+    max-requires-2
     returns)

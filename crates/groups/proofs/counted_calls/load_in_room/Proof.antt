@@ -1,12 +1,12 @@
--- `groups::counted_calls::load_in_room` meets its contract: the lines are read, and the load put to the book if they are whole. Assumes nothing.
+-- `groups::counted_calls::load_in_room` meets its contract: the lines are read, and the load put to the book if they are complete. Assumes nothing.
 use native.Mathlib.Omega.{arith}
 use borrow.Author.Tests.{not-true, not-false}
-use Rattle.book.specs.Handed.{handedBlocks}
-use Rattle.book.proofs.HandedBooks.{handed-if}
+use Rattle.book.specs.Outcomes.{outcomeOfBlocks}
+use Rattle.book.proofs.OutcomeBooks.{outcome-if}
 use Rattle.lines.specs.Rows.{field}
 use Rattle.lines.specs.Counted.{rowsCounted}
-use Rattle.groups.proofs.OutcomeLaws.{fits-counted, kept-counted, count-fits, column-is, told-bytes, broken-told, whole-told, load-is, load-counts}
-use Rattle.groups.proofs.HeadLaws.{load-asks}
+use Rattle.groups.proofs.OutcomeLaws.{fits-counted, kept-counted, count-fits, column-is, outcome-bytes, incomplete-outcome, complete-outcome, load-is, load-counts}
+use Rattle.groups.proofs.HeadLaws.{load-request}
 use borrow.Author.Needs.{needs}
 use Rattle.groups.proofs.counted_calls.load_in_room.Statement.{statement}
 use Rattle.groups.proofs.counted_calls.load_in_room.Tie as tie
@@ -27,8 +27,8 @@ returns c =
     let s = c .before .before .before .before .before .before .before .before .before .before .before .before in
     let read = c .before .before .before .before .read-counted .ensures in
     let counts = load-counts _ (s .pre .1 .0) in
-    let asks = load-asks _ _ (s .pre .1 .0) in
-    (λ x k. broken-told _ _ _ _ _ _ (read .0) counts asks _ (not-true _ (c .if1 .taken)), (told-bytes _ _ _ _ _ _ (read .0) counts asks, kept-counted _ _ _ counts _ _ (read .1)))
+    let requests = load-request _ _ (s .pre .1 .0) in
+    (λ x k. incomplete-outcome _ _ _ _ _ _ (read .0) counts requests _ (not-true _ (c .if1 .taken)), (outcome-bytes _ _ _ _ _ _ (read .0) counts requests, kept-counted _ _ _ counts _ _ (read .1)))
 
 column-requires : tie.Need-column-requires
 unfolding field
@@ -79,21 +79,21 @@ same-length-4 : tie.Need-same-length-4
 same-length-4 c = search needs
 
 returns-2 : tie.Need-returns-2
-unfolding field handedBlocks
+unfolding field outcomeOfBlocks
 returns-2 c =
     let s = c .before .before .before .before .before .before .before .before .before .before .before .before .before .before .before .before .before .before .before .before .before .before .before in
     let read = c .before .before .before .before .before .before .before .before .before .before .before .before .before .before .before .read-counted .ensures in
     let all = not-false _ (c .before .before .before .before .before .before .before .before .before .before .before .if1 .left) in
     let counts = load-counts _ (s .pre .1 .0) in
-    let asks = load-asks _ _ (s .pre .1 .0) in
+    let requests = load-request _ _ (s .pre .1 .0) in
     let fits = fits-counted _ _ _ counts _ (s .pre .1 .1) in (
       λ x k.
-          whole-told _ _ _ _ _ _ (read .0) counts asks _ all _ _
-          (load-is _ (s .args .head) (rowsCounted (field 5 (s .args .head)) (s .args .rest .now)) _ _ _ _ (handed-if _ _ _ _ _ _ _ _ _ _ k (c .before .before .before .before .load .ensures x k))
+          complete-outcome _ _ _ _ _ _ (read .0) counts requests _ all _ _
+          (load-is _ (s .args .head) (rowsCounted (field 5 (s .args .head)) (s .args .rest .now)) _ _ _ _ (outcome-if _ _ _ _ _ _ _ _ _ _ k (c .before .before .before .before .load .ensures x k))
           (column-is _ _ _ _ (read .0) all _ _ fits (read .1) 0 _ (omega arith) (c .before .before .before .before .before .before .before .before .before .column .ensures))
           (column-is _ _ _ _ (read .0) all _ _ fits (read .1) 1 _ (omega arith) (c .before .before .before .before .before .before .before .before .column2 .ensures))
           (column-is _ _ _ _ (read .0) all _ _ fits (read .1) 2 _ (omega arith) (c .before .before .before .before .before .before .before .column3 .ensures))),
-      (told-bytes _ _ _ _ _ _ (read .0) counts asks, kept-counted _ _ _ counts _ _ (read .1)),
+      (outcome-bytes _ _ _ _ _ _ (read .0) counts requests, kept-counted _ _ _ counts _ _ (read .1)),
     )
 
 pub load-in-room-spec : {M : Type 1} → statement M

@@ -1,12 +1,12 @@
--- `groups::counted_calls::migrate_in_room` meets its contract: the lines are read, and the migrate put to the book if they are whole. Assumes nothing.
+-- `groups::counted_calls::migrate_in_room` meets its contract: the lines are read, and the migrate put to the book if they are complete. Assumes nothing.
 use native.Mathlib.Omega.{arith}
 use borrow.Author.Tests.{not-true, not-false}
-use Rattle.book.specs.Handed.{handedLines}
-use Rattle.book.proofs.HandedBooks.{handed-if}
+use Rattle.book.specs.Outcomes.{outcomeOfLines}
+use Rattle.book.proofs.OutcomeBooks.{outcome-if}
 use Rattle.lines.specs.Rows.{field}
 use Rattle.lines.specs.Counted.{rowsCounted}
-use Rattle.groups.proofs.OutcomeLaws.{fits-counted, kept-counted, count-fits, column-is, told-bytes, broken-told, whole-told, migrate-is, migrate-counts}
-use Rattle.groups.proofs.HeadLaws.{migrate-asks}
+use Rattle.groups.proofs.OutcomeLaws.{fits-counted, kept-counted, count-fits, column-is, outcome-bytes, incomplete-outcome, complete-outcome, migrate-is, migrate-counts}
+use Rattle.groups.proofs.HeadLaws.{migrate-request}
 use borrow.Author.Needs.{needs}
 use Rattle.groups.proofs.counted_calls.migrate_in_room.Statement.{statement}
 use Rattle.groups.proofs.counted_calls.migrate_in_room.Tie as tie
@@ -27,8 +27,8 @@ returns c =
     let s = c .before .before .before .before .before .before .before .before .before .before .before in
     let read = c .before .before .before .before .read-counted .ensures in
     let counts = migrate-counts _ (s .pre .1 .0) in
-    let asks = migrate-asks _ _ (s .pre .1 .0) in
-    (λ m x k. broken-told _ _ _ _ _ _ (read .0) counts asks _ (not-true _ (c .if1 .taken)), (told-bytes _ _ _ _ _ _ (read .0) counts asks, kept-counted _ _ _ counts _ _ (read .1)))
+    let requests = migrate-request _ _ (s .pre .1 .0) in
+    (λ m x k. incomplete-outcome _ _ _ _ _ _ (read .0) counts requests _ (not-true _ (c .if1 .taken)), (outcome-bytes _ _ _ _ _ _ (read .0) counts requests, kept-counted _ _ _ counts _ _ (read .1)))
 
 column-requires : tie.Need-column-requires
 unfolding field
@@ -81,23 +81,23 @@ same-length-3 : tie.Need-same-length-3
 same-length-3 c = search needs
 
 returns-2 : tie.Need-returns-2
-unfolding field handedLines
+unfolding field outcomeOfLines
 returns-2 c =
     let s = c .before .before .before .before .before .before .before .before .before .before .before .before .before .before .before .before .before .before .before .before .before in
     let read = c .before .before .before .before .before .before .before .before .before .before .before .before .before .before .read-counted .ensures in
     let all = not-false _ (c .before .before .before .before .before .before .before .before .before .before .if1 .left) in
     let counts = migrate-counts _ (s .pre .1 .0) in
-    let asks = migrate-asks _ _ (s .pre .1 .0) in
+    let requests = migrate-request _ _ (s .pre .1 .0) in
     let fits = fits-counted _ _ _ counts _ (s .pre .1 .1) in (
       λ m x k.
-          whole-told _ _ _ _ _ _ (read .0) counts asks _ all _ _
-          (migrate-is _ (s .args .head) (rowsCounted (field 2 (s .args .head)) (s .args .rest .now)) _ _ _ _ _ _ (handed-if _ _ _ _ _ _ _ _ _ _ k (c .before .before .migrate .ensures m x k))
+          complete-outcome _ _ _ _ _ _ (read .0) counts requests _ all _ _
+          (migrate-is _ (s .args .head) (rowsCounted (field 2 (s .args .head)) (s .args .rest .now)) _ _ _ _ _ _ (outcome-if _ _ _ _ _ _ _ _ _ _ k (c .before .before .migrate .ensures m x k))
           (column-is _ _ _ _ (read .0) all _ _ fits (read .1) 0 _ (omega arith) (c .before .before .before .before .before .before .before .before .column .ensures))
           (column-is _ _ _ _ (read .0) all _ _ fits (read .1) 1 _ (omega arith) (c .before .before .before .before .before .before .before .column2 .ensures))
           (column-is _ _ _ _ (read .0) all _ _ fits (read .1) 2 _ (omega arith) (c .before .before .before .before .before .before .column3 .ensures))
           (column-is _ _ _ _ (read .0) all _ _ fits (read .1) 3 _ (omega arith) (c .before .before .before .before .before .column4 .ensures))
           (column-is _ _ _ _ (read .0) all _ _ fits (read .1) 4 _ (omega arith) (c .before .before .before .before .column5 .ensures))),
-      (told-bytes _ _ _ _ _ _ (read .0) counts asks, kept-counted _ _ _ counts _ _ (read .1)),
+      (outcome-bytes _ _ _ _ _ _ (read .0) counts requests, kept-counted _ _ _ counts _ _ (read .1)),
     )
 
 pub migrate-in-room-spec : {M : Type 1} → statement M

@@ -1,5 +1,5 @@
--- `groups::groups::run_group` meets its contract: the head's line, and the lines that it counts behind it. Assumes nothing.
-use Rattle.groups.proofs.OutcomeLaws.{head-fits, behind-few, group-answers, group-bytes, group-fits}
+-- `groups::groups::run_group` meets its contract: the head's line, and the lines that it counts after it. Assumes nothing.
+use Rattle.groups.proofs.OutcomeLaws.{head-fits, after-head-few, group-answers, group-bytes, group-fits}
 use borrow.Author.Needs.{needs}
 use Rattle.groups.proofs.groups.run_group.Statement.{statement}
 use Rattle.groups.proofs.groups.run_group.Tie as tie
@@ -17,7 +17,7 @@ part-run-head-end : tie.Need-part-run-head-end
 part-run-head-end c = search needs
 
 run-head-requires : tie.Need-run-head-requires
-run-head-requires c κs = (c .before .before .before .before .before .before .before .before .before .pre .0, behind-few _ _ (c .before .before .before .before .next-row .ensures) _ (c .before .before .before .before .before .before .before .before .before .pre .1))
+run-head-requires c κs = (c .before .before .before .before .before .before .before .before .before .pre .0, after-head-few _ _ (c .before .before .before .before .next-row .ensures) _ (c .before .before .before .before .before .before .before .before .before .pre .1))
 
 add-t15 : tie.Need-add-t15
 add-t15 c = let within = group-fits _ _ (c .before .before .before .before .before .before .before .before .before .before .next-row .ensures) _ (c .before .before .before .before .before .run-head .ensures .1) in search needs

@@ -1,12 +1,12 @@
--- `groups::groups::run_head` meets its contract: each arm is what its kind of head asks. Assumes nothing.
+-- `groups::groups::run_head` meets its contract: each arm is the request of its kind of head. Assumes nothing.
 use mathlib.Core.Path.{refl}
 use Rattle.slots.specs.Steps.{queryAnswer}
-use Rattle.book.specs.Reading.{bookIn, ledgerOf, openedWith}
-use Rattle.book.specs.Handed.{told}
-use Rattle.book.proofs.HandedBooks.{handed-book}
+use Rattle.book.specs.Reading.{bookIn, ledgerOf, openingOfBook}
+use Rattle.book.specs.Outcomes.{queryAnswerIn}
+use Rattle.book.proofs.OutcomeBooks.{outcome-book}
 use Rattle.lines.specs.Rows.{field}
-use Rattle.groups.specs.Outcome.{headAsks}
-use Rattle.groups.proofs.HeadLaws.{carry-asks, prior-asks, verify-asks, open-asks, nominate-asks, award-asks, close-asks, limit-asks, held-asks, net-asks, no-head, by-call, by-query, by-nothing, beside-evidence}
+use Rattle.groups.specs.Outcome.{headGroup}
+use Rattle.groups.proofs.HeadLaws.{carry-request, prior-request, verify-request, open-request, nominate-request, award-request, close-request, limit-request, held-request, net-request, no-head, by-call, by-query, by-unreadable, beside-evidence}
 use Rattle.groups.proofs.OutcomeLaws.{answers-one-line, bytes-one-line, kind-counts, other-counts}
 use borrow.Author.Needs.{needs}
 use Rattle.groups.proofs.groups.run_head.Statement.{statement}
@@ -118,11 +118,11 @@ same-length-4 : tie.Need-same-length-4
 same-length-4 c = search needs
 
 returns-2 : tie.Need-returns-2
-unfolding field headAsks
+unfolding field headGroup
 returns-2 c =
     let one = c .of-one-line .ensures in
     let kind = c .before .before .before .before .before .before .before .before .match .keys2 in
-    (λ x k. answers-one-line _ _ one _ _ _ (beside-evidence _ _ _ _ _ _ _ (by-call _ _ _ _ _ (handed-book _ _ _ _ _ _ _ _ _ (c .before .before .before .before .before .carry .ensures x k)) (carry-asks _ _ kind))), bytes-one-line _ _ one _ _ (kind-counts _ _ _ kind refl refl))
+    (λ x k. answers-one-line _ _ one _ _ _ (beside-evidence _ _ _ _ _ _ _ (by-call _ _ _ _ _ (outcome-book _ _ _ _ _ _ _ _ _ (c .before .before .before .before .before .carry .ensures x k)) (carry-request _ _ kind))), bytes-one-line _ _ one _ _ (kind-counts _ _ _ kind refl refl))
 
 same-length-5 : tie.Need-same-length-5
 same-length-5 c = search needs
@@ -131,11 +131,11 @@ same-length-6 : tie.Need-same-length-6
 same-length-6 c = search needs
 
 returns-3 : tie.Need-returns-3
-unfolding field headAsks
+unfolding field headGroup
 returns-3 c =
     let one = c .of-one-line2 .ensures in
     let kind = c .before .before .before .before .before .before .before .before .match .keys3 in
-    (λ x k. answers-one-line _ _ one _ _ _ (beside-evidence _ _ _ _ _ _ _ (by-call _ _ _ _ _ (handed-book _ _ _ _ _ _ _ _ _ (c .before .before .before .before .before .prior .ensures x k)) (prior-asks _ _ kind))), bytes-one-line _ _ one _ _ (kind-counts _ _ _ kind refl refl))
+    (λ x k. answers-one-line _ _ one _ _ _ (beside-evidence _ _ _ _ _ _ _ (by-call _ _ _ _ _ (outcome-book _ _ _ _ _ _ _ _ _ (c .before .before .before .before .before .prior .ensures x k)) (prior-request _ _ kind))), bytes-one-line _ _ one _ _ (kind-counts _ _ _ kind refl refl))
 
 same-length-7 : tie.Need-same-length-7
 same-length-7 c = search needs
@@ -144,11 +144,11 @@ same-length-8 : tie.Need-same-length-8
 same-length-8 c = search needs
 
 returns-4 : tie.Need-returns-4
-unfolding field headAsks
+unfolding field headGroup
 returns-4 c =
     let one = c .of-one-line3 .ensures in
     let kind = c .before .before .before .before .before .before .before .before .match .keys4 in
-    (λ x k. answers-one-line _ _ one _ _ _ (beside-evidence _ _ _ _ _ _ _ (by-call _ _ _ _ _ (handed-book _ _ _ _ _ _ _ _ _ (c .before .before .before .before .before .verify .ensures x k)) (verify-asks _ _ kind))), bytes-one-line _ _ one _ _ (kind-counts _ _ _ kind refl refl))
+    (λ x k. answers-one-line _ _ one _ _ _ (beside-evidence _ _ _ _ _ _ _ (by-call _ _ _ _ _ (outcome-book _ _ _ _ _ _ _ _ _ (c .before .before .before .before .before .verify .ensures x k)) (verify-request _ _ kind))), bytes-one-line _ _ one _ _ (kind-counts _ _ _ kind refl refl))
 
 same-length-9 : tie.Need-same-length-9
 same-length-9 c = search needs
@@ -160,78 +160,78 @@ same-length-10 : tie.Need-same-length-10
 same-length-10 c = search needs
 
 returns-6 : tie.Need-returns-6
-unfolding field headAsks
+unfolding field headGroup
 returns-6 c =
     let one = c .of-one-line4 .ensures in
     let kind = c .before .before .before .before .before .match .keys6 in
-    (λ x k. answers-one-line _ _ one _ _ _ (beside-evidence _ _ _ _ _ _ _ (by-call _ _ _ _ _ (handed-book _ _ _ _ _ _ _ _ _ (c .before .before .before .open-tier .ensures _ _ x k)) (open-asks _ _ kind))), bytes-one-line _ _ one _ _ (kind-counts _ _ _ kind refl refl))
+    (λ x k. answers-one-line _ _ one _ _ _ (beside-evidence _ _ _ _ _ _ _ (by-call _ _ _ _ _ (outcome-book _ _ _ _ _ _ _ _ _ (c .before .before .before .open-tier .ensures _ _ x k)) (open-request _ _ kind))), bytes-one-line _ _ one _ _ (kind-counts _ _ _ kind refl refl))
 
 same-length-11 : tie.Need-same-length-11
 same-length-11 c = search needs
 
 returns-7 : tie.Need-returns-7
-unfolding field headAsks
+unfolding field headGroup
 returns-7 c =
     let one = c .of-one-line5 .ensures in
     let kind = c .before .before .before .before .before .match .keys7 in
-    (λ x k. answers-one-line _ _ one _ _ _ (beside-evidence _ _ _ _ _ _ _ (by-call _ _ _ _ _ (handed-book _ _ _ _ _ _ _ _ _ (c .before .before .before .nominate .ensures _ x k)) (nominate-asks _ _ kind))), bytes-one-line _ _ one _ _ (kind-counts _ _ _ kind refl refl))
+    (λ x k. answers-one-line _ _ one _ _ _ (beside-evidence _ _ _ _ _ _ _ (by-call _ _ _ _ _ (outcome-book _ _ _ _ _ _ _ _ _ (c .before .before .before .nominate .ensures _ x k)) (nominate-request _ _ kind))), bytes-one-line _ _ one _ _ (kind-counts _ _ _ kind refl refl))
 
 same-length-12 : tie.Need-same-length-12
 same-length-12 c = search needs
 
 returns-8 : tie.Need-returns-8
-unfolding field headAsks
+unfolding field headGroup
 returns-8 c =
     let one = c .of-one-line6 .ensures in
     let kind = c .before .before .before .before .before .match .keys8 in
-    (λ x k. answers-one-line _ _ one _ _ _ (beside-evidence _ _ _ _ _ _ _ (by-call _ _ _ _ _ (handed-book _ _ _ _ _ _ _ _ _ (c .before .before .before .award .ensures _ x k)) (award-asks _ _ kind))), bytes-one-line _ _ one _ _ (kind-counts _ _ _ kind refl refl))
+    (λ x k. answers-one-line _ _ one _ _ _ (beside-evidence _ _ _ _ _ _ _ (by-call _ _ _ _ _ (outcome-book _ _ _ _ _ _ _ _ _ (c .before .before .before .award .ensures _ x k)) (award-request _ _ kind))), bytes-one-line _ _ one _ _ (kind-counts _ _ _ kind refl refl))
 
 same-length-13 : tie.Need-same-length-13
 same-length-13 c = search needs
 
 returns-9 : tie.Need-returns-9
-unfolding field headAsks
+unfolding field headGroup
 returns-9 c =
     let one = c .of-one-line7 .ensures in
     let kind = c .before .before .before .before .before .match .keys9 in
-    (λ x k. answers-one-line _ _ one _ _ _ (beside-evidence _ _ _ _ _ _ _ (by-call _ _ _ _ _ (handed-book _ _ _ _ _ _ _ _ _ (c .before .before .before .close-tier .ensures _ _ x k)) (close-asks _ _ kind))), bytes-one-line _ _ one _ _ (kind-counts _ _ _ kind refl refl))
+    (λ x k. answers-one-line _ _ one _ _ _ (beside-evidence _ _ _ _ _ _ _ (by-call _ _ _ _ _ (outcome-book _ _ _ _ _ _ _ _ _ (c .before .before .before .close-tier .ensures _ _ x k)) (close-request _ _ kind))), bytes-one-line _ _ one _ _ (kind-counts _ _ _ kind refl refl))
 
 same-length-14 : tie.Need-same-length-14
 same-length-14 c = search needs
 
 returns-10 : tie.Need-returns-10
-unfolding field headAsks told queryAnswer bookIn ledgerOf openedWith
+unfolding field headGroup queryAnswerIn queryAnswer bookIn ledgerOf openingOfBook
 returns-10 c =
     let one = c .of-one-line8 .ensures in
     let kind = c .before .before .before .match .keys10 in
-    (λ x k. answers-one-line _ _ one _ _ _ (beside-evidence _ _ _ _ _ _ _ (by-query _ _ _ _ (c .before .limit .ensures _ x k) (limit-asks _ _ kind))), bytes-one-line _ _ one _ _ (kind-counts _ _ _ kind refl refl))
+    (λ x k. answers-one-line _ _ one _ _ _ (beside-evidence _ _ _ _ _ _ _ (by-query _ _ _ _ (c .before .limit .ensures _ x k) (limit-request _ _ kind))), bytes-one-line _ _ one _ _ (kind-counts _ _ _ kind refl refl))
 
 same-length-15 : tie.Need-same-length-15
 same-length-15 c = search needs
 
 returns-11 : tie.Need-returns-11
-unfolding field headAsks told queryAnswer bookIn ledgerOf openedWith
+unfolding field headGroup queryAnswerIn queryAnswer bookIn ledgerOf openingOfBook
 returns-11 c =
     let one = c .of-one-line9 .ensures in
     let kind = c .before .before .before .match .keys11 in
-    (λ x k. answers-one-line _ _ one _ _ _ (beside-evidence _ _ _ _ _ _ _ (by-query _ _ _ _ (c .before .held .ensures _ x k) (held-asks _ _ kind))), bytes-one-line _ _ one _ _ (kind-counts _ _ _ kind refl refl))
+    (λ x k. answers-one-line _ _ one _ _ _ (beside-evidence _ _ _ _ _ _ _ (by-query _ _ _ _ (c .before .held .ensures _ x k) (held-request _ _ kind))), bytes-one-line _ _ one _ _ (kind-counts _ _ _ kind refl refl))
 
 same-length-16 : tie.Need-same-length-16
 same-length-16 c = search needs
 
 returns-12 : tie.Need-returns-12
-unfolding field headAsks told queryAnswer bookIn ledgerOf openedWith
+unfolding field headGroup queryAnswerIn queryAnswer bookIn ledgerOf openingOfBook
 returns-12 c =
     let one = c .of-one-line10 .ensures in
     let kind = c .before .before .before .match .keys12 in
-    (λ x k. answers-one-line _ _ one _ _ _ (beside-evidence _ _ _ _ _ _ _ (by-query _ _ _ _ (c .before .net .ensures _ x k) (net-asks _ _ kind))), bytes-one-line _ _ one _ _ (kind-counts _ _ _ kind refl refl))
+    (λ x k. answers-one-line _ _ one _ _ _ (beside-evidence _ _ _ _ _ _ _ (by-query _ _ _ _ (c .before .net .ensures _ x k) (net-request _ _ kind))), bytes-one-line _ _ one _ _ (kind-counts _ _ _ kind refl refl))
 
 returns-13 : tie.Need-returns-13
-unfolding headAsks
+unfolding headGroup
 returns-13 c =
     let one = c .of-one-line11 .ensures in
     let no = c .before .match .rest in
-    (λ x k. answers-one-line _ _ one _ _ _ (beside-evidence _ _ _ _ _ _ _ (by-nothing _ _ (no-head _ _ (no .0 .0 .0 .0 .0 .0 .0 .0 .0 .0 .0 .1) (no .0 .0 .0 .0 .0 .0 .0 .0 .0 .0 .1) (no .0 .0 .0 .0 .0 .0 .0 .0 .0 .1) (no .0 .0 .0 .0 .0 .0 .0 .0 .1) (no .0 .0 .0 .0 .0 .0 .0 .1) (no .0 .0 .0 .0 .0 .0 .1) (no .0 .0 .0 .0 .0 .1) (no .0 .0 .0 .0 .1) (no .0 .0 .0 .1) (no .0 .0 .1) (no .0 .1) (no .1)))), bytes-one-line _ _ one _ _ (other-counts _ _ (no .0 .0 .0 .0 .0 .0 .0 .0 .0 .0 .0 .1) (no .0 .0 .0 .0 .0 .0 .0 .1)))
+    (λ x k. answers-one-line _ _ one _ _ _ (beside-evidence _ _ _ _ _ _ _ (by-unreadable _ _ (no-head _ _ (no .0 .0 .0 .0 .0 .0 .0 .0 .0 .0 .0 .1) (no .0 .0 .0 .0 .0 .0 .0 .0 .0 .0 .1) (no .0 .0 .0 .0 .0 .0 .0 .0 .0 .1) (no .0 .0 .0 .0 .0 .0 .0 .0 .1) (no .0 .0 .0 .0 .0 .0 .0 .1) (no .0 .0 .0 .0 .0 .0 .1) (no .0 .0 .0 .0 .0 .1) (no .0 .0 .0 .0 .1) (no .0 .0 .0 .1) (no .0 .0 .1) (no .0 .1) (no .1)))), bytes-one-line _ _ one _ _ (other-counts _ _ (no .0 .0 .0 .0 .0 .0 .0 .0 .0 .0 .0 .1) (no .0 .0 .0 .0 .0 .0 .0 .1)))
 
 pub run-head-spec : {M : Type 1} → statement M
 run-head-spec =

@@ -40,14 +40,14 @@ returns c =
     let readable = c .before .before .before .before .before .if1 .taken in
     let opened = c .before .before .before .open-read .ensures in
     let done = c .is-done in
-    (group-opened (first .result .row) _ (lists .result) (lists .ensures) readable (first .result .used) _ (done .result) (opened .0) (done .ensures) ∙ whole-group _ (first .result) (first .ensures), opening-put (first .result .row) _ (lists .result) (lists .ensures) readable _ _ (opened .1) ∙ whole-opening _ _ (first .result) (first .ensures))
+    (group-opened (first .result .row) _ (lists .result) (lists .ensures) readable (first .result .consumed) _ (done .result) (opened .0) (done .ensures) ∙ whole-group _ (first .result) (first .ensures), opening-put (first .result .row) _ (lists .result) (lists .ensures) readable _ _ (opened .1) ∙ whole-opening _ _ (first .result) (first .ensures))
 
 returns-2 : tie.Need-returns-2
 returns-2 c =
     let first = c .before .before .before .before .before .before .before .next-row in
     let lists = c .before .before .before .before .read-book-lines in
     let unread = c .if1 .left in
-    (group-refused (first .result .row) _ (lists .result) (lists .ensures) unread (first .result .used) ∙ whole-group _ (first .result) (first .ensures), opening-stays (first .result .row) _ (lists .result) (lists .ensures) unread _ ∙ whole-opening _ _ (first .result) (first .ensures))
+    (group-refused (first .result .row) _ (lists .result) (lists .ensures) unread (first .result .consumed) ∙ whole-group _ (first .result) (first .ensures), opening-stays (first .result .row) _ (lists .result) (lists .ensures) unread _ ∙ whole-opening _ _ (first .result) (first .ensures))
 
 pub open-from-script-spec : {M : Type 1} → statement M
 open-from-script-spec =

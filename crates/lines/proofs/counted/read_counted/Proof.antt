@@ -12,10 +12,10 @@ use Rattle.lines.proofs.counted.read_counted.Statement.{statement}
 use Rattle.lines.proofs.counted.read_counted.Tie as tie
 
 abbrev Inv-loop : tie.InvT-loop
-Inv-loop rest kind count room₀ column whole₀ used₀ k₀ room whole used k = SoFar rest kind count k used whole × (room ≡ roomWith (take k (rowsOf rest)) room₀)
+Inv-loop rest kind count room₀ column complete₀ consumed₀ k₀ room complete consumed k = SoFar rest kind count k consumed complete × (room ≡ roomWith (take k (rowsOf rest)) room₀)
 
 abbrev μ-loop : tie.MeasureT-loop
-μ-loop rest kind count room₀ column whole₀ used₀ k₀ room whole used k = count - k
+μ-loop rest kind count room₀ column complete₀ consumed₀ k₀ room complete consumed k = count - k
 
 loop-holds : tie.Need-loop-holds Inv-loop μ-loop
 loop-holds c = (none-read _ _ _, no-rows-kept _)
@@ -50,8 +50,8 @@ keep-row-requires c κs =
     let same = room-length _ _ _ _ _ _ (inv .0) _ _ fits (inv .1) in
     (omega arith, line-fits _ _ _ _ _ _ (inv .0) (c .before .before .before .before .before .if1 .left) _ fits (c .before .before .before .before .before .before .loop-test .taken))
 
-add-used : tie.Need-add-used Inv-loop μ-loop
-add-used c =
+add-consumed : tie.Need-add-consumed Inv-loop μ-loop
+add-consumed c =
     let inv = c .before .before .before .before .before .before .before .before .before .before .before .loop .inv in
     let within = turn-within _ _ _ _ _ _ (inv .0) (c .before .before .before .before .before .before .before .before .before .if1 .left) _ (c .before .before .before .before .before .before .before .next-row .ensures) in
     search needs
@@ -94,7 +94,7 @@ read-counted-spec =
     part-next-row-end
     next-row-requires
     keep-row-requires
-    add-used
+    add-consumed
     add-k
     loop-less
     loop-again

@@ -17,11 +17,11 @@ add-t6 c = search needs
 
 returns : tie.Need-returns
 unfolding unreadableLine
-returns c = ap₂ (λ row used. record { row = row; used = used }) (c .before .unreadable-row .ensures) (ended-bytes _ _ (c .before .before .line-length .ensures) (c .if1 .taken))
+returns c = ap₂ (λ row consumed. record { row = row; consumed = consumed }) (c .before .unreadable-row .ensures) (ended-bytes _ _ (c .before .before .line-length .ensures) (c .if1 .taken))
 
 returns-2 : tie.Need-returns-2
 unfolding unreadableLine
-returns-2 c = ap₂ (λ row used. record { row = row; used = used }) (c .before .unreadable-row .ensures) (unended-bytes _ _ (c .before .before .line-length .ensures) (c .if1 .left))
+returns-2 c = ap₂ (λ row consumed. record { row = row; consumed = consumed }) (c .before .unreadable-row .ensures) (unended-bytes _ _ (c .before .before .line-length .ensures) (c .if1 .left))
 
 pub unreadable-line-spec : {M : Type 1} → statement M
 unreadable-line-spec =

@@ -26,7 +26,7 @@ unfolding writtenAt
 all-bytes out₀ text out at i past e =
     e
     ∙ ap (paste out₀ at text) past
-    ∙ ap (λ whole. take at out₀ ++ whole ++ drop (at + length text) out₀) (take-length text)
+    ∙ ap (λ complete. take at out₀ ++ complete ++ drop (at + length text) out₀) (take-length text)
 
 loop-holds : tie.Need-loop-holds Inv-loop μ-loop
 loop-holds c = (omega arith, paste-zero (c .args .out .now) (c .args .at) (c .args .text .now), refl)

@@ -4,11 +4,11 @@ use mathlib.Core.Path.{_≡_, refl, _∙_}
 use native.Mathlib.Omega.{arith}
 use borrow.Author.Tests.{not-true, not-false}
 use lib.ListN.{length, drop, length-set}
-use Rattle.tariff.specs.Sum.{listTo}
+use Rattle.tariff.specs.Sum.{tabulate}
 use Rattle.lines.specs.Rows.{maxFields}
 use Rattle.lines.specs.Reading.{fieldsRead}
 use Rattle.lines.proofs.NumberLaws.{field-valid}
-use Rattle.lines.proofs.FieldLaws.{zeros, readFrom, reading-starts, line-ends, stops-at-byte, stops-at-end, stops-at-many, stops-at-none, goes-on}
+use Rattle.lines.proofs.FieldLaws.{zeros, readFrom, reading-starts, line-ends, stops-at-byte, stops-at-end, stops-at-many, stops-at-none, continues}
 use borrow.Author.Needs.{needs}
 use Rattle.lines.proofs.rows.read_fields.Statement.{statement}
 use Rattle.lines.proofs.rows.read_fields.Tie as tie
@@ -20,7 +20,7 @@ abbrev μ-loop : tie.MeasureT-loop
 μ-loop rest start numbers₀ count₀ at₀ numbers count at = length rest - at
 
 loop-holds : tie.Need-loop-holds Inv-loop μ-loop
-unfolding zeros listTo
+unfolding zeros tabulate
 loop-holds c = (search needs, refl, reading-starts _ _)
 
 shared-slice-read-if1 : tie.Need-shared-slice-read-if1 Inv-loop μ-loop
@@ -69,7 +69,7 @@ loop-less : tie.Need-loop-less Inv-loop μ-loop
 loop-less c = let end = field-valid _ _ _ (c .before .before .read-field .ensures) (not-false _ (c .if4 .left)) .2 in omega (arith, end)
 
 loop-again : tie.Need-loop-again Inv-loop μ-loop
-loop-again c = (omega arith, length-set (c .before .before .before .before .before .before .before .before .before .loop .numbers) (c .before .before .before .before .before .before .before .before .before .loop .count) _ ∙ c .before .before .before .before .before .before .before .before .before .loop .inv .1, goes-on (c .before .before .before .before .before .before .before .before .before .before .before .args .rest .now) (c .before .before .before .before .before .before .before .before .before .before .before .args .start) _ _ _ (c .before .before .before .before .before .before .before .before .before .loop .inv .2) (c .before .before .before .before .before .before .before .before .loop-test .taken) (c .before .before .before .before .if2 .left) _ (c .before .before .read-field .ensures) (not-false _ (c .if4 .left)))
+loop-again c = (omega arith, length-set (c .before .before .before .before .before .before .before .before .before .loop .numbers) (c .before .before .before .before .before .before .before .before .before .loop .count) _ ∙ c .before .before .before .before .before .before .before .before .before .loop .inv .1, continues (c .before .before .before .before .before .before .before .before .before .before .before .args .rest .now) (c .before .before .before .before .before .before .before .before .before .before .before .args .start) _ _ _ (c .before .before .before .before .before .before .before .before .before .loop .inv .2) (c .before .before .before .before .before .before .before .before .loop-test .taken) (c .before .before .before .before .if2 .left) _ (c .before .before .read-field .ensures) (not-false _ (c .if4 .left)))
 
 no-fields-requires-4 : tie.Need-no-fields-requires-4 Inv-loop μ-loop
 no-fields-requires-4 c κs = search needs

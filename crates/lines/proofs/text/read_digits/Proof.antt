@@ -5,7 +5,7 @@ use native.Mathlib.Omega.{arith}
 use lib.ListN.{length}
 use Rattle.lines.specs.Text.{isDigit, maxDigits}
 use Rattle.lines.proofs.LeadingLaws.{limit-within}
-use Rattle.lines.proofs.NumberLaws.{in-range, below-range, above-range, power-more, power-none, power-most, DigitsTo, no-digits-yet, digit-more, digits-stop, digits-end}
+use Rattle.lines.proofs.NumberLaws.{in-range, below-range, above-range, power-more, power-none, power-max, DigitsTo, no-digits-yet, digit-more, digits-stop, digits-end}
 use borrow.Author.Needs.{needs}
 use Rattle.lines.proofs.text.read_digits.Statement.{statement}
 use Rattle.lines.proofs.text.read_digits.Tie as tie
@@ -36,13 +36,13 @@ unfolding isDigit
 returns-2 c = digits-stop _ _ _ _ (c .before .before .before .before .loop .inv .5) (above-range 48 57 _ (c .if2 .taken)) (omega arith) (omega arith)
 
 mul-value : tie.Need-mul-value Inv-loop μ-loop
-mul-value c = let most = power-most _ _ 9 (c .before .before .before .before .loop .inv .4) (omega arith) in omega (arith, most)
+mul-value c = let most = power-max _ _ 9 (c .before .before .before .before .loop .inv .4) (omega arith) in omega (arith, most)
 
 cast-value : tie.Need-cast-value Inv-loop μ-loop
 cast-value c = search needs
 
 add-value : tie.Need-add-value Inv-loop μ-loop
-add-value c = let most = power-most _ _ 9 (c .before .before .before .before .loop .inv .4) (omega arith) in omega (arith, most)
+add-value c = let most = power-max _ _ 9 (c .before .before .before .before .loop .inv .4) (omega arith) in omega (arith, most)
 
 add-i : tie.Need-add-i Inv-loop μ-loop
 add-i c = search needs

@@ -21,30 +21,30 @@ loop-holds : tie.Need-loop-holds Inv-loop μ-loop
 unfolding anyBelow
 loop-holds c = (zero-le, refl)
 
-mul-wrong-class-fields : tie.Need-mul-wrong-class-fields Inv-loop μ-loop
-mul-wrong-class-fields c = search needs
+mul-class-fields-out-of-range : tie.Need-mul-class-fields-out-of-range Inv-loop μ-loop
+mul-class-fields-out-of-range c = search needs
 
-shared-slice-read-wrong-class-fields : tie.Need-shared-slice-read-wrong-class-fields Inv-loop μ-loop
-shared-slice-read-wrong-class-fields c = search needs
+shared-slice-read-class-fields-out-of-range : tie.Need-shared-slice-read-class-fields-out-of-range Inv-loop μ-loop
+shared-slice-read-class-fields-out-of-range c = search needs
 
-mul-wrong-class-fields-2 : tie.Need-mul-wrong-class-fields-2 Inv-loop μ-loop
-mul-wrong-class-fields-2 c = search needs
+mul-class-fields-out-of-range-2 : tie.Need-mul-class-fields-out-of-range-2 Inv-loop μ-loop
+mul-class-fields-out-of-range-2 c = search needs
 
-shared-slice-read-wrong-class-fields-2 : tie.Need-shared-slice-read-wrong-class-fields-2 Inv-loop μ-loop
-shared-slice-read-wrong-class-fields-2 c = search needs
+shared-slice-read-class-fields-out-of-range-2 : tie.Need-shared-slice-read-class-fields-out-of-range-2 Inv-loop μ-loop
+shared-slice-read-class-fields-out-of-range-2 c = search needs
 
-mul-wrong-class-fields-3 : tie.Need-mul-wrong-class-fields-3 Inv-loop μ-loop
-mul-wrong-class-fields-3 c = search needs
+mul-class-fields-out-of-range-3 : tie.Need-mul-class-fields-out-of-range-3 Inv-loop μ-loop
+mul-class-fields-out-of-range-3 c = search needs
 
-shared-slice-read-wrong-class-fields-3 : tie.Need-shared-slice-read-wrong-class-fields-3 Inv-loop μ-loop
-shared-slice-read-wrong-class-fields-3 c = search needs
+shared-slice-read-class-fields-out-of-range-3 : tie.Need-shared-slice-read-class-fields-out-of-range-3 Inv-loop μ-loop
+shared-slice-read-class-fields-out-of-range-3 c = search needs
 
-wrong-class-fields-requires : tie.Need-wrong-class-fields-requires Inv-loop μ-loop
-wrong-class-fields-requires c κs = search needs
+class-fields-out-of-range-requires : tie.Need-class-fields-out-of-range-requires Inv-loop μ-loop
+class-fields-out-of-range-requires c κs = search needs
 
 returns : tie.Need-returns Inv-loop μ-loop
 unfolding outOfRangeAt
-returns c = found _ _ _ (c .before .before .before .before .before .loop-test .taken) (sym (c .before .wrong-class-fields .ensures) ∙ c .if1 .taken)
+returns c = found _ _ _ (c .before .before .before .before .before .loop-test .taken) (sym (c .before .class-fields-out-of-range .ensures) ∙ c .if1 .taken)
 
 add-k : tie.Need-add-k Inv-loop μ-loop
 add-k c = search needs
@@ -54,7 +54,7 @@ loop-less c = search needs
 
 loop-again : tie.Need-loop-again Inv-loop μ-loop
 unfolding outOfRangeAt
-loop-again c = (search needs, none-more _ _ (c .before .before .before .before .before .before .loop .inv .1) (sym (c .before .wrong-class-fields .ensures) ∙ c .if1 .left))
+loop-again c = (search needs, none-more _ _ (c .before .before .before .before .before .before .loop .inv .1) (sym (c .before .class-fields-out-of-range .ensures) ∙ c .if1 .left))
 
 returns-2 : tie.Need-returns-2 Inv-loop μ-loop
 returns-2 c = not-found _ _ _ (c .before .loop .inv .0) (c .loop-test .left) (c .before .loop .inv .1)
@@ -66,13 +66,13 @@ any-out-of-range-spec =
     Inv-loop
     μ-loop
     loop-holds
-    mul-wrong-class-fields
-    shared-slice-read-wrong-class-fields
-    mul-wrong-class-fields-2
-    shared-slice-read-wrong-class-fields-2
-    mul-wrong-class-fields-3
-    shared-slice-read-wrong-class-fields-3
-    wrong-class-fields-requires
+    mul-class-fields-out-of-range
+    shared-slice-read-class-fields-out-of-range
+    mul-class-fields-out-of-range-2
+    shared-slice-read-class-fields-out-of-range-2
+    mul-class-fields-out-of-range-3
+    shared-slice-read-class-fields-out-of-range-3
+    class-fields-out-of-range-requires
     returns
     add-k
     loop-less

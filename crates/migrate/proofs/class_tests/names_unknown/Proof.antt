@@ -5,14 +5,14 @@ use borrow.Author.Needs.{needs}
 use Rattle.migrate.proofs.class_tests.names_unknown.Statement.{statement}
 use Rattle.migrate.proofs.class_tests.names_unknown.Tie as tie
 
-no-holder-requires : tie.Need-no-holder-requires
-no-holder-requires c κs = search needs
+unknown-holder-requires : tie.Need-unknown-holder-requires
+unknown-holder-requires c κs = search needs
 
-no-holder-requires-2 : tie.Need-no-holder-requires-2
-no-holder-requires-2 c κs = search needs
+unknown-holder-requires-2 : tie.Need-unknown-holder-requires-2
+unknown-holder-requires-2 c κs = search needs
 
 returns : tie.Need-returns
-returns c = ap₂ (λ i j. i || j) (c .before .no-holder .ensures) (c .no-holder2 .ensures)
+returns c = ap₂ (λ i j. i || j) (c .before .unknown-holder .ensures) (c .unknown-holder2 .ensures)
 
 pub names-unknown-spec : {M : Type 1} → statement M
-names-unknown-spec = tie.close (tie.spec no-holder-requires no-holder-requires-2 returns)
+names-unknown-spec = tie.close (tie.spec unknown-holder-requires unknown-holder-requires-2 returns)

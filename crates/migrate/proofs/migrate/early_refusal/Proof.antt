@@ -4,14 +4,14 @@ use borrow.Author.Needs.{needs}
 use Rattle.migrate.proofs.migrate.early_refusal.Statement.{statement}
 use Rattle.migrate.proofs.migrate.early_refusal.Tie as tie
 
-no-sink-requires : tie.Need-no-sink-requires
-no-sink-requires c κs = search needs
+unknown-sink-requires : tie.Need-unknown-sink-requires
+unknown-sink-requires c κs = search needs
 
 any-unknown-requires : tie.Need-any-unknown-requires
 any-unknown-requires c κs = search needs
 
-wrong-term-requires : tie.Need-wrong-term-requires
-wrong-term-requires c κs = search needs
+term-out-of-range-requires : tie.Need-term-out-of-range-requires
+term-out-of-range-requires c κs = search needs
 
 any-out-of-range-requires : tie.Need-any-out-of-range-requires
 any-out-of-range-requires c κs = search needs
@@ -43,15 +43,15 @@ refuse-requires-4 c κs = search needs
 returns : tie.Need-returns
 returns c m e r =
     let a = c .before .before .before .before .before .before .before .before .before .before .before .before .before .before .before .before .before .before .before .args in
-    early-cause (a .o .now) (a .f .now) (a .term) (a .sink) (a .froms .now) (a .tos .now) (a .classes .now) (a .customers .now) (a .watts .now) m e _ _ _ _ _ _ _ _ _ _ _ _ (c .before .before .before .before .before .before .before .before .before .before .before .before .before .before .before .before .before .before .before .pre .ofClasses) (c .before .before .before .before .before .before .before .before .before .before .before .no-sink .ensures) (c .before .before .before .before .before .before .before .before .before .before .any-unknown .ensures) (c .before .before .before .before .before .before .before .before .before .wrong-term .ensures) (c .before .before .before .before .before .before .before .before .any-out-of-range .ensures) (c .before .before .before .before .before .before .before .last-closed .ensures) (c .before .before .before .before .before .before .current-tier .ensures) (c .before .before .before .before .before .migration-in-time .ensures) (c .before .before .before .before .any-not-between .ensures) (c .refuse4 .ensures) (c .before .refuse3 .ensures) (c .before .before .refuse2 .ensures) (c .before .before .before .refuse .ensures)
+    early-cause (a .o .now) (a .f .now) (a .term) (a .sink) (a .froms .now) (a .tos .now) (a .classes .now) (a .customers .now) (a .watts .now) m e _ _ _ _ _ _ _ _ _ _ _ _ (c .before .before .before .before .before .before .before .before .before .before .before .before .before .before .before .before .before .before .before .pre .ofClasses) (c .before .before .before .before .before .before .before .before .before .before .before .unknown-sink .ensures) (c .before .before .before .before .before .before .before .before .before .before .any-unknown .ensures) (c .before .before .before .before .before .before .before .before .before .term-out-of-range .ensures) (c .before .before .before .before .before .before .before .before .any-out-of-range .ensures) (c .before .before .before .before .before .before .before .last-closed .ensures) (c .before .before .before .before .before .before .current-tier .ensures) (c .before .before .before .before .before .migration-in-time .ensures) (c .before .before .before .before .any-not-between .ensures) (c .refuse4 .ensures) (c .before .refuse3 .ensures) (c .before .before .refuse2 .ensures) (c .before .before .before .refuse .ensures)
 
 pub early-refusal-spec : {M : Type 1} → statement M
 early-refusal-spec =
     tie.close
     (tie.spec
-    no-sink-requires
+    unknown-sink-requires
     any-unknown-requires
-    wrong-term-requires
+    term-out-of-range-requires
     any-out-of-range-requires
     last-closed-requires
     current-tier-requires

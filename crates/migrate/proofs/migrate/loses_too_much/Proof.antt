@@ -5,7 +5,7 @@ use mathlib.Core.Path.{_≡_, refl}
 use native.Mathlib.Omega.{arith}
 use lib.Dec.{ltb}
 use Rattle.tariff.specs.Sum.{sumTo, anyBelow}
-use Rattle.migration.specs.Netting.{pairAt, holderAt}
+use Rattle.netting.specs.Netting.{pairAt, holderAt}
 use Rattle.tariff.proofs.Tests.{none-more}
 use Rattle.records.proofs.Searches.{found, not-found}
 use Rattle.migrate.proofs.LineLaws.{loss-above, loss-within}

@@ -4,7 +4,7 @@ use mathlib.Core.Path.{_≡_, refl}
 use native.Mathlib.Nat.{not-suc-le-zero}
 use native.Mathlib.Omega.{arith}
 use lib.ListN.{length, length-set}
-use Rattle.migration.specs.Netting.{columnCells}
+use Rattle.netting.specs.Netting.{columnCells}
 use Rattle.tariff.proofs.Lists.{Filled, filled-more, filled-all}
 use Rattle.migrate.specs.Columns.{inColumn, columnAt}
 use Rattle.migrate.proofs.ColumnLaws.{column-cell}

@@ -5,7 +5,7 @@ use mathlib.Core.Bool.{true}
 use native.Mathlib.Omega.{arith}
 use lib.Dec.{eqb}
 use Rattle.tariff.specs.Sum.{allBelow}
-use Rattle.migration.specs.Netting.{holderAt}
+use Rattle.netting.specs.Netting.{holderAt}
 use Rattle.migrate.proofs.EmptyLaws.{empty-more, not-empty, empty-whole}
 use borrow.Author.Needs.{needs}
 use Rattle.migrate.proofs.transfers.is_empty.Statement.{statement}

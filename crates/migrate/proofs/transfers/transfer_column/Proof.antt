@@ -20,11 +20,11 @@ returns c = column-left _ _ _ _ (c .before .before .before .before .before .pre 
 shares-of-requires : tie.Need-shares-of-requires
 shares-of-requires c κs = products-fit _ (c .before .before .before .before .before .before .before .pre .1) _ (column-fits _ (c .before .before .before .before .before .before .before .pre .1) _ _ _ _ (c .before .before .before .before .column-at .ensures) (c .before .before .before .before .before .before .before .pre .2))
 
-slice-aggregate-shifted-column : tie.Need-slice-aggregate-shifted-column
-slice-aggregate-shifted-column c = search needs
+slice-aggregate-transferred-column : tie.Need-slice-aggregate-transferred-column
+slice-aggregate-transferred-column c = search needs
 
-shifted-column-requires : tie.Need-shifted-column-requires
-shifted-column-requires c κs = (search needs, parts-fit _ (c .before .before .before .before .before .before .before .before .before .pre .1) _ _ (column-fits _ (c .before .before .before .before .before .before .before .before .before .pre .1) _ _ _ _ (c .before .before .before .before .before .before .column-at .ensures) (c .before .before .before .before .before .before .before .before .before .pre .2)) (c .before .shares-of .ensures))
+transferred-column-requires : tie.Need-transferred-column-requires
+transferred-column-requires c κs = (search needs, parts-fit _ (c .before .before .before .before .before .before .before .before .before .pre .1) _ _ (column-fits _ (c .before .before .before .before .before .before .before .before .before .pre .1) _ _ _ _ (c .before .before .before .before .before .before .column-at .ensures) (c .before .before .before .before .before .before .before .before .before .pre .2)) (c .before .shares-of .ensures))
 
 store-column-requires : tie.Need-store-column-requires
 store-column-requires c κs = search needs
@@ -36,7 +36,7 @@ returns-2 : tie.Need-returns-2
 returns-2 c =
     let few = c .before .before .before .before .before .before .before .before .before .before .before .before .before .before .pre .1 .few in
     column-transferred _ _ _ _ _ (shareColumn (c .before .before .before .before .before .before .before .before .before .before .before .before .before .before .args .x)) (c .before .before .before .before .before .before .before .before .before .before .before .before .before .before .pre .0) (λ v w h l same. share-ext (c .before .before .before .before .before .before .before .before .before .before .before .before .before .before .args .x) v w h few l same)
-    (column-shared (c .before .before .before .before .before .before .before .before .before .before .before .before .before .before .args .x) (c .before .before .before .before .before .before .before .before .before .before .before .before .before .before .pre .1) _ _ _ _ _ _ (c .before .before .before .before .before .before .before .before .before .before .before .column-at .ensures) (c .before .before .before .before .before .before .shares-of .ensures) (c .before .before .before .before .shifted-column .ensures))
+    (column-shared (c .before .before .before .before .before .before .before .before .before .before .before .before .before .before .args .x) (c .before .before .before .before .before .before .before .before .before .before .before .before .before .before .pre .1) _ _ _ _ _ _ (c .before .before .before .before .before .before .before .before .before .before .before .column-at .ensures) (c .before .before .before .before .before .before .shares-of .ensures) (c .before .before .before .before .transferred-column .ensures))
     (c .before .before .store-column .ensures)
 
 pub transfer-column-spec : {M : Type 1} → statement M
@@ -48,8 +48,8 @@ transfer-column-spec =
     same-length
     returns
     shares-of-requires
-    slice-aggregate-shifted-column
-    shifted-column-requires
+    slice-aggregate-transferred-column
+    transferred-column-requires
     store-column-requires
     same-length-2
     returns-2)

@@ -5,11 +5,11 @@ use borrow.Author.Needs.{needs}
 use Rattle.migrate.proofs.transfers.transfer_load.Statement.{statement}
 use Rattle.migrate.proofs.transfers.transfer_load.Tie as tie
 
-slice-aggregate-shifted-column : tie.Need-slice-aggregate-shifted-column
-slice-aggregate-shifted-column c = search needs
+slice-aggregate-transferred-column : tie.Need-slice-aggregate-transferred-column
+slice-aggregate-transferred-column c = search needs
 
-shifted-column-requires : tie.Need-shifted-column-requires
-shifted-column-requires c κs = (search needs, loads-fit _ (c .before .before .before .before .pre .1))
+transferred-column-requires : tie.Need-transferred-column-requires
+transferred-column-requires c κs = (search needs, loads-fit _ (c .before .before .before .before .pre .1))
 
 add-store-column : tie.Need-add-store-column
 add-store-column c = search needs
@@ -25,15 +25,15 @@ unfolding loadAt
 returns c =
     let few = c .before .before .before .before .before .before .before .before .before .pre .1 .few in
     column-transferred _ _ _ _ _ (loadColumn (c .before .before .before .before .before .before .before .before .before .args .x)) (c .before .before .before .before .before .before .before .before .before .pre .0) (λ v w h l same. load-ext (c .before .before .before .before .before .before .before .before .before .args .x) v w h few l same)
-    (load-shared (c .before .before .before .before .before .before .before .before .before .args .x) (c .before .before .before .before .before .before .before .before .before .pre .1) _ _ _ _ (c .before .before .before .before .before .before .before .before .before .pre .2) (c .before .before .before .before .shifted-column .ensures))
+    (load-shared (c .before .before .before .before .before .before .before .before .before .args .x) (c .before .before .before .before .before .before .before .before .before .pre .1) _ _ _ _ (c .before .before .before .before .before .before .before .before .before .pre .2) (c .before .before .before .before .transferred-column .ensures))
     (c .before .before .store-column .ensures)
 
 pub transfer-load-spec : {M : Type 1} → statement M
 transfer-load-spec =
     tie.close
     (tie.spec
-    slice-aggregate-shifted-column
-    shifted-column-requires
+    slice-aggregate-transferred-column
+    transferred-column-requires
     add-store-column
     store-column-requires
     same-length

@@ -8,7 +8,7 @@ use Rattle.migrate.specs.Columns.{Transferred}
 use Rattle.migrate.specs.Transfers.{shareColumn, columnWhere}
 use Rattle.migrate.proofs.WhereLaws.{where-long}
 use Rattle.migrate.proofs.MovingLaws.{below, one-more}
-use Rattle.migrate.proofs.PathMoves.{onPath, slotNumber, first-slot, path-moved, path-still, next-slot-fits}
+use Rattle.migrate.proofs.PathTransfers.{onPath, slotNumber, first-slot, path-moved, path-still, next-slot-fits}
 use borrow.Author.Needs.{needs}
 use Rattle.migrate.proofs.transfers.transfer_path.Statement.{statement}
 use Rattle.migrate.proofs.transfers.transfer_path.Tie as tie

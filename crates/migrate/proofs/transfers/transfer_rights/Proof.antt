@@ -11,7 +11,7 @@ use Rattle.migrate.specs.Columns.{Transferred}
 use Rattle.migrate.specs.Transfers.{shareColumn, movesAt, columnWhere}
 use Rattle.migrate.proofs.WhereLaws.{where-long}
 use Rattle.migrate.proofs.MovingLaws.{below, none-yet, one-more, all-moved}
-use Rattle.migrate.proofs.PathMoves.{pathNumber, next-path-fits}
+use Rattle.migrate.proofs.PathTransfers.{pathNumber, next-path-fits}
 use borrow.Author.Needs.{needs}
 use Rattle.migrate.proofs.transfers.transfer_rights.Statement.{statement}
 use Rattle.migrate.proofs.transfers.transfer_rights.Tie as tie

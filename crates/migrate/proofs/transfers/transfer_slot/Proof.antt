@@ -1,7 +1,7 @@
 -- `migrate::transfers::transfer_slot` meets its contract: the column is transferred where it moves, and left where it does not. Assumes nothing.
 use mathlib.Core.Path.{sym, _∙_}
 use borrow.Author.Tests.{not-true, not-false}
-use Rattle.migrate.proofs.PathMoves.{slot-moved, slot-still}
+use Rattle.migrate.proofs.PathTransfers.{slot-moved, slot-still}
 use borrow.Author.Needs.{needs}
 use Rattle.migrate.proofs.transfers.transfer_slot.Statement.{statement}
 use Rattle.migrate.proofs.transfers.transfer_slot.Tie as tie

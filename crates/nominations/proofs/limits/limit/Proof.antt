@@ -1,5 +1,5 @@
 -- `nominations::limits::limit` meets its contract: a query that meets no cause is answered by the limit. Assumes nothing.
-use Rattle.nominations.proofs.LimitLaws.{query-asks, limit-answered}
+use Rattle.nominations.proofs.LimitLaws.{query-inputs, limit-answered}
 use Rattle.slots.proofs.StepLaws.{query-refused}
 use borrow.Author.Needs.{needs}
 use Rattle.nominations.proofs.limits.limit.Statement.{statement}
@@ -18,7 +18,7 @@ current-tier-requires : tie.Need-current-tier-requires
 current-tier-requires c κs = search needs
 
 tier-limit-requires : tie.Need-tier-limit-requires
-tier-limit-requires c κs = query-asks _ _ _ _ _ _ _ (c .before .before .before .limit-refusal .ensures) (c .before .before .if1 .left) (c .current-tier .ensures) (c .before .sink-base .ensures) (c .before .before .before .before .before .before .pre)
+tier-limit-requires c κs = query-inputs _ _ _ _ _ _ _ (c .before .before .before .limit-refusal .ensures) (c .before .before .if1 .left) (c .current-tier .ensures) (c .before .sink-base .ensures) (c .before .before .before .before .before .before .pre)
 
 returns-2 : tie.Need-returns-2
 returns-2 c m x r = limit-answered _ _ _ _ _ _ _ (c .before .before .before .before .limit-refusal .ensures) (c .before .before .before .if1 .left) (c .before .current-tier .ensures) (c .before .before .sink-base .ensures) m x _ r (c .tier-limit .ensures m x r)

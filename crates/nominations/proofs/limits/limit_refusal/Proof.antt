@@ -11,11 +11,11 @@ use borrow.Author.Needs.{needs}
 use Rattle.nominations.proofs.limits.limit_refusal.Statement.{statement}
 use Rattle.nominations.proofs.limits.limit_refusal.Tie as tie
 
-no-holder-requires : tie.Need-no-holder-requires
-no-holder-requires c κs = search needs
+unknown-holder-requires : tie.Need-unknown-holder-requires
+unknown-holder-requires c κs = search needs
 
-no-sink-requires : tie.Need-no-sink-requires
-no-sink-requires c κs = search needs
+unknown-sink-requires : tie.Need-unknown-sink-requires
+unknown-sink-requires c κs = search needs
 
 current-tier-requires : tie.Need-current-tier-requires
 current-tier-requires c κs = search needs
@@ -32,15 +32,15 @@ refuse-requires-2 c κs = search needs
 returns : tie.Need-returns
 unfolding queryRefusal queryCauses limitCauses tierIsOpen ledgerIn
 returns c m x r =
-    link notInBook _ _ _ (c .refuse2 .ensures) (ap₂ (λ a b. a || b) (c .before .before .before .before .before .no-holder .ensures) (c .before .before .before .before .no-sink .ensures))
+    link notInBook _ _ _ (c .refuse2 .ensures) (ap₂ (λ a b. a || b) (c .before .before .before .before .before .unknown-holder .ensures) (c .before .before .before .before .unknown-sink .ensures))
     (link notAtThisTime _ _ _ (c .before .refuse .ensures) (ap not (open-test _ _ _ (c .before .before .is-open .ensures) (c .before .before .before .current-tier .ensures))) no-more)
 
 pub limit-refusal-spec : {M : Type 1} → statement M
 limit-refusal-spec =
     tie.close
     (tie.spec
-    no-holder-requires
-    no-sink-requires
+    unknown-holder-requires
+    unknown-sink-requires
     current-tier-requires
     is-open-requires
     refuse-requires

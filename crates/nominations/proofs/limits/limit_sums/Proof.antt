@@ -11,8 +11,8 @@ tier-rule-requires c κs = search needs
 carried-month-requires : tie.Need-carried-month-requires
 carried-month-requires c κs = search needs
 
-less-requires : tie.Need-less-requires
-less-requires c κs = search needs
+saturating-sub-requires : tie.Need-saturating-sub-requires
+saturating-sub-requires c κs = search needs
 
 add-read : tie.Need-add-read
 add-read c = search needs
@@ -30,10 +30,10 @@ add-sum-paths-2 : tie.Need-add-sum-paths-2
 add-sum-paths-2 c = search needs
 
 sum-paths-requires : tie.Need-sum-paths-requires
-sum-paths-requires c κs = all-summable _ _ _ _ _ _ _ _ (c .before .before .before .before .before .before .pre) (c .before .before .before .tier-rule .ensures) (c .before .before .carried-month .ensures) (c .before .less .ensures)
+sum-paths-requires c κs = all-summable _ _ _ _ _ _ _ _ (c .before .before .before .before .before .before .pre) (c .before .before .before .tier-rule .ensures) (c .before .before .carried-month .ensures) (c .before .saturating-sub .ensures)
 
 returns : tie.Need-returns
-returns c m x r = limit-sums-are _ _ _ _ _ _ _ _ (c .before .before .before .before .before .before .before .pre) (c .before .before .before .before .tier-rule .ensures) m x r _ _ (c .before .before .before .carried-month .ensures) (c .before .before .less .ensures) (c .before .read .ensures) (c .sum-paths .ensures)
+returns c m x r = limit-sums-are _ _ _ _ _ _ _ _ (c .before .before .before .before .before .before .before .pre) (c .before .before .before .before .tier-rule .ensures) m x r _ _ (c .before .before .before .carried-month .ensures) (c .before .before .saturating-sub .ensures) (c .before .read .ensures) (c .sum-paths .ensures)
 
 pub limit-sums-spec : {M : Type 1} → statement M
 limit-sums-spec =
@@ -41,7 +41,7 @@ limit-sums-spec =
     (tie.spec
     tier-rule-requires
     carried-month-requires
-    less-requires
+    saturating-sub-requires
     add-read
     read-requires
     sub-sum-paths

@@ -3,7 +3,7 @@ use Prim.Native.Nat.{_-_, _≤_}
 use mathlib.Core.Path.{_≡_}
 use native.Mathlib.Omega.{arith}
 use Rattle.records.specs.Opening.{openingIn}
-use Rattle.slots.proofs.PathSums.{base-asked}
+use Rattle.slots.proofs.PathSums.{base-inputs}
 use Rattle.nominations.specs.PathSums.{sumsTo}
 use Rattle.nominations.proofs.PathSumLaws.{sums-none, sums-more, sums-whole, path-fits}
 use borrow.Author.Needs.{needs}
@@ -23,7 +23,7 @@ loop-holds : tie.Need-loop-holds Inv-loop μ-loop
 loop-holds c = (search needs, sums-none _ _ _ _ _ _ _)
 
 path-base-requires : tie.Need-path-base-requires Inv-loop μ-loop
-path-base-requires c κs = base-asked _ _ _ 0 0 (c .before .before .before .before .before .pre .slots 0 (omega arith)) _ _ (c .before .before .paths .ensures) (c .loop-test .taken)
+path-base-requires c κs = base-inputs _ _ _ 0 0 (c .before .before .before .before .before .pre .slots 0 (omega arith)) _ _ (c .before .before .paths .ensures) (c .loop-test .taken)
 
 with-path-requires : tie.Need-with-path-requires Inv-loop μ-loop
 with-path-requires c κs = path-fits _ _ _ _ _ _ _ (c .before .before .before .before .before .before .pre) _ _ _ (c .before .before .before .paths .ensures) (c .before .loop-test .taken) (c .before .before .loop .inv .1)

@@ -1,10 +1,10 @@
--- `nominations::nominate::exceeds_verified` meets its contract: it is looked at for an outside entity alone. Assumes nothing.
+-- `nominations::nominate::exceeds_verified` meets its contract: it is looked at for an OBAALSE alone. Assumes nothing.
 use Prim.Native.Nat.{_<_}
 use mathlib.Core.Path.{sym, subst}
 use native.Mathlib.Omega.{arith}
 use Rattle.slots.proofs.Places.{source-place}
 use Rattle.nominations.proofs.UsageLaws.{usage-fits}
-use Rattle.nominations.proofs.VerifiedLaws.{not-outside, verified-test}
+use Rattle.nominations.proofs.VerifiedLaws.{not-obaalse, verified-test}
 use borrow.Author.Needs.{needs}
 use Rattle.nominations.proofs.nominate.exceeds_verified.Statement.{statement}
 use Rattle.nominations.proofs.nominate.exceeds_verified.Tie as tie
@@ -13,7 +13,7 @@ holder-kind-requires : tie.Need-holder-kind-requires
 holder-kind-requires c κs = search needs
 
 returns : tie.Need-returns
-returns c m x r = not-outside _ _ _ _ _ _ _ (c .before .holder-kind .ensures) (c .if1 .taken)
+returns c m x r = not-obaalse _ _ _ _ _ _ _ (c .before .holder-kind .ensures) (c .if1 .taken)
 
 path-source-requires : tie.Need-path-source-requires
 path-source-requires c κs = search needs

@@ -12,24 +12,24 @@ use borrow.Author.Needs.{needs}
 use Rattle.nominations.proofs.nominate.nominate_refusal.Statement.{statement}
 use Rattle.nominations.proofs.nominate.nominate_refusal.Tie as tie
 
-no-holder-requires : tie.Need-no-holder-requires
-no-holder-requires c κs = search needs
+unknown-holder-requires : tie.Need-unknown-holder-requires
+unknown-holder-requires c κs = search needs
 
-no-path-requires : tie.Need-no-path-requires
-no-path-requires c κs = search needs
+unknown-path-requires : tie.Need-unknown-path-requires
+unknown-path-requires c κs = search needs
 
 returns : tie.Need-returns
 unfolding refusal callCauses nominateCauses
-returns c m x r = met-first notInBook _ _ (sym (ap₂ (λ a b. a || b) (c .before .before .no-holder .ensures) (c .before .no-path .ensures)) ∙ c .if1 .taken)
+returns c m x r = met-first notInBook _ _ (sym (ap₂ (λ a b. a || b) (c .before .before .unknown-holder .ensures) (c .before .unknown-path .ensures)) ∙ c .if1 .taken)
 
-wrong-kw-requires : tie.Need-wrong-kw-requires
-wrong-kw-requires c κs = search needs
+kw-out-of-range-requires : tie.Need-kw-out-of-range-requires
+kw-out-of-range-requires c κs = search needs
 
 returns-2 : tie.Need-returns-2
 unfolding refusal callCauses nominateCauses
 returns-2 c m x r =
-    unmet-first notInBook _ _ (sym (ap₂ (λ a b. a || b) (c .before .before .before .before .no-holder .ensures) (c .before .before .before .no-path .ensures)) ∙ c .before .before .if1 .left)
-    (met-first outOfRange _ _ (sym (c .before .wrong-kw .ensures) ∙ c .if2 .taken))
+    unmet-first notInBook _ _ (sym (ap₂ (λ a b. a || b) (c .before .before .before .before .unknown-holder .ensures) (c .before .before .before .unknown-path .ensures)) ∙ c .before .before .if1 .left)
+    (met-first outOfRange _ _ (sym (c .before .kw-out-of-range .ensures) ∙ c .if2 .taken))
 
 current-tier-requires : tie.Need-current-tier-requires
 current-tier-requires c κs = search needs
@@ -40,18 +40,18 @@ is-open-requires c κs = search needs
 returns-3 : tie.Need-returns-3
 unfolding refusal callCauses nominateCauses tierIsOpen ledgerIn
 returns-3 c m x r =
-    unmet-first notInBook _ _ (sym (ap₂ (λ a b. a || b) (c .before .before .before .before .before .before .before .no-holder .ensures) (c .before .before .before .before .before .before .no-path .ensures)) ∙ c .before .before .before .before .before .if1 .left)
-    (unmet-first outOfRange _ _ (sym (c .before .before .before .before .wrong-kw .ensures) ∙ c .before .before .before .if2 .left)
+    unmet-first notInBook _ _ (sym (ap₂ (λ a b. a || b) (c .before .before .before .before .before .before .before .unknown-holder .ensures) (c .before .before .before .before .before .before .unknown-path .ensures)) ∙ c .before .before .before .before .before .if1 .left)
+    (unmet-first outOfRange _ _ (sym (c .before .before .before .before .kw-out-of-range .ensures) ∙ c .before .before .before .if2 .left)
     (met-first notAtThisTime _ _ (sym (ap not (open-test _ _ _ (c .before .is-open .ensures) (c .before .before .current-tier .ensures))) ∙ c .if3 .taken)))
 
 refusal-in-tier-requires : tie.Need-refusal-in-tier-requires
-refusal-in-tier-requires c κs = in-book _ _ _ _ _ _ _ _ (c .before .before .before .before .before .before .before .before .before .before .pre) (c .before .before .before .before .before .before .before .no-holder .ensures) (c .before .before .before .before .before .before .no-path .ensures) (c .before .before .before .before .before .if1 .left) (c .before .before .before .before .wrong-kw .ensures) (c .before .before .before .if2 .left)
+refusal-in-tier-requires c κs = in-book _ _ _ _ _ _ _ _ (c .before .before .before .before .before .before .before .before .before .before .pre) (c .before .before .before .before .before .before .before .unknown-holder .ensures) (c .before .before .before .before .before .before .unknown-path .ensures) (c .before .before .before .before .before .if1 .left) (c .before .before .before .before .kw-out-of-range .ensures) (c .before .before .before .if2 .left)
 
 returns-4 : tie.Need-returns-4
 unfolding refusal callCauses nominateCauses tierIsOpen ledgerIn
 returns-4 c m x r =
-    unmet-first notInBook _ _ (sym (ap₂ (λ a b. a || b) (c .before .before .before .before .before .before .before .before .no-holder .ensures) (c .before .before .before .before .before .before .before .no-path .ensures)) ∙ c .before .before .before .before .before .before .if1 .left)
-    (unmet-first outOfRange _ _ (sym (c .before .before .before .before .before .wrong-kw .ensures) ∙ c .before .before .before .before .if2 .left)
+    unmet-first notInBook _ _ (sym (ap₂ (λ a b. a || b) (c .before .before .before .before .before .before .before .before .unknown-holder .ensures) (c .before .before .before .before .before .before .before .unknown-path .ensures)) ∙ c .before .before .before .before .before .before .if1 .left)
+    (unmet-first outOfRange _ _ (sym (c .before .before .before .before .before .kw-out-of-range .ensures) ∙ c .before .before .before .before .if2 .left)
     (unmet-first notAtThisTime _ _ (sym (ap not (open-test _ _ _ (c .before .before .is-open .ensures) (c .before .before .before .current-tier .ensures))) ∙ c .before .if3 .left)
     (c .refusal-in-tier .ensures m x r)))
 
@@ -59,10 +59,10 @@ pub nominate-refusal-spec : {M : Type 1} → statement M
 nominate-refusal-spec =
     tie.close
     (tie.spec
-    no-holder-requires
-    no-path-requires
+    unknown-holder-requires
+    unknown-path-requires
     returns
-    wrong-kw-requires
+    kw-out-of-range-requires
     returns-2
     current-tier-requires
     is-open-requires

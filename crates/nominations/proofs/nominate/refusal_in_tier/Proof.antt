@@ -1,6 +1,6 @@
 -- `nominations::nominate::refusal_in_tier` meets its contract: its tests are causes 10 to 13, in their order. Assumes nothing.
 use mathlib.Core.Path.{sym, _∙_}
-use Rattle.ledger.specs.Numbers.{sinkNotForIt, aboveVerified, aboveRenewable, aboveLimit}
+use Rattle.ledger.specs.Numbers.{sinkIneligible, aboveVerified, abovePrior, aboveLimit}
 use Rattle.ledger.specs.Causes.{nominateCauses}
 use Rattle.records.proofs.CauseLaws.{link, no-more}
 use Rattle.records.proofs.MetCauses.{met-first, unmet-first}
@@ -13,7 +13,7 @@ sink-ineligible-requires c κs = search needs
 
 returns : tie.Need-returns
 unfolding nominateCauses
-returns c m x r = met-first sinkNotForIt _ _ (sym (c .before .sink-ineligible .ensures m x r) ∙ c .if1 .taken)
+returns c m x r = met-first sinkIneligible _ _ (sym (c .before .sink-ineligible .ensures m x r) ∙ c .if1 .taken)
 
 exceeds-verified-requires : tie.Need-exceeds-verified-requires
 exceeds-verified-requires c κs = search needs
@@ -21,7 +21,7 @@ exceeds-verified-requires c κs = search needs
 returns-2 : tie.Need-returns-2
 unfolding nominateCauses
 returns-2 c m x r =
-    unmet-first sinkNotForIt _ _ (sym (c .before .before .before .sink-ineligible .ensures m x r) ∙ c .before .before .if1 .left)
+    unmet-first sinkIneligible _ _ (sym (c .before .before .before .sink-ineligible .ensures m x r) ∙ c .before .before .if1 .left)
     (met-first aboveVerified _ _ (sym (c .before .exceeds-verified .ensures m x r) ∙ c .if2 .taken))
 
 exceeds-prior-requires : tie.Need-exceeds-prior-requires
@@ -30,9 +30,9 @@ exceeds-prior-requires c κs = search needs
 returns-3 : tie.Need-returns-3
 unfolding nominateCauses
 returns-3 c m x r =
-    unmet-first sinkNotForIt _ _ (sym (c .before .before .before .before .before .sink-ineligible .ensures m x r) ∙ c .before .before .before .before .if1 .left)
+    unmet-first sinkIneligible _ _ (sym (c .before .before .before .before .before .sink-ineligible .ensures m x r) ∙ c .before .before .before .before .if1 .left)
     (unmet-first aboveVerified _ _ (sym (c .before .before .before .exceeds-verified .ensures m x r) ∙ c .before .before .if2 .left)
-    (met-first aboveRenewable _ _ (sym (c .before .exceeds-prior .ensures m x r) ∙ c .if3 .taken)))
+    (met-first abovePrior _ _ (sym (c .before .exceeds-prior .ensures m x r) ∙ c .if3 .taken)))
 
 exceeds-limit-requires : tie.Need-exceeds-limit-requires
 exceeds-limit-requires c κs = search needs
@@ -43,9 +43,9 @@ refuse-requires c κs = search needs
 returns-4 : tie.Need-returns-4
 unfolding nominateCauses
 returns-4 c m x r =
-    unmet-first sinkNotForIt _ _ (sym (c .before .before .before .before .before .before .before .sink-ineligible .ensures m x r) ∙ c .before .before .before .before .before .before .if1 .left)
+    unmet-first sinkIneligible _ _ (sym (c .before .before .before .before .before .before .before .sink-ineligible .ensures m x r) ∙ c .before .before .before .before .before .before .if1 .left)
     (unmet-first aboveVerified _ _ (sym (c .before .before .before .before .before .exceeds-verified .ensures m x r) ∙ c .before .before .before .before .if2 .left)
-    (unmet-first aboveRenewable _ _ (sym (c .before .before .before .exceeds-prior .ensures m x r) ∙ c .before .before .if3 .left)
+    (unmet-first abovePrior _ _ (sym (c .before .before .before .exceeds-prior .ensures m x r) ∙ c .before .before .if3 .left)
     (link aboveLimit _ _ _ (c .refuse .ensures) (c .before .exceeds-limit .ensures m x r) no-more)))
 
 pub refusal-in-tier-spec : {M : Type 1} → statement M

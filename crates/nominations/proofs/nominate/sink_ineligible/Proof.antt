@@ -13,11 +13,11 @@ current-tier-requires c κs = search needs
 is-sub-lap-requires : tie.Need-is-sub-lap-requires
 is-sub-lap-requires c κs = search needs
 
-sink-not-for-requires : tie.Need-sink-not-for-requires
-sink-not-for-requires c κs = search needs
+kind-ineligible-requires : tie.Need-kind-ineligible-requires
+kind-ineligible-requires c κs = search needs
 
 returns : tie.Need-returns
-returns c m x r = sink-test _ _ m x _ _ _ _ _ _ (c .before .before .current-tier .ensures) (c .before .before .before .path-sink .ensures) (c .sink-not-for .ensures) (c .before .is-sub-lap .ensures)
+returns c m x r = sink-test _ _ m x _ _ _ _ _ _ (c .before .before .current-tier .ensures) (c .before .before .before .path-sink .ensures) (c .kind-ineligible .ensures) (c .before .is-sub-lap .ensures)
 
 pub sink-ineligible-spec : {M : Type 1} → statement M
 sink-ineligible-spec =
@@ -26,5 +26,5 @@ sink-ineligible-spec =
     path-sink-requires
     current-tier-requires
     is-sub-lap-requires
-    sink-not-for-requires
+    kind-ineligible-requires
     returns)

@@ -4,7 +4,7 @@ use mathlib.Core.Path.{_≡_, refl}
 use native.Mathlib.Omega.{arith}
 use Rattle.tariff.specs.Sum.{sumTo}
 use Rattle.tariff.proofs.Sums.{sum-more, sum-whole}
-use Rattle.ledger.specs.Verification.{drawnBefore}
+use Rattle.ledger.specs.Verification.{usedBefore}
 use Rattle.slots.specs.Steps.{InFigures}
 use Rattle.nominations.specs.Usage.{awardsUsed}
 use Rattle.nominations.proofs.UsageLaws.{before-room}
@@ -41,7 +41,7 @@ loop-again : tie.Need-loop-again Inv-loop μ-loop
 loop-again c = (search needs, λ m x r. sum-more _ _ _ _ (c .before .before .loop .inv .1 m x r) (c .awards-used .ensures m x r))
 
 returns : tie.Need-returns Inv-loop μ-loop
-unfolding drawnBefore awardsUsed
+unfolding usedBefore awardsUsed
 returns c m x r = sum-whole _ _ _ _ (c .before .loop .inv .0) (c .loop-test .left) (c .before .loop .inv .1 m x r)
 
 pub used-before-spec : {M : Type 1} → statement M

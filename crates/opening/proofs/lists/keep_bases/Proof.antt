@@ -1,4 +1,4 @@
--- `opening::lists::keep_bases` meets its contract: the bases are copied in behind the lists. Assumes nothing.
+-- `opening::lists::keep_bases` meets its contract: the bases are copied in after the lists. Assumes nothing.
 use mathlib.Core.Path.{ap, _∙_}
 use mathlib.Core.List.{_++_}
 use lib.ListN.{length, take}

@@ -1,4 +1,4 @@
--- `opening::lists::keep_opening` meets its contract: the counts are stored, and each list is copied in behind what stands there. Assumes nothing.
+-- `opening::lists::keep_opening` meets its contract: the counts are stored, and each list is copied in after what stands there. Assumes nothing.
 use mathlib.Core.Path.{sym, _∙_}
 use native.Mathlib.Omega.{arith}
 use Rattle.opening.proofs.KeptArray.{counted-size, size-1, size-2, size-3, size-4, size-5, opening-kept}

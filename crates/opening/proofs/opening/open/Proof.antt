@@ -1,6 +1,6 @@
 -- `opening::opening::open` meets its contract: a legal opening is kept, and any other leaves one with nothing in it. Assumes nothing.
 use mathlib.Core.Path.{ap, _∙_}
-use Rattle.tariff.specs.Sum.{listTo}
+use Rattle.tariff.specs.Sum.{tabulate}
 use Rattle.opening.proofs.KeptOpening.{opened-done, opened-refused}
 use borrow.Author.Needs.{needs}
 use Rattle.opening.proofs.opening.open.Statement.{statement}
@@ -31,7 +31,7 @@ same-length-2 : tie.Need-same-length-2
 same-length-2 c = search needs
 
 returns-2 : tie.Need-returns-2
-returns-2 c = opened-refused _ _ (c .before .before .before .before .before .before .before .before .before .before .keep-opening .ensures) (c .before .before .before .before .before .before .before .lists-fit .ensures (c .before .before .before .before .before .before .before .before .before .before .before .before .before .before .before .before .before .before .args .sources)) (c .before .before .before .before .before .is-legal .ensures) _ (c .before .before .before .before .if1 .left) (c .before .before .clear .ensures ∙ ap (λ n. listTo n (λ k. 0)) (search needs))
+returns-2 c = opened-refused _ _ (c .before .before .before .before .before .before .before .before .before .before .keep-opening .ensures) (c .before .before .before .before .before .before .before .lists-fit .ensures (c .before .before .before .before .before .before .before .before .before .before .before .before .before .before .before .before .before .before .args .sources)) (c .before .before .before .before .before .is-legal .ensures) _ (c .before .before .before .before .if1 .left) (c .before .before .clear .ensures ∙ ap (λ n. tabulate n (λ k. 0)) (search needs))
 
 pub open-spec : {M : Type 1} → statement M
 open-spec =

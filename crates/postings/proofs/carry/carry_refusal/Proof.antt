@@ -2,9 +2,9 @@
 use mathlib.Core.Bool.{_||_}
 use mathlib.Core.Path.{ap, ap₂, _∙_}
 use native.Mathlib.Omega.{arith}
-use Rattle.ledger.specs.Causes.{sinkNotFor, carryCauses, callCauses, refusal}
+use Rattle.ledger.specs.Causes.{kindIneligible, carryCauses, callCauses, refusal}
 use Rattle.ledger.specs.Calendar.{tierIsOpen, beforeTier}
-use Rattle.ledger.specs.Numbers.{notInBook, outOfRange, notAtThisTime, postedBefore, sinkNotForIt}
+use Rattle.ledger.specs.Numbers.{notInBook, outOfRange, notAtThisTime, postedBefore, sinkIneligible}
 use Rattle.records.proofs.CauseLaws.{link, no-more}
 use Rattle.slots.specs.Layout.{ledgerIn, carryPostedSlot}
 use Rattle.slots.proofs.Reachable.{posted-long}
@@ -14,14 +14,14 @@ use borrow.Author.Needs.{needs}
 use Rattle.postings.proofs.carry.carry_refusal.Statement.{statement}
 use Rattle.postings.proofs.carry.carry_refusal.Tie as tie
 
-no-holder-requires : tie.Need-no-holder-requires
-no-holder-requires c κs = search needs
+unknown-holder-requires : tie.Need-unknown-holder-requires
+unknown-holder-requires c κs = search needs
 
-no-path-requires : tie.Need-no-path-requires
-no-path-requires c κs = search needs
+unknown-path-requires : tie.Need-unknown-path-requires
+unknown-path-requires c κs = search needs
 
-wrong-kw-requires : tie.Need-wrong-kw-requires
-wrong-kw-requires c κs = search needs
+kw-out-of-range-requires : tie.Need-kw-out-of-range-requires
+kw-out-of-range-requires c κs = search needs
 
 last-closed-requires : tie.Need-last-closed-requires
 last-closed-requires c κs = search needs
@@ -38,8 +38,8 @@ is-posted-requires c κs = posted-long _ _ _ _ (c .before .before .before .befor
 path-sink-requires : tie.Need-path-sink-requires
 path-sink-requires c κs = search needs
 
-sink-not-for-requires : tie.Need-sink-not-for-requires
-sink-not-for-requires c κs = search needs
+kind-ineligible-requires : tie.Need-kind-ineligible-requires
+kind-ineligible-requires c κs = search needs
 
 refuse-requires : tie.Need-refuse-requires
 refuse-requires c κs = search needs
@@ -59,25 +59,25 @@ refuse-requires-5 c κs = search needs
 returns : tie.Need-returns
 unfolding refusal callCauses carryCauses beforeTier tierIsOpen ledgerIn
 returns c x r =
-    link notInBook _ _ _ (c .refuse5 .ensures) (ap₂ (λ a b. a || b) (c .before .before .before .before .before .before .before .before .before .before .before .before .before .no-holder .ensures) (c .before .before .before .before .before .before .before .before .before .before .before .before .no-path .ensures))
-    (link outOfRange _ _ _ (c .before .refuse4 .ensures) (c .before .before .before .before .before .before .before .before .before .before .before .wrong-kw .ensures)
+    link notInBook _ _ _ (c .refuse5 .ensures) (ap₂ (λ a b. a || b) (c .before .before .before .before .before .before .before .before .before .before .before .before .before .unknown-holder .ensures) (c .before .before .before .before .before .before .before .before .before .before .before .before .unknown-path .ensures))
+    (link outOfRange _ _ _ (c .before .refuse4 .ensures) (c .before .before .before .before .before .before .before .before .before .before .before .kw-out-of-range .ensures)
     (link notAtThisTime _ _ _ (c .before .before .refuse3 .ensures) (late-test 1 _ _ _ _ _ (c .before .before .before .before .before .before .before .before .before-tier .ensures) (c .before .before .before .before .before .before .before .before .before .before .last-closed .ensures) (c .before .before .before .before .before .before .before .before .before .current-tier .ensures))
     (link postedBefore _ _ _ (c .before .before .before .refuse2 .ensures) (c .before .before .before .before .before .before .before .is-posted .ensures ∙ posted-one _ _ _ carryPostedSlot (omega arith))
-    (link sinkNotForIt _ _ _ (c .before .before .before .before .refuse .ensures) (c .before .before .before .before .before .sink-not-for .ensures ∙ ap (sinkNotFor _ _) (c .before .before .before .before .before .before .path-sink .ensures)) no-more))))
+    (link sinkIneligible _ _ _ (c .before .before .before .before .refuse .ensures) (c .before .before .before .before .before .kind-ineligible .ensures ∙ ap (kindIneligible _ _) (c .before .before .before .before .before .before .path-sink .ensures)) no-more))))
 
 pub carry-refusal-spec : {M : Type 1} → statement M
 carry-refusal-spec =
     tie.close
     (tie.spec
-    no-holder-requires
-    no-path-requires
-    wrong-kw-requires
+    unknown-holder-requires
+    unknown-path-requires
+    kw-out-of-range-requires
     last-closed-requires
     current-tier-requires
     before-tier-requires
     is-posted-requires
     path-sink-requires
-    sink-not-for-requires
+    kind-ineligible-requires
     refuse-requires
     refuse-requires-2
     refuse-requires-3

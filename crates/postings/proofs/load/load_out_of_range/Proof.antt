@@ -4,14 +4,14 @@ use borrow.Author.Needs.{needs}
 use Rattle.postings.proofs.load.load_out_of_range.Statement.{statement}
 use Rattle.postings.proofs.load.load_out_of_range.Tie as tie
 
-wrong-term-requires : tie.Need-wrong-term-requires
-wrong-term-requires c κs = search needs
+term-out-of-range-requires : tie.Need-term-out-of-range-requires
+term-out-of-range-requires c κs = search needs
 
-any-exceeds-most-kw-requires : tie.Need-any-exceeds-most-kw-requires
-any-exceeds-most-kw-requires c κs = search needs
+any-exceeds-max-kw-requires : tie.Need-any-exceeds-max-kw-requires
+any-exceeds-max-kw-requires c κs = search needs
 
 returns : tie.Need-returns
-returns c = range-by-kws _ _ _ _ _ _ (c .before .wrong-term .ensures) (c .any-exceeds-most-kw .ensures)
+returns c = range-by-kws _ _ _ _ _ _ (c .before .term-out-of-range .ensures) (c .any-exceeds-max-kw .ensures)
 
 pub load-out-of-range-spec : {M : Type 1} → statement M
-load-out-of-range-spec = tie.close (tie.spec wrong-term-requires any-exceeds-most-kw-requires returns)
+load-out-of-range-spec = tie.close (tie.spec term-out-of-range-requires any-exceeds-max-kw-requires returns)

@@ -23,8 +23,8 @@ load-refusal-early-requires c κs = search needs
 returns-2 : tie.Need-returns-2
 returns-2 c x r = early-stops _ _ _ _ _ _ _ _ _ _ (sym (c .before .before .before .same-lengths .ensures) ∙ not-false _ (c .before .before .if1 .left)) _ (c .before .load-refusal-early .ensures x r) (c .if2 .taken)
 
-sink-not-for-requires : tie.Need-sink-not-for-requires
-sink-not-for-requires c κs = search needs
+kind-ineligible-requires : tie.Need-kind-ineligible-requires
+kind-ineligible-requires c κs = search needs
 
 is-sub-lap-requires : tie.Need-is-sub-lap-requires
 is-sub-lap-requires c κs = search needs
@@ -45,13 +45,13 @@ enum-known-kw : tie.Need-enum-known-kw
 enum-known-kw c = search needs
 
 -- what is known where the blocks are looked at
-passed : (c : tie.After-load-posted) (x : List Entry) → Reachable (c .before .before .before .before .before .before .before .before .before .before .before .before .before .args .o .now) (c .before .before .before .before .before .before .before .before .before .before .before .before .before .args .f .now) (c .before .before .before .before .before .before .before .before .before .before .before .before .before .args .m .now) x → Passed (openingIn (c .before .before .before .before .before .before .before .before .before .before .before .before .before .args .o .now)) (ledgerIn (c .before .before .before .before .before .before .before .before .before .before .before .before .before .args .f .now) (c .before .before .before .before .before .before .before .before .before .before .before .before .before .args .m .now) x) (c .before .before .before .before .before .before .before .before .before .before .before .before .before .args .h) (c .before .before .before .before .before .before .before .before .before .before .before .before .before .args .s) (c .before .before .before .before .before .before .before .before .before .before .before .before .before .args .term) (c .before .before .before .before .before .before .before .before .before .before .before .before .before .args .contract) (c .before .before .before .before .before .before .before .before .before .before .before .before .before .args .n) (c .before .before .before .before .before .before .before .before .before .before .before .before .before .args .firsts .now) (c .before .before .before .before .before .before .before .before .before .before .before .before .before .args .hours .now) (c .before .before .before .before .before .before .before .before .before .before .before .before .before .args .kws .now) (c .before .before .before .before .load-refusal-early .result) (c .before .before .sink-not-for .result) (c .before .is-sub-lap .result) (c .load-posted .result)
+passed : (c : tie.After-load-posted) (x : List Entry) → Reachable (c .before .before .before .before .before .before .before .before .before .before .before .before .before .args .o .now) (c .before .before .before .before .before .before .before .before .before .before .before .before .before .args .f .now) (c .before .before .before .before .before .before .before .before .before .before .before .before .before .args .m .now) x → Passed (openingIn (c .before .before .before .before .before .before .before .before .before .before .before .before .before .args .o .now)) (ledgerIn (c .before .before .before .before .before .before .before .before .before .before .before .before .before .args .f .now) (c .before .before .before .before .before .before .before .before .before .before .before .before .before .args .m .now) x) (c .before .before .before .before .before .before .before .before .before .before .before .before .before .args .h) (c .before .before .before .before .before .before .before .before .before .before .before .before .before .args .s) (c .before .before .before .before .before .before .before .before .before .before .before .before .before .args .term) (c .before .before .before .before .before .before .before .before .before .before .before .before .before .args .contract) (c .before .before .before .before .before .before .before .before .before .before .before .before .before .args .n) (c .before .before .before .before .before .before .before .before .before .before .before .before .before .args .firsts .now) (c .before .before .before .before .before .before .before .before .before .before .before .before .before .args .hours .now) (c .before .before .before .before .before .before .before .before .before .before .before .before .before .args .kws .now) (c .before .before .before .before .load-refusal-early .result) (c .before .before .kind-ineligible .result) (c .before .is-sub-lap .result) (c .load-posted .result)
 passed c x r =
     record {
       even = sym (c .before .before .before .before .before .before .same-lengths .ensures) ∙ not-false _ (c .before .before .before .before .before .if1 .left);
       found = c .before .before .before .before .load-refusal-early .ensures x r;
       none = c .before .before .before .if2 .left;
-      ofSink = c .before .before .sink-not-for .ensures;
+      ofSink = c .before .before .kind-ineligible .ensures;
       ofSubLap = c .before .is-sub-lap .ensures;
       metered = c .load-posted .ensures;
     }
@@ -79,7 +79,7 @@ load-posting-spec =
     returns
     load-refusal-early-requires
     returns-2
-    sink-not-for-requires
+    kind-ineligible-requires
     is-sub-lap-requires
     load-posted-requires
     enum-told

@@ -15,11 +15,11 @@ use borrow.Author.Needs.{needs}
 use Rattle.postings.proofs.load.load_refusal_early.Statement.{statement}
 use Rattle.postings.proofs.load.load_refusal_early.Tie as tie
 
-no-holder-requires : tie.Need-no-holder-requires
-no-holder-requires c κs = search needs
+unknown-holder-requires : tie.Need-unknown-holder-requires
+unknown-holder-requires c κs = search needs
 
-no-sink-requires : tie.Need-no-sink-requires
-no-sink-requires c κs = search needs
+unknown-sink-requires : tie.Need-unknown-sink-requires
+unknown-sink-requires c κs = search needs
 
 load-out-of-range-requires : tie.Need-load-out-of-range-requires
 load-out-of-range-requires c κs = search needs
@@ -54,7 +54,7 @@ refuse-requires-4 c κs = search needs
 returns : tie.Need-returns
 unfolding loadCauses loadInTime beforeTier tierIsOpen ledgerIn
 returns c x r =
-    link notInBook _ _ _ (c .refuse4 .ensures) (ap₂ (λ a b. a || b) (c .before .before .before .before .before .before .before .before .before .before .before .no-holder .ensures) (c .before .before .before .before .before .before .before .before .before .before .no-sink .ensures))
+    link notInBook _ _ _ (c .refuse4 .ensures) (ap₂ (λ a b. a || b) (c .before .before .before .before .before .before .before .before .before .before .before .unknown-holder .ensures) (c .before .before .before .before .before .before .before .before .before .before .unknown-sink .ensures))
     (link outOfRange _ _ _ (c .before .refuse3 .ensures) (c .before .before .before .before .before .before .before .before .before .load-out-of-range .ensures)
     (link notAtThisTime _ _ _ (c .before .before .refuse2 .ensures) (late-test _ _ _ _ _ _ (c .before .before .before .before .before .before .before-term .ensures) (c .before .before .before .before .before .before .before .before .last-closed .ensures) (c .before .before .before .before .before .before .before .current-tier .ensures))
     (link postedBefore _ _ _ (c .before .before .before .refuse .ensures) (c .before .before .before .before .is-posted .ensures ∙ posted-there loadPostedSlot terms 0 _ _ _ _ _ (omega arith) (c .before .before .before .before .before .posted-slot .ensures)) no-more)))
@@ -63,8 +63,8 @@ pub load-refusal-early-spec : {M : Type 1} → statement M
 load-refusal-early-spec =
     tie.close
     (tie.spec
-    no-holder-requires
-    no-sink-requires
+    unknown-holder-requires
+    unknown-sink-requires
     load-out-of-range-requires
     last-closed-requires
     current-tier-requires

@@ -16,11 +16,11 @@ use borrow.Author.Needs.{needs}
 use Rattle.postings.proofs.verify.verify_refusal.Statement.{statement}
 use Rattle.postings.proofs.verify.verify_refusal.Tie as tie
 
-no-holder-requires : tie.Need-no-holder-requires
-no-holder-requires c κs = search needs
+unknown-holder-requires : tie.Need-unknown-holder-requires
+unknown-holder-requires c κs = search needs
 
-no-source-requires : tie.Need-no-source-requires
-no-source-requires c κs = search needs
+unknown-source-requires : tie.Need-unknown-source-requires
+unknown-source-requires c κs = search needs
 
 evidence-in-range-requires : tie.Need-evidence-in-range-requires
 evidence-in-range-requires c κs = search needs
@@ -52,7 +52,7 @@ refuse-requires-4 c κs = search needs
 returns : tie.Need-returns
 unfolding refusal callCauses verifyCauses tierIsOpen ledgerIn
 returns c x r =
-    link notInBook _ _ _ (c .refuse4 .ensures) (ap₂ (λ a b. a || b) (c .before .before .before .before .before .before .before .before .before .before .no-holder .ensures) (c .before .before .before .before .before .before .before .before .before .no-source .ensures))
+    link notInBook _ _ _ (c .refuse4 .ensures) (ap₂ (λ a b. a || b) (c .before .before .before .before .before .before .before .before .before .before .unknown-holder .ensures) (c .before .before .before .before .before .before .before .before .before .unknown-source .ensures))
     (link outOfRange _ _ _ (c .before .refuse3 .ensures) (ap not (c .before .before .before .before .before .before .before .before .evidence-in-range .ensures) ∙ not-not _)
     (link notAtThisTime _ _ _ (c .before .before .refuse2 .ensures) (open-test _ _ _ (c .before .before .before .before .before .before .is-open .ensures) (c .before .before .before .before .before .before .before .current-tier .ensures))
     (link postedBefore _ _ _ (c .before .before .before .refuse .ensures) (c .before .before .before .before .is-posted .ensures ∙ posted-there evidencePostedSlot evidenceKinds 1 _ _ _ _ _ (omega arith) (c .before .before .before .before .before .posted-slot .ensures)) no-more)))
@@ -61,8 +61,8 @@ pub verify-refusal-spec : {M : Type 1} → statement M
 verify-refusal-spec =
     tie.close
     (tie.spec
-    no-holder-requires
-    no-source-requires
+    unknown-holder-requires
+    unknown-source-requires
     evidence-in-range-requires
     current-tier-requires
     is-open-requires

@@ -15,7 +15,7 @@ before-tier-requires c κs = search needs
 
 returns : tie.Need-returns
 unfolding firstTierOf
-returns c = let a = c .before .before .args in c .before-tier .ensures ∙ sym (ap (λ b. not (not (eqb (a .open-now) 0)) && ltb (a .last-closed) (cond b 1 (2 * a .term + 2))) (eq-eqb (a .term) 0 (c .before .if1 .taken)))
+returns c = let a = c .before .before .args in c .before-tier .ensures ∙ sym (ap (λ b. not (not (eqb (a .current-tier) 0)) && ltb (a .last-closed) (cond b 1 (2 * a .term + 2))) (eq-eqb (a .term) 0 (c .before .if1 .taken)))
 
 is-open-requires : tie.Need-is-open-requires
 is-open-requires c κs = search needs

@@ -1,4 +1,4 @@
--- `records::setup::path_base` meets its contract: the bases of the paths stand behind the lists. Assumes nothing.
+-- `records::setup::path_base` meets its contract: the bases of the paths stand after the lists. Assumes nothing.
 use native.Mathlib.Omega.{arith}
 use Rattle.records.proofs.OpeningLaws.{bases-size, base-at}
 use borrow.Author.Needs.{needs}

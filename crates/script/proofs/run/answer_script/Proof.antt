@@ -1,6 +1,6 @@
 -- `script::run::answer_script` meets its contract: the book group is answered, and where it opens a book what is left. Assumes nothing.
 use borrow.Author.Tests.{not-true, not-false}
-use Rattle.script.proofs.ScriptLaws.{first-writable, stopped, left-reached, left-within, left-few, left-room, gone-on}
+use Rattle.script.proofs.ScriptLaws.{first-writable, stopped, left-reachable, left-within, left-few, left-room, gone-on}
 use borrow.Author.Needs.{needs}
 use Rattle.script.proofs.run.answer_script.Statement.{statement}
 use Rattle.script.proofs.run.answer_script.Tie as tie
@@ -44,7 +44,7 @@ run-groups-requires c κs =
     let room = s .pre .1 .1 .1 in
     let given = c .before .before .before .before .before .before .before .before .before .open-from-script .ensures in
     let wrote = c .before .before .before .before .before .before .write-answer .ensures in
-    (left-reached _ (s .args .out .now) some few room _ (given .0) _ _ (given .1) _ _ (wrote .0) (wrote .1) (not-false _ (c .before .before .if1 .left)), (left-within _ (s .args .out .now) some few room _ (given .0) _ _ (given .1) _ _ (wrote .0) (wrote .1), (s .pre .1 .0, (left-few _ (s .args .out .now) some few room _ (given .0) _ _ (given .1) _ _ (wrote .0) (wrote .1), left-room _ (s .args .out .now) some few room _ (given .0) _ _ (given .1) _ _ (wrote .0) (wrote .1)))))
+    (left-reachable _ (s .args .out .now) some few room _ (given .0) _ _ (given .1) _ _ (wrote .0) (wrote .1) (not-false _ (c .before .before .if1 .left)), (left-within _ (s .args .out .now) some few room _ (given .0) _ _ (given .1) _ _ (wrote .0) (wrote .1), (s .pre .1 .0, (left-few _ (s .args .out .now) some few room _ (given .0) _ _ (given .1) _ _ (wrote .0) (wrote .1), left-room _ (s .args .out .now) some few room _ (given .0) _ _ (given .1) _ _ (wrote .0) (wrote .1)))))
 
 same-length-2 : tie.Need-same-length-2
 same-length-2 c = search needs

@@ -7,13 +7,13 @@ use borrow.Author.Needs.{needs}
 use Rattle.ledger.specs.Ledger.{emptyLedger}
 use Rattle.slots.proofs.Reachable.{figures-long, posted-long}
 use Rattle.book.specs.Reading.{bookIn, bookOf}
-use Rattle.script.proofs.RunGroupLaws.{RunTo, none-played, played-length, played-within, part-few, turn-some, turn-within, turn-writable, played-turn, played-number, played-bytes}
+use Rattle.script.proofs.RunGroupLaws.{RunSoFar, none-run, answered-length, answered-within, part-few, turn-some, turn-within, turn-writable, group-more, answered-number, answered-bytes}
 use Rattle.script.proofs.run_groups.run_groups.Statement.{statement}
 use Rattle.script.proofs.run_groups.run_groups.Tie as tie
 
 abbrev Inv-loop : tie.InvT-loop
 Inv-loop script from o out₀ start f₀ m₀ at₀ written₀ out f m at written =
-    RunTo script (bookOf o emptyLedger) from start out₀ out o f m at written
+    RunSoFar script (bookOf o emptyLedger) from start out₀ out o f m at written
 
 abbrev μ-loop : tie.MeasureT-loop
 μ-loop script from o out₀ start f₀ m₀ at₀ written₀ out f m at written = length script - at
@@ -25,15 +25,15 @@ loop-holds c =
     let in-script = k .1 .0 in
     let few = k .1 .1 .1 .0 in
     let room = k .1 .1 .1 .1 in
-    none-played _ _ _ _ _ reachable in-script few room
+    none-run _ _ _ _ _ reachable in-script few room
 
 slice-aggregate-run-group : tie.Need-slice-aggregate-run-group Inv-loop μ-loop
 unfolding bookIn
-slice-aggregate-run-group c = sym (figures-long _ _ _ _ (c .before .before .loop .inv .soFar .reached))
+slice-aggregate-run-group c = sym (figures-long _ _ _ _ (c .before .before .loop .inv .soFar .reachable))
 
 slice-aggregate-run-group-2 : tie.Need-slice-aggregate-run-group-2 Inv-loop μ-loop
 unfolding bookIn
-slice-aggregate-run-group-2 c = sym (posted-long _ _ _ _ (c .before .before .before .loop .inv .soFar .reached))
+slice-aggregate-run-group-2 c = sym (posted-long _ _ _ _ (c .before .before .before .loop .inv .soFar .reachable))
 
 sub-run-group : tie.Need-sub-run-group Inv-loop μ-loop
 sub-run-group c = c .before .before .before .loop .inv .soFar .inScript
@@ -48,7 +48,7 @@ run-group-requires : tie.Need-run-group-requires Inv-loop μ-loop
 unfolding bookIn
 run-group-requires c κs =
     let inv = c .before .before .before .before .loop .inv in
-    (record { evidence = inv .evidence; reachable = inv .soFar .reached }, part-few _ _ _ _ _ _ _ _ _ (inv .soFar) (c .before .before .before .loop-test .taken))
+    (record { evidence = inv .evidence; reachable = inv .soFar .reachable }, part-few _ _ _ _ _ _ _ _ _ (inv .soFar) (c .before .before .before .loop-test .taken))
 
 write-answer-requires : tie.Need-write-answer-requires Inv-loop μ-loop
 unfolding bookIn
@@ -56,7 +56,7 @@ write-answer-requires c κs =
     let inv = c .before .before .before .before .before .before .before .before .loop .inv in
     let some = c .before .before .before .before .before .before .before .loop-test .taken in
     let ran = c .before .before .before .run-group .ensures in
-    let answered = ran .0 _ (inv .soFar .reached) in
+    let answered = ran .0 _ (inv .soFar .reachable) in
     turn-writable _ _ _ _ _ _ _ _ _ (inv .soFar) some _ _ _ answered (ran .1)
 
 add-at : tie.Need-add-at Inv-loop μ-loop
@@ -65,7 +65,7 @@ add-at c =
     let inv = c .before .before .before .before .before .before .before .before .before .before .before .before .loop .inv in
     let some = c .before .before .before .before .before .before .before .before .before .before .before .loop-test .taken in
     let ran = c .before .before .before .before .before .before .before .run-group .ensures in
-    let answered = ran .0 _ (inv .soFar .reached) in
+    let answered = ran .0 _ (inv .soFar .reachable) in
     let within = turn-within _ _ _ _ _ _ _ _ _ (inv .soFar) some _ _ _ answered (ran .1) in
     let short = c .before .before .before .before .before .before .before .before .before .before .before .before .before .before .before .before .pre .1 .1 .0 in
     omega arith
@@ -76,7 +76,7 @@ loop-less c =
     let inv = c .before .before .before .before .before .before .before .before .before .before .before .before .loop .inv in
     let some = c .before .before .before .before .before .before .before .before .before .before .before .loop-test .taken in
     let ran = c .before .before .before .before .before .before .before .run-group .ensures in
-    let answered = ran .0 _ (inv .soFar .reached) in
+    let answered = ran .0 _ (inv .soFar .reachable) in
     let within = turn-within _ _ _ _ _ _ _ _ _ (inv .soFar) some _ _ _ answered (ran .1) in
     let more = turn-some _ _ _ _ _ _ _ _ _ (inv .soFar) some _ _ _ answered (ran .1) in
     omega arith
@@ -87,18 +87,18 @@ loop-again c =
     let inv = c .before .before .before .before .before .before .before .before .before .before .before .before .loop .inv in
     let some = c .before .before .before .before .before .before .before .before .before .before .before .loop-test .taken in
     let ran = c .before .before .before .before .before .before .before .run-group .ensures in
-    let answered = ran .0 _ (inv .soFar .reached) in
+    let answered = ran .0 _ (inv .soFar .reachable) in
     let wrote = c .before .before .before .write-answer .ensures in
-    record { evidence = _; soFar = played-turn _ _ _ _ _ _ _ _ _ (inv .soFar) some _ _ _ answered (ran .1) _ _ (wrote .0) (wrote .1) }
+    record { evidence = _; soFar = group-more _ _ _ _ _ _ _ _ _ (inv .soFar) some _ _ _ answered (ran .1) _ _ (wrote .0) (wrote .1) }
 
 same-length : tie.Need-same-length Inv-loop μ-loop
-same-length c = played-length _ _ _ _ _ _ _ _ _ (c .before .loop .inv .soFar)
+same-length c = answered-length _ _ _ _ _ _ _ _ _ (c .before .loop .inv .soFar)
 
 returns : tie.Need-returns Inv-loop μ-loop
 returns c =
     let f = c .before .loop .inv .soFar in
     let gone = c .loop-test .left in
-    (played-number _ _ _ _ _ _ _ _ _ f gone, (played-bytes _ _ _ _ _ _ _ _ _ f gone, played-within _ _ _ _ _ _ _ _ _ f))
+    (answered-number _ _ _ _ _ _ _ _ _ f gone, (answered-bytes _ _ _ _ _ _ _ _ _ f gone, answered-within _ _ _ _ _ _ _ _ _ f))
 
 pub run-groups-spec : {M : Type 1} → statement M
 run-groups-spec =

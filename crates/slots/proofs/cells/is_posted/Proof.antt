@@ -1,12 +1,12 @@
 -- `slots::cells::is_posted` meets its contract: a cell that there is not holds nothing. Assumes nothing.
 use mathlib.Core.Path.{_∙_}
-use Rattle.slots.proofs.CellLaws.{read-is, look-here, look-no-holder, look-no-place, look-no-slot}
+use Rattle.slots.proofs.CellLaws.{read-is, look-here, look-unknown-holder, look-no-place, look-no-slot}
 use borrow.Author.Needs.{needs}
 use Rattle.slots.proofs.cells.is_posted.Statement.{statement}
 use Rattle.slots.proofs.cells.is_posted.Tie as tie
 
 returns : tie.Need-returns
-returns c = look-no-holder _ _ _ _ _ _ (c .if1 .taken)
+returns c = look-unknown-holder _ _ _ _ _ _ (c .if1 .taken)
 
 returns-2 : tie.Need-returns-2
 returns-2 c = look-no-place _ _ _ _ _ _ (c .if2 .taken)

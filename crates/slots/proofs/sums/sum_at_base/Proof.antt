@@ -7,7 +7,7 @@ use Rattle.tariff.proofs.Sums.{sum-more, sum-whole}
 use Rattle.ledger.specs.Limits.{sumAtBase}
 use Rattle.records.specs.Opening.{openingIn}
 use Rattle.slots.specs.Sums.{onPath}
-use Rattle.slots.proofs.PathSums.{atBase, next-at-base, room-at-base, path-cell, base-asked}
+use Rattle.slots.proofs.PathSums.{atBase, next-at-base, room-at-base, path-cell, base-inputs}
 use borrow.Author.Needs.{needs}
 use Rattle.slots.proofs.sums.sum_at_base.Statement.{statement}
 use Rattle.slots.proofs.sums.sum_at_base.Tie as tie
@@ -26,19 +26,19 @@ unfolding sumTo
 loop-holds c = (search needs, refl)
 
 path-base-requires : tie.Need-path-base-requires Inv-loop μ-loop
-path-base-requires c κs = base-asked _ _ _ _ 0 (c .before .before .before .before .before .pre) _ _ (c .before .before .paths .ensures) (c .loop-test .taken)
+path-base-requires c κs = base-inputs _ _ _ _ 0 (c .before .before .before .before .before .pre) _ _ (c .before .before .paths .ensures) (c .loop-test .taken)
 
 read-requires : tie.Need-read-requires Inv-loop μ-loop
 read-requires c κs = (path-cell _ _ _ _ 0 (c .before .before .before .before .before .before .pre) _ _ (c .before .before .before .paths .ensures) (c .before .loop-test .taken), c .before .before .before .before .before .before .pre .long)
 
-count-if-requires : tie.Need-count-if-requires Inv-loop μ-loop
-count-if-requires c κs = search needs
+when-true-requires : tie.Need-when-true-requires Inv-loop μ-loop
+when-true-requires c κs = search needs
 
 add-sum : tie.Need-add-sum Inv-loop μ-loop
 add-sum c =
     let few = c .before .before .before .before .before .paths .ensures in
     let below = c .before .before .before .loop-test .taken in
-    let next = next-at-base _ _ _ _ _ _ _ (c .count-if .ensures) (c .before .before .path-base .ensures) (c .before .read .ensures) in
+    let next = next-at-base _ _ _ _ _ _ _ (c .when-true .ensures) (c .before .before .path-base .ensures) (c .before .read .ensures) in
     let room = room-at-base _ _ _ _ _ (c .before .before .before .before .before .before .before .before .pre) _ _ _ (omega arith) (c .before .before .before .before .loop .inv .1) next in
     omega arith
 
@@ -49,7 +49,7 @@ loop-less : tie.Need-loop-less Inv-loop μ-loop
 loop-less c = search needs
 
 loop-again : tie.Need-loop-again Inv-loop μ-loop
-loop-again c = (search needs, sum-more _ _ _ _ (c .before .before .before .before .loop .inv .1) (next-at-base _ _ _ _ _ _ _ (c .count-if .ensures) (c .before .before .path-base .ensures) (c .before .read .ensures)))
+loop-again c = (search needs, sum-more _ _ _ _ (c .before .before .before .before .loop .inv .1) (next-at-base _ _ _ _ _ _ _ (c .when-true .ensures) (c .before .before .path-base .ensures) (c .before .read .ensures)))
 
 returns : tie.Need-returns Inv-loop μ-loop
 unfolding sumAtBase atBase
@@ -65,7 +65,7 @@ sum-at-base-spec =
     loop-holds
     path-base-requires
     read-requires
-    count-if-requires
+    when-true-requires
     add-sum
     add-p
     loop-less

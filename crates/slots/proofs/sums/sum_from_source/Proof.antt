@@ -31,14 +31,14 @@ path-source-requires c κs = search needs
 read-requires : tie.Need-read-requires Inv-loop μ-loop
 read-requires c κs = (path-cell _ _ _ _ 0 (c .before .before .before .before .before .before .pre) _ _ (c .before .before .before .paths .ensures) (c .before .loop-test .taken), c .before .before .before .before .before .before .pre .long)
 
-count-if-requires : tie.Need-count-if-requires Inv-loop μ-loop
-count-if-requires c κs = search needs
+when-true-requires : tie.Need-when-true-requires Inv-loop μ-loop
+when-true-requires c κs = search needs
 
 add-sum : tie.Need-add-sum Inv-loop μ-loop
 add-sum c =
     let few = c .before .before .before .before .before .paths .ensures in
     let below = c .before .before .before .loop-test .taken in
-    let next = next-from-source _ _ _ _ _ _ _ (c .count-if .ensures) (c .before .before .path-source .ensures) (c .before .read .ensures) in
+    let next = next-from-source _ _ _ _ _ _ _ (c .when-true .ensures) (c .before .before .path-source .ensures) (c .before .read .ensures) in
     let room = room-from-source _ _ _ _ _ (c .before .before .before .before .before .before .before .before .pre) _ _ _ (omega arith) (c .before .before .before .before .loop .inv .1) next in
     omega arith
 
@@ -49,7 +49,7 @@ loop-less : tie.Need-loop-less Inv-loop μ-loop
 loop-less c = search needs
 
 loop-again : tie.Need-loop-again Inv-loop μ-loop
-loop-again c = (search needs, sum-more _ _ _ _ (c .before .before .before .before .loop .inv .1) (next-from-source _ _ _ _ _ _ _ (c .count-if .ensures) (c .before .before .path-source .ensures) (c .before .read .ensures)))
+loop-again c = (search needs, sum-more _ _ _ _ (c .before .before .before .before .loop .inv .1) (next-from-source _ _ _ _ _ _ _ (c .when-true .ensures) (c .before .before .path-source .ensures) (c .before .read .ensures)))
 
 returns : tie.Need-returns Inv-loop μ-loop
 unfolding sumFromSource fromSource
@@ -65,7 +65,7 @@ sum-from-source-spec =
     loop-holds
     path-source-requires
     read-requires
-    count-if-requires
+    when-true-requires
     add-sum
     add-p
     loop-less

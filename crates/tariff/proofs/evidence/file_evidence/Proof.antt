@@ -1,5 +1,5 @@
 -- `tariff::evidence::file_evidence` meets its contract: numbers in range fit the fields that they are filed in. Assumes nothing.
-use Rattle.tariff.proofs.EvidenceRange.{filing-wrong, filing-owned, filing-contract}
+use Rattle.tariff.proofs.EvidenceRange.{filing-out-of-range, filing-owned, filing-contract}
 use native.Mathlib.Omega.{arith}
 use mathlib.Core.Path.{sym, _∙_}
 use borrow.Author.Tests.{not-true, not-false, eq-eqb, ne-eqb}
@@ -13,7 +13,7 @@ evidence-in-range-requires : tie.Need-evidence-in-range-requires
 evidence-in-range-requires c κs = search needs
 
 returns : tie.Need-returns
-returns c = sym (filing-wrong _ _ _ _ _ (not-false _ (sym (c .before .evidence-in-range .ensures) ∙ not-true _ (c .if1 .taken))))
+returns c = sym (filing-out-of-range _ _ _ _ _ (not-false _ (sym (c .before .evidence-in-range .ensures) ∙ not-true _ (c .if1 .taken))))
 
 cast-t10 : tie.Need-cast-t10
 cast-t10 c = let f = evidence-facts _ _ _ _ _ (not-true _ (sym (c .before .before .evidence-in-range .ensures) ∙ not-false _ (c .before .if1 .left))) in omega arith

@@ -5,17 +5,17 @@ use borrow.Author.Needs.{needs}
 use Rattle.tariff.proofs.limit.limit_even_tier.Statement.{statement}
 use Rattle.tariff.proofs.limit.limit_even_tier.Tie as tie
 
-less-requires : tie.Need-less-requires
-less-requires c κs = search needs
+saturating-sub-requires : tie.Need-saturating-sub-requires
+saturating-sub-requires c κs = search needs
 
-less-requires-2 : tie.Need-less-requires-2
-less-requires-2 c κs = search needs
+saturating-sub-requires-2 : tie.Need-saturating-sub-requires-2
+saturating-sub-requires-2 c κs = search needs
 
-less-requires-3 : tie.Need-less-requires-3
-less-requires-3 c κs = search needs
+saturating-sub-requires-3 : tie.Need-saturating-sub-requires-3
+saturating-sub-requires-3 c κs = search needs
 
-less-requires-4 : tie.Need-less-requires-4
-less-requires-4 c κs = search needs
+saturating-sub-requires-4 : tie.Need-saturating-sub-requires-4
+saturating-sub-requires-4 c κs = search needs
 
 returns : tie.Need-returns
 unfolding limitEvenTier
@@ -23,4 +23,4 @@ returns c = omega arith
 
 pub limit-even-tier-spec : {M : Type 1} → statement M
 limit-even-tier-spec =
-    tie.close (tie.spec less-requires less-requires-2 less-requires-3 less-requires-4 returns)
+    tie.close (tie.spec saturating-sub-requires saturating-sub-requires-2 saturating-sub-requires-3 saturating-sub-requires-4 returns)

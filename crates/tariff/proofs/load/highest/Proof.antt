@@ -18,14 +18,14 @@ abbrev μ-loop : tie.MeasureT-loop
 loop-holds : tie.Need-loop-holds Inv-loop μ-loop
 loop-holds c = omega arith
 
-mul-larger : tie.Need-mul-larger Inv-loop μ-loop
-mul-larger c = omega arith
+mul-max : tie.Need-mul-max Inv-loop μ-loop
+mul-max c = omega arith
 
-shared-slice-read-larger : tie.Need-shared-slice-read-larger Inv-loop μ-loop
-shared-slice-read-larger c = omega arith
+shared-slice-read-max : tie.Need-shared-slice-read-max Inv-loop μ-loop
+shared-slice-read-max c = omega arith
 
-larger-requires : tie.Need-larger-requires Inv-loop μ-loop
-larger-requires c κs = omega arith
+max-requires : tie.Need-max-requires Inv-loop μ-loop
+max-requires c κs = omega arith
 
 add-i : tie.Need-add-i Inv-loop μ-loop
 add-i c = omega arith
@@ -48,9 +48,9 @@ highest-spec =
     Inv-loop
     μ-loop
     loop-holds
-    mul-larger
-    shared-slice-read-larger
-    larger-requires
+    mul-max
+    shared-slice-read-max
+    max-requires
     add-i
     loop-less
     loop-again

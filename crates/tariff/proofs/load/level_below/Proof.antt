@@ -34,14 +34,14 @@ mul-if1 c = omega arith
 shared-slice-read-if1 : tie.Need-shared-slice-read-if1 Inv-loop μ-loop
 shared-slice-read-if1 c = omega arith
 
-mul-larger : tie.Need-mul-larger Inv-loop μ-loop
-mul-larger c = omega arith
+mul-max : tie.Need-mul-max Inv-loop μ-loop
+mul-max c = omega arith
 
-shared-slice-read-larger : tie.Need-shared-slice-read-larger Inv-loop μ-loop
-shared-slice-read-larger c = omega arith
+shared-slice-read-max : tie.Need-shared-slice-read-max Inv-loop μ-loop
+shared-slice-read-max c = omega arith
 
-larger-requires : tie.Need-larger-requires Inv-loop μ-loop
-larger-requires c κs = omega arith
+max-requires : tie.Need-max-requires Inv-loop μ-loop
+max-requires c κs = omega arith
 
 add-above : tie.Need-add-above Inv-loop μ-loop
 add-above c =
@@ -91,9 +91,9 @@ level-below-spec =
     shared-slice-read-length
     mul-if1
     shared-slice-read-if1
-    mul-larger
-    shared-slice-read-larger
-    larger-requires
+    mul-max
+    shared-slice-read-max
+    max-requires
     add-above
     add-i
     loop-less

@@ -56,11 +56,11 @@ sub-missing c = present-within (passed c)
 returns-4 : tie.Need-returns-4
 returns-4 c = missing-hours (passed (c .before)) (omega arith)
 
-seldom-exceeded-requires : tie.Need-seldom-exceeded-requires
-seldom-exceeded-requires c κs = covering (passed (c .before))
+metric-of-blocks-requires : tie.Need-metric-of-blocks-requires
+metric-of-blocks-requires c κs = covering (passed (c .before))
 
 returns-5 : tie.Need-returns-5
-returns-5 c = metered (passed (c .before .before)) (omega arith) (c .seldom-exceeded .ensures)
+returns-5 c = metered (passed (c .before .before)) (omega arith) (c .metric-of-blocks .ensures)
 
 pub load-metric-spec : {M : Type 1} → statement M
 load-metric-spec =
@@ -75,5 +75,5 @@ load-metric-spec =
     returns-3
     sub-missing
     returns-4
-    seldom-exceeded-requires
+    metric-of-blocks-requires
     returns-5)

@@ -1,10 +1,10 @@
--- `tariff::load::load_posted` meets its contract: a refusal is handed on, and contract load comes off a kW. Assumes nothing.
+-- `tariff::load::load_posted` meets its contract: a refusal is passed on, and contract load comes off a kW. Assumes nothing.
 use mathlib.Core.Path.{_≡_, ap, _∙_}
 use borrow.Author.Needs.{needs}
-use Rattle.tariff.specs.declared.load.Metered.{Metered}
-use Rattle.tariff.specs.declared.load.Metered.the-variants.{Kw}
-use Rattle.tariff.specs.Metered.{postedOf}
-use Rattle.tariff.proofs.Refusals.{less, posted-from}
+use Rattle.tariff.specs.declared.load.Metering.{Metering}
+use Rattle.tariff.specs.declared.load.Metering.the-variants.{Kw}
+use Rattle.tariff.specs.Metering.{loadOrCause}
+use Rattle.tariff.proofs.Refusals.{afterContract, posted-from}
 use Rattle.tariff.proofs.load.load_posted.Statement.{statement}
 use Rattle.tariff.proofs.load.load_posted.Tie as tie
 
@@ -23,12 +23,12 @@ enum-told-3 c = search needs
 enum-known-kw : tie.Need-enum-known-kw
 enum-known-kw c = search needs
 
-less-requires : tie.Need-less-requires
-less-requires c κs = search needs
+saturating-sub-requires : tie.Need-saturating-sub-requires
+saturating-sub-requires c κs = search needs
 
--- what is posted of what the metric's function handed back
-posted : (c : tie.After-load-metric) {m : Metered} → c .load-metric .result ≡ m
-    → let a = c .before .before .before .before .args in less (a .contract) m ≡ postedOf (a .firsts .now) (a .hours .now) (a .kws .now) (a .n) (a .contract)
+-- what is posted of what the metric's function returned
+posted : (c : tie.After-load-metric) {m : Metering} → c .load-metric .result ≡ m
+    → let a = c .before .before .before .before .args in afterContract (a .contract) m ≡ loadOrCause (a .firsts .now) (a .hours .now) (a .kws .now) (a .n) (a .contract)
 posted c same = posted-from _ _ _ _ _ (c .load-metric .ensures) same
 
 returns : tie.Need-returns
@@ -41,7 +41,7 @@ returns-3 : tie.Need-returns-3
 returns-3 c = posted (c .before .before) (c .enum-told3 .given .1)
 
 returns-4 : tie.Need-returns-4
-returns-4 c = ap Kw (c .less .ensures) ∙ posted (c .before .before .before .before) (c .before .before .kw .given .1)
+returns-4 c = ap Kw (c .saturating-sub .ensures) ∙ posted (c .before .before .before .before) (c .before .before .kw .given .1)
 
 pub load-posted-spec : {M : Type 1} → statement M
 load-posted-spec =
@@ -52,7 +52,7 @@ load-posted-spec =
     enum-told-2
     enum-told-3
     enum-known-kw
-    less-requires
+    saturating-sub-requires
     returns
     returns-2
     returns-3

@@ -1,6 +1,6 @@
 -- `tariff::load::same_lengths` meets its contract: the tests are those of the definition. Assumes nothing.
 use mathlib.Core.Path.{refl}
-use Rattle.tariff.specs.Metered.{sameLengths}
+use Rattle.tariff.specs.Metering.{sameLengths}
 use Rattle.tariff.proofs.load.same_lengths.Statement.{statement}
 use Rattle.tariff.proofs.load.same_lengths.Tie as tie
 

@@ -17,14 +17,14 @@ returns : tie.Need-returns
 returns c = search needs
 
 slice-aggregate-write-bytes : tie.Need-slice-aggregate-write-bytes
-slice-aggregate-write-bytes c = let a = c .before .before .before .before .args in let more = c .before .before .if1 .left in sym (length-take-le (65600 - a .used) (a .bytes .now) (omega arith))
+slice-aggregate-write-bytes c = let a = c .before .before .before .before .args in let more = c .before .before .if1 .left in sym (length-take-le (65600 - a .filled) (a .bytes .now) (omega arith))
 
 write-bytes-requires-2 : tie.Need-write-bytes-requires-2
 write-bytes-requires-2 c κs =
     let a = c .before .before .before .before .args in
     let known = c .before .before .before .before .pre in
     let more = c .before .before .if1 .left in
-    let long = length-take-le (65600 - a .used) (a .bytes .now) (omega arith) in
+    let long = length-take-le (65600 - a .filled) (a .bytes .now) (omega arith) in
     search needs
 
 returns-2 : tie.Need-returns-2
@@ -32,7 +32,7 @@ returns-2 c =
     let a = c .before .before .before .before .before .args in
     let known = c .before .before .before .before .before .pre in
     let more = c .before .before .before .if1 .left in
-    let long = length-take-le (65600 - a .used) (a .bytes .now) (omega arith) in
+    let long = length-take-le (65600 - a .filled) (a .bytes .now) (omega arith) in
     let end = c .write-bytes2 .ensures .0 in
     omega arith
 

@@ -5,10 +5,10 @@ use Rattle.vectors.proofs.building.append_times.Statement.{statement}
 use Rattle.vectors.proofs.building.append_times.Tie as tie
 
 abbrev Inv-loop : tie.InvT-loop
-Inv-loop script₀ used line times end₀ left₀ script end left = end ≤ 65600
+Inv-loop script₀ filled line times end₀ left₀ script end left = end ≤ 65600
 
 abbrev μ-loop : tie.MeasureT-loop
-μ-loop script₀ used line times end₀ left₀ script end left = left
+μ-loop script₀ filled line times end₀ left₀ script end left = left
 
 loop-holds : tie.Need-loop-holds Inv-loop μ-loop
 loop-holds c = search needs

@@ -6,10 +6,10 @@ use Rattle.vectors.proofs.building.build.Statement.{statement}
 use Rattle.vectors.proofs.building.build.Tie as tie
 
 abbrev Inv-loop : tie.InvT-loop
-Inv-loop script₀ vector used₀ at₀ script used at = used ≤ 65600
+Inv-loop script₀ vector filled₀ at₀ script filled at = filled ≤ 65600
 
 abbrev μ-loop : tie.MeasureT-loop
-μ-loop script₀ vector used₀ at₀ script used at = length vector - at
+μ-loop script₀ vector filled₀ at₀ script filled at = length vector - at
 
 loop-holds : tie.Need-loop-holds Inv-loop μ-loop
 loop-holds c = search needs

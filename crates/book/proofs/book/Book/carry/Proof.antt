@@ -1,8 +1,8 @@
 -- `book::Book::carry` meets its contract: the next book has the figures and the postings that were lent. Assumes nothing.
 use mathlib.Core.Path.{_∙_}
 use Rattle.book.specs.Reading.{bookIn}
-use Rattle.book.specs.Handed.{besidePostings}
-use Rattle.book.proofs.HandedBooks.{handed-book}
+use Rattle.book.specs.Outcomes.{besidePostings}
+use Rattle.book.proofs.OutcomeBooks.{outcome-book}
 use borrow.Author.Needs.{needs}
 use Rattle.book.proofs.book.Book.carry.Statement.{statement}
 use Rattle.book.proofs.book.Book.carry.Tie as tie
@@ -24,7 +24,7 @@ with-postings-requires c κs = search needs
 
 returns : tie.Need-returns
 unfolding bookIn besidePostings
-returns c = c .with-postings .ensures ∙ handed-book _ _ _ _ _ _ _ _ _ (c .before .before .before .carry .ensures _ (c .before .before .before .before .before .before .before .before .before .before .pre))
+returns c = c .with-postings .ensures ∙ outcome-book _ _ _ _ _ _ _ _ _ (c .before .before .before .carry .ensures _ (c .before .before .before .before .before .before .before .before .before .before .pre))
 
 pub carry-spec : {M : Type 1} → statement M
 carry-spec =

@@ -48,21 +48,21 @@ use denote.Triple.Table.{entered, cited}
 use denote.Triple.Walked.{says, needs, Stays, stay-dropped, walkOf, goes-dropped, Walks, ends-at, walked, walk-meets}
 use denote.Triple.Clauses.{ensured}
 use denote.Exit.{yes}
-use Rattle.migration.specs.declared.netting.ClassLine.{ClassLine}
-use Rattle.migration.proofs.netting.ClassLine as L
-use Rattle.migration.proofs.netting.ClassLine.Laws as L′
+use Rattle.netting.specs.declared.netting.ClassLine.{ClassLine}
+use Rattle.netting.proofs.netting.ClassLine as L
+use Rattle.netting.proofs.netting.ClassLine.Laws as L′
 use Rattle.ledger.specs.Call.{migrate}
 use Rattle.book.specs.declared.book.Book.{Book}
-use Rattle.book.specs.declared.book.Answered.{Answered}
+use Rattle.book.specs.declared.book.Outcome.{Outcome}
 use Rattle.book.specs.declared.class_lines.Columns.{Columns}
-use Rattle.book.specs.Handed.{handed}
+use Rattle.book.specs.Outcomes.{outcomeOf}
 use Rattle.book.specs.Reachable.{Reachable}
-use Rattle.book.specs.ClassLines.{noLine, noColumns, withLine, columnsTo, handedColumns}
-use Rattle.book.proofs.ClassLineLaws.{columns-none, columns-more, columns-full, columns-handed}
+use Rattle.book.specs.ClassLines.{noLine, noColumns, withLine, columnsTo, outcomeOfColumns}
+use Rattle.book.proofs.ClassLineLaws.{columns-none, columns-more, columns-full, columns-outcome}
 use Rattle.book.proofs.book.Book as B
 use Rattle.book.proofs.book.Book.Laws as B′
-use Rattle.book.proofs.book.Answered as R
-use Rattle.book.proofs.book.Answered.Laws as R′
+use Rattle.book.proofs.book.Outcome as R
+use Rattle.book.proofs.book.Outcome.Laws as R′
 use Rattle.book.proofs.class_lines.Columns as K
 use Rattle.book.proofs.class_lines.Columns.Laws as K′
 use Rattle.book.proofs.class_lines.no_columns as none
@@ -93,10 +93,10 @@ word = tyInt w64
 abbrev slice : Ty
 slice = sliceTy (tyRef (named 0) imm (pointee (L.the-row .written)))
 
--- the test of a `while`: where it holds the turn goes on, and where it fails the loop is left
+-- the test of a `while`: where it holds the loop continues, and where it fails the loop is left
 module _ {M : Type 1} {𝓤 : URA M} {H : Heap 𝓤} {A : Atoms 𝓤} {X : Type 0} {W : Given 𝓤 H A} {Γ : List (Item 𝓤)} {E : Env 𝓤 H} {C : Calls 𝓤 H} {Λ : Loops 𝓤 H} {q : Post 𝓤 H} where
-  goes-on : X → {c : Operand} {n : ℕ} {b : Body} {y : Bool} → Opd X W Γ E c (vbool y) → (T y → Seq X W Γ (runs C Λ E b q)) → (T (not y) → Seq X W Γ (prop (post 𝓤 H q (exits n)))) → Seq X W Γ (runs C Λ E (seq (cond c skip (exit n)) b) q)
-  goes-on t test on off = first t $ branches t test (λ y. skips t $ record { prf = on y .prf }) (λ y. jumps t $ record { prf = off y .prf })
+  continues : X → {c : Operand} {n : ℕ} {b : Body} {y : Bool} → Opd X W Γ E c (vbool y) → (T y → Seq X W Γ (runs C Λ E b q)) → (T (not y) → Seq X W Γ (prop (post 𝓤 H q (exits n)))) → Seq X W Γ (runs C Λ E (seq (cond c skip (exit n)) b) q)
+  continues t test on off = first t $ branches t test (λ y. skips t $ record { prf = on y .prf }) (λ y. jumps t $ record { prf = off y .prf })
 
 module _ {M : Type 1} (𝓤 : URA M) (H : Heap 𝓤) (A : Atoms 𝓤) (W : Given 𝓤 H A) (mem : Memory → SProp 𝓤) (run : Routine → Fun 𝓤) (κ : Lft) (q : Share) (book : Book) (u : Val) (term sink b o : ℕ) (γ : GName) (ys : List ClassLine) where
   abbrev n : ℕ
@@ -111,7 +111,7 @@ module _ {M : Type 1} (𝓤 : URA M) (H : Heap 𝓤) (A : Atoms 𝓤) (W : Given
   abbrev Ends : Val → SProp 𝓤
   Ends = walkOf 𝓤 H A lines.ended stayed (lines.clauses 𝓤 H A mem run) .post (((κ, tt), (q, tt), tt, args, at), tt)
 
-  ends : (r : Answered) (v : Val) → r ≡ handed book (migrate term sink ys) → ent 𝓤 (⋆ 𝓤 H A (‵ (R.the-row .own r (v ∷ [])) ∷ ‵ (flft κ q) ∷ [])) (Ends v)
+  ends : (r : Outcome) (v : Val) → r ≡ outcomeOf book (migrate term sink ys) → ent 𝓤 (⋆ 𝓤 H A (‵ (R.the-row .own r (v ∷ [])) ∷ ‵ (flft κ q) ∷ [])) (Ends v)
   ends r v e =
       qed W (‵ (R.the-row .own r (v ∷ [])) ∷ ‵ (flft κ q) ∷ []) ∵
       suffices ! _ (ends-at 𝓤 H A lines.ended stayed (lines.clauses 𝓤 H A mem run) W (((κ, tt), (q, tt), tt, args, at), tt) v r (tt, (tt, (tt, (tt, tt)))) (tt, (tt, (tt, (tt, tt))))) $ says ! e $
@@ -156,7 +156,7 @@ module _ {M : Type 1} (𝓤 : URA M) (H : Heap 𝓤) (A : Atoms 𝓤) (W : Given
     abbrev Turned : State → Out → SProp 𝓤
     Turned s = afterTurn 𝓤 H (Below 𝓤 H A Nearer At s) (afterBlock 𝓤 H (afterSeq 𝓤 H (Wp 𝓤 H C Λ En t-4 (atReturn 𝓤 H En Ends)) (atReturn 𝓤 H En Ends)))
 
-    module _ (reached : Reachable book) (ib : Is B.the-row book (u ∷ [])) (gt : term < 2 ^ 64) (gs : sink < 2 ^ 64) (g : Room L.the-row n)
+    module _ (reachable : Reachable book) (ib : Is B.the-row book (u ∷ [])) (gt : term < 2 ^ 64) (gs : sink < 2 ^ 64) (g : Room L.the-row n)
         (known-more : Triple 𝓤 (C #more) (More 𝓤 H A mem run)) (known-last : Triple 𝓤 (C #last) (Last 𝓤 H A mem run)) where
       fm : FmC 𝓤 H (W .laws) C
       fm = fmOf 𝓤 H (W .laws) 𝓣
@@ -165,10 +165,10 @@ module _ {M : Type 1} (𝓤 : URA M) (H : Heap 𝓤) (A : Atoms 𝓤) (W : Given
       fits s = lt-of-le-of-lt (s .2) (g .0)
 
       scaled : (s : State) → T (ltb (s .0) n) → s .0 * 40 < 2 ^ 64
-      scaled s less = let l = ltb→lt (s .0) n less in let r : n * 40 < 2 ^ 63 = g .1 in omega arith
+      scaled s below = let l = ltb→lt (s .0) n below in let r : n * 40 < 2 ^ 63 = g .1 in omega arith
 
       next-fits : (s : State) → T (ltb (s .0) n) → s .0 + 1 < 2 ^ 64
-      next-fits s less = let l = ltb→lt (s .0) n less in let r : n < 2 ^ 64 = g .0 in omega arith
+      next-fits s below = let l = ltb→lt (s .0) n below in let r : n < 2 ^ 64 = g .0 in omega arith
 
       abbrev to : State → More 𝓤 H A mem run .Ghost
       to s = to-more 𝓤 H A W mem run (columnsTo ys (s .0)) (s .1) (s .0) (line s) (lineVal s)
@@ -177,23 +177,23 @@ module _ {M : Type 1} (𝓤 : URA M) (H : Heap 𝓤) (A : Atoms 𝓤) (W : Given
       onto s = to-last 𝓤 H A W mem run book u term sink (s .0) (columnsTo ys (s .0)) (s .1)
 
       abbrev next : (s : State) → T (ltb (s .0) n) → (v : Val) (r : Columns) → r ≡ withLine (columnsTo ys (s .0)) (s .0) (line s) → Is K.the-row r (v ∷ []) → State
-      next s less v r e ic = (s .0 + 1, v, add-one-le (ltb→lt (s .0) n less), subst (λ (c : Columns). Is K.the-row c (v ∷ [])) (e ∙ columns-more ys (s .0)) ic)
+      next s below v r e ic = (s .0 + 1, v, add-one-le (ltb→lt (s .0) n below), subst (λ (c : Columns). Is K.the-row c (v ∷ [])) (e ∙ columns-more ys (s .0)) ic)
 
       turns : (s : State) → Sq W (At s) (runs C Λ En turn-1 (anyQ (Turned s)))
       unfolding afterTurn
       turns s =
           assigns ! (of-opd ! (load ! (from ! (fld ! refl (stop !))) (look-in ! 14 (sub ! 1 refl (whole !))))) (from ! (stop !)) (init ! 8 refl (tt, record { fits = g .0 })) $
           assigns ! (bin ! (load ! (from ! (stop !)) (look ! 10 refl)) (load ! (from ! (stop !)) (look ! 8 refl)) tt) (from ! (stop !)) (init ! 6 refl (tt, tt)) $
-          goes-on ! (load ! (from ! (stop !)) (look ! 6 refl)) (λ less.
-          assigns ! (bin ! (load ! (from ! (stop !)) (look ! 10 refl)) (lit ! tt) (record { fits = scaled s less })) (from ! (stop !)) (store ! 8 refl (tt, record { fits = scaled s less })) $
+          continues ! (load ! (from ! (stop !)) (look ! 6 refl)) (λ below.
+          assigns ! (bin ! (load ! (from ! (stop !)) (look ! 10 refl)) (lit ! tt) (record { fits = scaled s below })) (from ! (stop !)) (store ! 8 refl (tt, record { fits = scaled s below })) $
           assigns ! (bin ! (load ! (from ! (fld ! refl (stop !))) (look-in ! 14 (sub ! 0 refl (whole !)))) (load ! (from ! (stop !)) (look ! 8 refl)) tt) (from ! (stop !)) (init ! 4 refl (tt, tt)) $
           -- a line has 40 bytes: its place is found, and the slice is looked into there
           rewrite ! 4 (λ (p : ℕ). ‵ (fat fullShare tyPtr l₉ 0 (vptr b p))) (sym (place-is 40 o (s .0))) refl $
           looks-slice ! tt L.the-row (Is L.the-row) (shows 𝓤 H A L.the-row) (LL.vals L.the-type L′.the-laws) (LL.tells L.the-type L′.the-laws) (LL.copy L.the-type L′.the-copy 𝓤 H A W) ys b o (λ q′.
-          elem-out ! L.the-row (Is L.the-row) (shows 𝓤 H A L.the-row) (LL.vals L.the-type L′.the-laws) (LL.tells L.the-type L′.the-laws) q′ ys (s .0) noLine b o (ltb→lt (s .0) n less) (λ il.
+          elem-out ! L.the-row (Is L.the-row) (shows 𝓤 H A L.the-row) (LL.vals L.the-type L′.the-laws) (LL.tells L.the-type L′.the-laws) q′ ys (s .0) noLine b o (ltb→lt (s .0) n below) (λ il.
           -- [the line; what it owns; the other lines; what shuts; the borrow; _10; …; _9; …]
           assigns ! (of-opd ! (load ! (from ! (hop ! (look ! 7 refl) (stop !))) (look-raw ! 0 refl))) (from ! (stop !)) (init ! 5 refl (LL.lawful L.the-type L′.the-laws 𝓤 H A W .typed (line s) (lineVal s ∷ []) il .0)) $
-          elem-back ! L.the-row q′ ys (s .0) noLine (lineVal s ∷ []) b o (ltb→lt (s .0) n less) $ shuts-slice ! tt L.the-row q′ ys b o $
+          elem-back ! L.the-row q′ ys (s .0) noLine (lineVal s ∷ []) b o (ltb→lt (s .0) n below) $ shuts-slice ! tt L.the-row q′ ys b o $
           -- [the token; the borrow; _10; …]
           use0 W (raw (More 𝓤 H A mem run .pre (to s))) (asks-more 𝓤 H A W mem run (columnsTo ys (s .0)) (s .1) (s .0) (line s) (lineVal s) (s .3) (fits s) il) $
           calls-at ! fm (More 𝓤 H A mem run) known-more (to s) (and-then ! (load ! (from ! (stop !)) (look ! 13 refl)) (and-then ! (load ! (from ! (stop !)) (look ! 11 refl)) (and-then ! (load ! (from ! (stop !)) (look ! 3 refl)) (no-more !)))) (λ v.
@@ -201,22 +201,22 @@ module _ {M : Type 1} (𝓤 : URA M) (H : Heap 𝓤) (A : Atoms 𝓤) (W : Given
           split ! $ move ! (1 ∷ []) $ use1 W (raw (fact 𝓤 (r ≡ withLine (columnsTo ys (s .0)) (s .0) (line s)))) (more-said 𝓤 H A W mem run (columnsTo ys (s .0)) (s .1) (s .0) (line s) (lineVal s) r) $
           heard ! (r ≡ withLine (columnsTo ys (s .0)) (s .0) (line s)) (λ e. split ! $ drop ! $ facts ! K.the-row (Is K.the-row) (shows 𝓤 H A K.the-row) r (v ∷ []) (λ ic.
           land ! (from ! (stop !)) (store ! 12 refl (LL.lawful K.the-type K′.the-laws 𝓤 H A W .typed r (v ∷ []) ic .0)) $
-          assigns-last ! (bin ! (load ! (from ! (stop !)) (look ! 10 refl)) (lit ! tt) (record { fits = next-fits s less })) (from ! (stop !)) (store ! 10 refl (tt, record { fits = next-fits s less })) $
+          assigns-last ! (bin ! (load ! (from ! (stop !)) (look ! 10 refl)) (lit ! tt) (record { fits = next-fits s below })) (from ! (stop !)) (store ! 10 refl (tt, record { fits = next-fits s below })) $
           forget ! 2 refl $ forget ! 4 refl $ forget ! 6 refl $ forget ! 8 refl $ move ! (1 ∷ 0 ∷ []) $
-          again ! Nearer At s (next s less v r e ic) (add-one-dec n (s .0) (ltb→lt (s .0) n less)))))))))
+          again ! Nearer At s (next s below v r e ic) (add-one-dec n (s .0) (ltb→lt (s .0) n below)))))))))
           (λ over. exec ! C Λ En t-4 (atRet En Ends) $
-          use0 W (raw (Last 𝓤 H A mem run .pre (onto s))) (asks-last 𝓤 H A W mem run book u term sink (s .0) (columnsTo ys (s .0)) (s .1) (reached, columns-full ys (s .0)) ib gt gs (fits s) (s .3)) $
+          use0 W (raw (Last 𝓤 H A mem run .pre (onto s))) (asks-last 𝓤 H A W mem run book u term sink (s .0) (columnsTo ys (s .0)) (s .1) (reachable, columns-full ys (s .0)) ib gt gs (fits s) (s .3)) $
           calls-at ! fm (Last 𝓤 H A mem run) known-last (onto s) (and-then ! (load ! (from ! (stop !)) (look ! 21 refl)) (and-then ! (load ! (from ! (stop !)) (look ! 19 refl)) (and-then ! (load ! (from ! (stop !)) (look ! 17 refl))
           (and-then ! (load ! (from ! (stop !)) (look ! 11 refl)) (and-then ! (load ! (from ! (stop !)) (look ! 13 refl)) (no-more !)))))) (λ v.
-          use1 W (later (some (λ (r : Answered). (‵ ftrue ⊛ ‵ (R.the-row .own r (v ∷ []))) ⊛ raw (ensured 𝓤 H A last.ended (last.clauses 𝓤 H A mem run) tt (book, (term, (sink, (s .0, (columnsTo ys (s .0), tt))))) tt r)))) (id⊢ 𝓤 _) $ await ! tt $ pick ! (λ r.
-          split ! $ move ! (1 ∷ []) $ use1 W (raw (fact 𝓤 (r ≡ handedColumns book term sink (s .0) (columnsTo ys (s .0))))) (last-said 𝓤 H A W mem run book u term sink (s .0) (columnsTo ys (s .0)) (s .1) r) $
-          heard ! (r ≡ handedColumns book term sink (s .0) (columnsTo ys (s .0))) (λ e. split ! $ drop ! $ peeks ! R.the-row (Is R.the-row) (shows 𝓤 H A R.the-row) r (v ∷ []) (λ ir.
+          use1 W (later (some (λ (r : Outcome). (‵ ftrue ⊛ ‵ (R.the-row .own r (v ∷ []))) ⊛ raw (ensured 𝓤 H A last.ended (last.clauses 𝓤 H A mem run) tt (book, (term, (sink, (s .0, (columnsTo ys (s .0), tt))))) tt r)))) (id⊢ 𝓤 _) $ await ! tt $ pick ! (λ r.
+          split ! $ move ! (1 ∷ []) $ use1 W (raw (fact 𝓤 (r ≡ outcomeOfColumns book term sink (s .0) (columnsTo ys (s .0))))) (last-said 𝓤 H A W mem run book u term sink (s .0) (columnsTo ys (s .0)) (s .1) r) $
+          heard ! (r ≡ outcomeOfColumns book term sink (s .0) (columnsTo ys (s .0))) (λ e. split ! $ drop ! $ peeks ! R.the-row (Is R.the-row) (shows 𝓤 H A R.the-row) r (v ∷ []) (λ ir.
           -- [the result; the borrow; the token; _10; …]
           land ! (from ! (stop !)) (init ! 23 refl (LL.lawful R.the-type R′.the-laws 𝓤 H A W .typed r (v ∷ []) ir .0)) $
           returns ! (look ! 23 refl) $ forget ! 7 refl $ forget ! 9 refl $ forget ! 11 refl $ forget ! 13 refl $ forget ! 15 refl $ forget ! 17 refl $ forget ! 19 refl $ forget ! 21 refl $ forget ! 23 refl $
           move ! (23 ∷ 24 ∷ []) $ free1 ! $ move ! (21 ∷ 22 ∷ []) $ free1 ! $ move ! (19 ∷ 20 ∷ []) $ free1 ! $ move ! (17 ∷ 18 ∷ []) $ free1 ! $ move ! (15 ∷ 16 ∷ []) $ free1 ! $ move ! (13 ∷ 14 ∷ []) $ free1 ! $
           move ! (11 ∷ 12 ∷ []) $ free1 ! $ move ! (9 ∷ 10 ∷ []) $ free1 ! $ move ! (7 ∷ 8 ∷ []) $ free1 ! $ move ! (5 ∷ 6 ∷ []) $ free1 ! $ move ! (3 ∷ 4 ∷ []) $ free1 ! $ free0 ! $
-          keep ! (0 ∷ 2 ∷ []) $ by ! (ends r v (e ∙ ap (λ (k : ℕ). handedColumns book term sink k (columnsTo ys k)) (le-antisymm (s .2) (nltb→le (s .0) n over)) ∙ columns-handed book reached term sink ys)))))))
+          keep ! (0 ∷ 2 ∷ []) $ by ! (ends r v (e ∙ ap (λ (k : ℕ). outcomeOfColumns book term sink k (columnsTo ys k)) (le-antisymm (s .2) (nltb→le (s .0) n over)) ∙ columns-outcome book reachable term sink ys)))))))
 
       -- the loop, and the rest of the body
       looped : (s : State) → Sq W (At s) (runs C Λ En t-3 (atRet En Ends))
@@ -226,7 +226,7 @@ module _ {M : Type 1} (𝓤 : URA M) (H : Heap 𝓤) (A : Atoms 𝓤) (W : Given
   walk : (𝓣 : Tables 𝓤 H) → Is B.the-row book (u ∷ []) → term < 2 ^ 64 → sink < 2 ^ 64 → Room L.the-row n
       → Triple 𝓤 (𝓣 .C #none) (None 𝓤 H A mem run) → Triple 𝓤 (𝓣 .C #more) (More 𝓤 H A mem run) → Triple 𝓤 (𝓣 .C #last) (Last 𝓤 H A mem run)
       → Reachable book → ent 𝓤 (onEntry 𝓤 H A lines.signature (κ, tt) (q, tt) args at) (WpFn 𝓤 H (𝓣 .C) (𝓣 .Λ) code.function (u ∷ vint w64 term ∷ vint w64 sink ∷ sliceVal (b, o) n ∷ []) Ends)
-  walk 𝓣 ib gt gs g known-none known-more known-last reached =
+  walk 𝓣 ib gt gs g known-none known-more known-last reachable =
       qed W ((‵ (flft κ q) ⊛ ‵ ftrue) ∷ ‵ (owns (B.the-row ∷ u64 ∷ u64 ∷ ShrSlice (named 0) κ L.the-row ∷ []) args at) ∷ []) ∵
       enter ! (𝓣 .C) (𝓣 .Λ) code.function (u ∷ vint w64 term ∷ vint w64 sink ∷ sliceVal (b, o) n ∷ []) _ $
       alloc1 ! (λ l₀. alloc1 ! (λ l₁. alloc1 ! (λ l₂. alloc1 ! (λ l₃. alloc1 ! (λ l₄. alloc1 ! (λ l₅. alloc1 ! (λ l₆. alloc1 ! (λ l₇. alloc1 ! (λ l₈. alloc1 ! (λ l₉. alloc1 ! (λ l₁₀. alloc0 ! $ params1 ! $
@@ -242,7 +242,7 @@ module _ {M : Type 1} (𝓤 : URA M) (H : Heap 𝓤) (A : Atoms 𝓤) (W : Given
       -- [_10; …; _0; …; the tokens; what the parameters own]: of these only the borrow is kept
       move ! (23 ∷ []) $ fsplit ! $ drop ! $ fsplit ! $ drop ! $ fsplit ! $ drop ! $ fsplit ! $ fsplit ! $ drop ! $ fsplit ! $ drop ! $ move ! (24 ∷ []) $ split ! $
       keep ! (2 ∷ 0 ∷ 4 ∷ 5 ∷ 6 ∷ 7 ∷ 8 ∷ 9 ∷ 10 ∷ 11 ∷ 12 ∷ 13 ∷ 14 ∷ 15 ∷ 16 ∷ 17 ∷ 18 ∷ 19 ∷ 20 ∷ 21 ∷ 22 ∷ 23 ∷ 24 ∷ 25 ∷ []) $
-      looped 𝓣 l₀ l₁ l₂ l₃ l₄ l₅ l₆ l₇ l₈ l₉ l₁₀ reached ib gt gs g known-more known-last
+      looped 𝓣 l₀ l₁ l₂ l₃ l₄ l₅ l₆ l₇ l₈ l₉ l₁₀ reachable ib gt gs g known-more known-last
       (0, w, zero-le, subst (λ (c : Columns). Is K.the-row c (w ∷ [])) (e ∙ columns-none ys) ic))))))))))))))))
 
 module _ {M : Type 1} (𝓤 : URA M) (H : Heap 𝓤) (A : Atoms 𝓤) (W : Given 𝓤 H A) (mem : Memory → SProp 𝓤) (run : Routine → Fun 𝓤) (𝓣 : Tables 𝓤 H)

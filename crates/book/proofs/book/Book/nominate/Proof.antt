@@ -1,8 +1,8 @@
 -- `book::Book::nominate` meets its contract: the next book has the figures that were lent. Assumes nothing.
 use mathlib.Core.Path.{_∙_}
 use Rattle.book.specs.Reading.{bookIn}
-use Rattle.book.specs.Handed.{besideFigures, besidePostings}
-use Rattle.book.proofs.HandedBooks.{handed-book}
+use Rattle.book.specs.Outcomes.{besideFigures, besidePostings}
+use Rattle.book.proofs.OutcomeBooks.{outcome-book}
 use borrow.Author.Needs.{needs}
 use Rattle.book.proofs.book.Book.nominate.Statement.{statement}
 use Rattle.book.proofs.book.Book.nominate.Tie as tie
@@ -21,7 +21,7 @@ with-figures-requires c κs = search needs
 
 returns : tie.Need-returns
 unfolding bookIn besideFigures besidePostings
-returns c = c .with-figures .ensures ∙ handed-book _ _ _ _ _ _ _ _ _ (c .before .before .nominate .ensures _ _ (c .before .before .before .before .before .before .before .pre))
+returns c = c .with-figures .ensures ∙ outcome-book _ _ _ _ _ _ _ _ _ (c .before .before .nominate .ensures _ _ (c .before .before .before .before .before .before .before .pre))
 
 pub nominate-spec : {M : Type 1} → statement M
 nominate-spec =

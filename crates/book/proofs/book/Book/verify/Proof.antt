@@ -1,6 +1,6 @@
--- `book::Book::verify` meets its contract: the next book is made of the arrays that were lent, and of the evidence handed back. Assumes nothing.
+-- `book::Book::verify` meets its contract: the next book is made of the arrays that were lent, and of the evidence returned. Assumes nothing.
 use Rattle.book.specs.Reading.{bookIn}
-use Rattle.book.proofs.HandedBooks.{handed-book}
+use Rattle.book.proofs.OutcomeBooks.{outcome-book}
 use borrow.Author.Needs.{needs}
 use Rattle.book.proofs.book.Book.verify.Statement.{statement}
 use Rattle.book.proofs.book.Book.verify.Tie as tie
@@ -19,7 +19,7 @@ verify-and-file-requires c κs = c .before .before .before .before .before .befo
 
 returns : tie.Need-returns
 unfolding bookIn
-returns c = handed-book _ _ _ _ _ _ _ _ _ (c .before .before .before .verify-and-file .ensures)
+returns c = outcome-book _ _ _ _ _ _ _ _ _ (c .before .before .before .verify-and-file .ensures)
 
 pub verify-spec : {M : Type 1} → statement M
 verify-spec =

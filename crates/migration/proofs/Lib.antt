@@ -1,7 +1,0 @@
-pub mod RuledOut
-pub mod Shifts
-pub mod Products
-pub mod Pairs
-pub mod FitLines
-pub mod NettedLines
-pub mod ShareCells

@@ -1,0 +1,41 @@
+-- What a block list in three lists of numbers gives: a kW, or the cause of its refusal (01, Posting, Load; Refusals by cause).
+use Prim.Native.Nat.{ℕ}
+use mathlib.Core.Bool.{Bool, cond, _&&_}
+use mathlib.Core.List.{List, [], _∷_}
+use lib.Dec.{eqb}
+use lib.ListN.{length}
+use Rattle.tariff.specs.declared.load.Metering.{Metering}
+use Rattle.tariff.specs.declared.load.Metering.the-variants.{Unequal, Broken, Missing, Kw}
+use Rattle.tariff.specs.Numbers.{unreadable, brokenBlocks, hoursMissing}
+use Rattle.tariff.specs.Load.{Block, blocksBroken, tooManyMissing, metric, loadPosted}
+
+-- a block is a first hour, a length and a kW (01, Posting, Load): three lists, read side by side as far as the shortest goes
+unfoldable pub blocksOf : List ℕ → List ℕ → List ℕ → List Block
+blocksOf [] hs ks = []
+blocksOf (f ∷ fs) [] ks = []
+blocksOf (f ∷ fs) (h ∷ hs) [] = []
+blocksOf (f ∷ fs) (h ∷ hs) (k ∷ ks) = record { first = f; hours = h; kw = k } ∷ blocksOf fs hs ks
+
+-- no block lacks one of its three numbers; a list that has one short is taken as an unreadable line (01, cause 1)
+unfoldable pub sameLengths : List ℕ → List ℕ → List ℕ → Bool
+sameLengths fs hs ks = eqb (length fs) (length hs) && eqb (length hs) (length ks)
+
+-- 01's number for each case of what is given, and its kW where no cause is met
+unfoldable pub meteringBy : ℕ → ℕ → Metering
+meteringBy number kw = cond (eqb number unreadable) Unequal (cond (eqb number brokenBlocks) Broken (cond (eqb number hoursMissing) Missing (Kw kw)))
+
+-- the block list broken or empty is cause 6, too many hours missing is cause 7, and the lower number decides; 0 for none (01, Refusals by cause)
+unfoldable pub blockRefusal : ℕ → List Block → ℕ
+blockRefusal n bs = cond (blocksBroken n bs) brokenBlocks (cond (tooManyMissing n bs) hoursMissing 0)
+
+unfoldable pub unlessRefused : ℕ → List Block → ℕ → Metering
+unlessRefused n bs kw = meteringBy (blockRefusal n bs) kw
+
+-- the metric: the smallest kW among the blocks that is exceeded in at most 0.5% of the present hours (01, Posting, Load)
+unfoldable pub metricOrCause : List ℕ → List ℕ → List ℕ → ℕ → Metering
+metricOrCause fs hs ks n = cond (sameLengths fs hs ks) (unlessRefused n (blocksOf fs hs ks) (metric (blocksOf fs hs ks))) (meteringBy unreadable 0)
+
+-- the load posted: contract load comes off the metric, not below 0 (01, Posting, Load; house)
+unfoldable pub loadOrCause : List ℕ → List ℕ → List ℕ → ℕ → ℕ → Metering
+loadOrCause fs hs ks n contract =
+    cond (sameLengths fs hs ks) (unlessRefused n (blocksOf fs hs ks) (loadPosted contract (blocksOf fs hs ks))) (meteringBy unreadable 0)
