@@ -9,8 +9,8 @@
 #include <stdio.h>
 
 /* One byte more than a script may have shows that there are too many. */
-static uint8_t script[SEASON_MAX_BYTES + 1];
-static uint8_t out[SEASON_MAX_LINES * SEASON_OUTPUT_PER_LINE];
+static uint8_t script[SEASON_MAX_SCRIPT_BYTES + 1];
+static uint8_t out[SEASON_MAX_SCRIPT_LINES * SEASON_OUTPUT_BYTES_PER_LINE];
 
 /* Prints the answers of a script; 0 if it was run. */
 static int show(const char *name, FILE *file)

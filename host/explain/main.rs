@@ -3,13 +3,13 @@
 
 mod words;
 
-use season_book::{answers, group_answers, script_lines, GroupAnswer, NotItsAnswers};
+use season_book::{answers, group_answers, script_lines, GroupAnswer, AnswerMismatch};
 use std::error::Error;
 use std::io::{self, ErrorKind, Read, Write};
 use std::process::ExitCode;
 
 /// The explanation of a script.
-fn explanation(script: &[u8]) -> Result<String, NotItsAnswers> {
+fn explanation(script: &[u8]) -> Result<String, AnswerMismatch> {
     let answers = match answers(script) {
         Ok(answers) => answers,
         Err(refusal) => return Ok(format!("The script is refused, {refusal}.\n")),

@@ -16,11 +16,11 @@ extern "C" {
 #endif
 
 /* The most that a script may have. */
-#define SEASON_MAX_BYTES 65536
-#define SEASON_MAX_LINES 4096
+#define SEASON_MAX_SCRIPT_BYTES 65536
+#define SEASON_MAX_SCRIPT_LINES 4096
 
 /* Output that a line needs: with this many bytes a line every run has room. */
-#define SEASON_OUTPUT_PER_LINE 16
+#define SEASON_OUTPUT_BYTES_PER_LINE 16
 
 /* The number that `season_run` returns counts a refusal in millions. */
 #define SEASON_REFUSAL_UNIT 1000000
@@ -58,7 +58,7 @@ extern "C" {
  *
  * Both pointers must be good for their lengths, also where a length is 0, and
  * the two stretches must not overlap. Nothing is kept between two calls, so
- * threads may call it at the same time; each needs SEASON_STACK bytes of stack.
+ * threads may call it at the same time; each needs SEASON_STACK_BYTES bytes of stack.
  */
 uint64_t SEASON_SYMBOL(const uint8_t *script, size_t script_length, uint8_t *out,
                        size_t out_length);
@@ -71,7 +71,7 @@ static inline uint64_t season_run(const uint8_t *script, size_t script_length, u
 }
 
 /* Stack that one call of `season_run` may take. */
-#define SEASON_STACK 1048576
+#define SEASON_STACK_BYTES 1048576
 
 #ifdef __cplusplus
 }

@@ -21,13 +21,13 @@ pub struct GroupAnswer {
 
 /// Bytes that are not the answers of the script they came with.
 #[derive(Clone, Copy, Debug, PartialEq, Eq)]
-pub struct NotItsAnswers {
+pub struct AnswerMismatch {
     /// The line of the answers, counted from 1, that is no answer, is absent or
     /// has no group.
     pub line: usize,
 }
 
-impl fmt::Display for NotItsAnswers {
+impl fmt::Display for AnswerMismatch {
     fn fmt(&self, f: &mut fmt::Formatter<'_>) -> fmt::Result {
         let line = self.line;
         write!(
@@ -37,7 +37,7 @@ impl fmt::Display for NotItsAnswers {
     }
 }
 
-impl std::error::Error for NotItsAnswers {}
+impl std::error::Error for AnswerMismatch {}
 
 /// The answers of a script as values, in the order of its groups.
 ///
@@ -49,11 +49,11 @@ impl std::error::Error for NotItsAnswers {}
 /// assert_eq!(last.answer, Answer::Accepted(vec![0]));
 /// assert_eq!(last.group, Group { first_line: 5, lines: 1 });
 /// ```
-pub fn group_answers(script: &[u8], answers: &[u8]) -> Result<Vec<GroupAnswer>, NotItsAnswers> {
+pub fn group_answers(script: &[u8], answers: &[u8]) -> Result<Vec<GroupAnswer>, AnswerMismatch> {
     let mut groups = groups(script);
     let mut read = Vec::new();
     for (place, line) in answers.split_inclusive(|&byte| byte == b'\n').enumerate() {
-        let mismatch = NotItsAnswers { line: place + 1 };
+        let mismatch = AnswerMismatch { line: place + 1 };
         let group = *groups.get(place).ok_or(mismatch)?;
         let answer = answer(line).ok_or(mismatch)?;
         let book_refused = place == 0 && matches!(answer, Answer::Refused(_));
@@ -64,7 +64,7 @@ pub fn group_answers(script: &[u8], answers: &[u8]) -> Result<Vec<GroupAnswer>, 
     }
     if read.len() < groups.len() {
         let line = read.len() + 1;
-        return Err(NotItsAnswers { line });
+        return Err(AnswerMismatch { line });
     }
     Ok(read)
 }

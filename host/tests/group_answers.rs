@@ -3,7 +3,7 @@
 
 mod stored;
 
-use season_book::{answers, group_answers, groups, script_lines, Answer, Group, NotItsAnswers};
+use season_book::{answers, group_answers, groups, script_lines, Answer, Group, AnswerMismatch};
 
 const OPEN_BOOK: &str = "book,1,1,1,1\nholder,1\nsink,1,0\npath,0,0\n";
 
@@ -80,7 +80,7 @@ fn a_refused_book_group_is_the_only_one() {
 }
 
 /// What an answer line says, on a script with one group.
-fn one_answer(line: &str) -> Result<Answer, NotItsAnswers> {
+fn one_answer(line: &str) -> Result<Answer, AnswerMismatch> {
     let read = group_answers(b"book,0,0,0,0\n", line.as_bytes())?;
     assert_eq!(read.len(), 1);
     Ok(read[0].answer.clone())
@@ -104,16 +104,16 @@ fn bytes_that_are_no_answers_are_said_to_be_so() {
     for bad in [
         "", "ok", "no\n", "no,1,2\n", "no,x\n", "ok,\n", "yes\n", "\n", "\u{e9}\n",
     ] {
-        assert_eq!(one_answer(bad), Err(NotItsAnswers { line: 1 }), "{bad:?}");
+        assert_eq!(one_answer(bad), Err(AnswerMismatch { line: 1 }), "{bad:?}");
     }
-    assert_eq!(one_answer("ok\nok\n"), Err(NotItsAnswers { line: 2 }));
-    assert_eq!(one_answer("no,16\nok\n"), Err(NotItsAnswers { line: 2 }));
+    assert_eq!(one_answer("ok\nok\n"), Err(AnswerMismatch { line: 2 }));
+    assert_eq!(one_answer("no,16\nok\n"), Err(AnswerMismatch { line: 2 }));
     let two_groups = b"book,0,0,0,0\nclose\n";
     assert_eq!(
         group_answers(two_groups, b"ok\n"),
-        Err(NotItsAnswers { line: 2 })
+        Err(AnswerMismatch { line: 2 })
     );
-    let said = NotItsAnswers { line: 2 }.to_string();
+    let said = AnswerMismatch { line: 2 }.to_string();
     assert!(said.starts_with("line 2 of the answers"), "{said}");
 }
 

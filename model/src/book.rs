@@ -2,12 +2,12 @@
 
 use crate::evidence::Entry;
 use crate::opening::{Opening, OBAALSE, SCHEDULING_POINT, SUB_LAP};
-use crate::sizes::{HOLDERS, MONTHS, PATHS, SINKS, SOURCES, TERMS, TIERS};
+use crate::sizes::{MAX_HOLDERS, MAX_PATHS, MAX_SINKS, MAX_SOURCES, MONTHS, TERMS, TIERS};
 
 /// One figure for each holder, path and month.
-pub(crate) type ByMonth = [[[u64; MONTHS]; PATHS]; HOLDERS];
+pub(crate) type ByMonth = [[[u64; MONTHS]; MAX_PATHS]; MAX_HOLDERS];
 /// One figure for each holder, path and tier.
-pub(crate) type ByTier = [[[u64; TIERS]; PATHS]; HOLDERS];
+pub(crate) type ByTier = [[[u64; TIERS]; MAX_PATHS]; MAX_HOLDERS];
 
 /// One season and one time of use period, all figures in whole kW.
 #[derive(Clone, Debug, PartialEq, Eq)]
@@ -16,27 +16,27 @@ pub struct Book {
     pub(crate) sources: usize,
     pub(crate) sinks: usize,
     pub(crate) paths: usize,
-    pub(crate) holder_kind: [u64; HOLDERS],
-    pub(crate) sink_kind: [u64; SINKS],
+    pub(crate) holder_kind: [u64; MAX_HOLDERS],
+    pub(crate) sink_kind: [u64; MAX_SINKS],
     /// Base of each sink: the parent of a Sub-LAP, else the sink itself.
-    pub(crate) base: [usize; SINKS],
-    pub(crate) path_source: [usize; PATHS],
-    pub(crate) path_sink: [usize; PATHS],
+    pub(crate) base: [usize; MAX_SINKS],
+    pub(crate) path_source: [usize; MAX_PATHS],
+    pub(crate) path_sink: [usize; MAX_PATHS],
     /// Load by holder, sink and term, after migration.
-    pub(crate) load: [[[u64; TERMS]; SINKS]; HOLDERS],
-    pub(crate) load_posted: [[[bool; TERMS]; SINKS]; HOLDERS],
+    pub(crate) load: [[[u64; TERMS]; MAX_SINKS]; MAX_HOLDERS],
+    pub(crate) load_posted: [[[bool; TERMS]; MAX_SINKS]; MAX_HOLDERS],
     /// Long Term rights held in each month, after migration.
     pub(crate) carried: ByMonth,
-    pub(crate) carry_posted: [[bool; PATHS]; HOLDERS],
+    pub(crate) carry_posted: [[bool; MAX_PATHS]; MAX_HOLDERS],
     /// Awarded rights held in each month, after migration.
     pub(crate) awarded: ByMonth,
     /// Prior's a, after migration.
-    pub(crate) prior_allocated: [[u64; PATHS]; HOLDERS],
+    pub(crate) prior_allocated: [[u64; MAX_PATHS]; MAX_HOLDERS],
     /// Prior's a - l, a record of its own, after migration.
-    pub(crate) prior_rest: [[u64; PATHS]; HOLDERS],
-    pub(crate) prior_posted: [[bool; PATHS]; HOLDERS],
+    pub(crate) prior_remaining: [[u64; MAX_PATHS]; MAX_HOLDERS],
+    pub(crate) prior_posted: [[bool; MAX_PATHS]; MAX_HOLDERS],
     /// Evidence by holder, source and kind (ownership, contract).
-    pub(crate) evidence: [[[Entry; 2]; SOURCES]; HOLDERS],
+    pub(crate) evidence: [[[Entry; 2]; MAX_SOURCES]; MAX_HOLDERS],
     /// kW nominated in each tier; down to the awarded once it is closed.
     pub(crate) nominated: ByTier,
     /// kW awarded in each tier; these stay where they were awarded.
@@ -73,22 +73,22 @@ impl Book {
             sources: 0,
             sinks: 0,
             paths: 0,
-            holder_kind: [0; HOLDERS],
-            sink_kind: [0; SINKS],
-            base: [0; SINKS],
-            path_source: [0; PATHS],
-            path_sink: [0; PATHS],
-            load: [[[0; TERMS]; SINKS]; HOLDERS],
-            load_posted: [[[false; TERMS]; SINKS]; HOLDERS],
-            carried: [[[0; MONTHS]; PATHS]; HOLDERS],
-            carry_posted: [[false; PATHS]; HOLDERS],
-            awarded: [[[0; MONTHS]; PATHS]; HOLDERS],
-            prior_allocated: [[0; PATHS]; HOLDERS],
-            prior_rest: [[0; PATHS]; HOLDERS],
-            prior_posted: [[false; PATHS]; HOLDERS],
-            evidence: [[[Entry::EMPTY; 2]; SOURCES]; HOLDERS],
-            nominated: [[[0; TIERS]; PATHS]; HOLDERS],
-            tier_awards: [[[0; TIERS]; PATHS]; HOLDERS],
+            holder_kind: [0; MAX_HOLDERS],
+            sink_kind: [0; MAX_SINKS],
+            base: [0; MAX_SINKS],
+            path_source: [0; MAX_PATHS],
+            path_sink: [0; MAX_PATHS],
+            load: [[[0; TERMS]; MAX_SINKS]; MAX_HOLDERS],
+            load_posted: [[[false; TERMS]; MAX_SINKS]; MAX_HOLDERS],
+            carried: [[[0; MONTHS]; MAX_PATHS]; MAX_HOLDERS],
+            carry_posted: [[false; MAX_PATHS]; MAX_HOLDERS],
+            awarded: [[[0; MONTHS]; MAX_PATHS]; MAX_HOLDERS],
+            prior_allocated: [[0; MAX_PATHS]; MAX_HOLDERS],
+            prior_remaining: [[0; MAX_PATHS]; MAX_HOLDERS],
+            prior_posted: [[false; MAX_PATHS]; MAX_HOLDERS],
+            evidence: [[[Entry::EMPTY; 2]; MAX_SOURCES]; MAX_HOLDERS],
+            nominated: [[[0; TIERS]; MAX_PATHS]; MAX_HOLDERS],
+            tier_awards: [[[0; TIERS]; MAX_PATHS]; MAX_HOLDERS],
             last_closed: 0,
             open_tier: None,
         }
@@ -213,8 +213,8 @@ impl Book {
     }
 
     /// Prior's a - l on a path.
-    pub fn prior_rest(&self, holder: usize, path: usize) -> u64 {
-        self.prior_rest[holder][path]
+    pub fn prior_remaining(&self, holder: usize, path: usize) -> u64 {
+        self.prior_remaining[holder][path]
     }
 
     /// Whether a prior was posted on a path.

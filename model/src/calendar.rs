@@ -18,17 +18,17 @@ pub(crate) fn first_tier_of(term: u64) -> u64 {
 
 /// A tier that is still to come: it was never opened. An open tier, whichever
 /// it is, lets no posting and no migration through, so that is no time either.
-pub(crate) fn is_before(book: &Book, tier: u64) -> bool {
+pub(crate) fn before_tier(book: &Book, tier: u64) -> bool {
     book.open_tier.is_none() && book.last_closed < tier
 }
 
 /// Posting of load: before the first tier of its term opens.
 pub(crate) fn load_in_time(book: &Book, term: u64) -> bool {
-    is_before(book, first_tier_of(term))
+    before_tier(book, first_tier_of(term))
 }
 
 /// Migration: the season's before tier 1 opens; a month's between the close of
 /// tier 3 and the opening of the month's first tier.
 pub(crate) fn migration_in_time(book: &Book, term: u64) -> bool {
-    is_before(book, first_tier_of(term)) && (term == 0 || book.last_closed >= 3)
+    before_tier(book, first_tier_of(term)) && (term == 0 || book.last_closed >= 3)
 }

@@ -3,7 +3,7 @@
 use crate::book::Book;
 use crate::calls::Verify;
 use crate::refusals::{refuse_if, NOT_AT_THIS_TIME, NOT_IN_BOOK, OUT_OF_RANGE, POSTED_BEFORE};
-use crate::sizes::{MAX_KW, WHOLE_PLANT};
+use crate::sizes::{FULL_OWNERSHIP, MAX_KW};
 
 /// What was shown for one holder, source and kind.
 #[derive(Clone, Copy, Debug, PartialEq, Eq)]
@@ -35,7 +35,7 @@ impl Evidence {
     pub fn kw(&self) -> u64 {
         match *self {
             Evidence::Empty => 0,
-            Evidence::Ownership { capacity, right } => capacity * right / WHOLE_PLANT,
+            Evidence::Ownership { capacity, right } => capacity * right / FULL_OWNERSHIP,
             Evidence::Contract { right, .. } => right,
         }
     }
@@ -84,7 +84,7 @@ pub(crate) fn verify(book: &mut Book, verify: &Verify) -> Result<(), u64> {
 /// Cause 3 of verify: the kind, the capacity, the right by kind, the months.
 fn in_range(verify: &Verify) -> bool {
     let max_right = match verify.kind {
-        1 => WHOLE_PLANT,
+        1 => FULL_OWNERSHIP,
         2 => verify.capacity,
         _ => return false,
     };
@@ -114,7 +114,7 @@ mod tests {
         let owned = |capacity, right| Evidence::Ownership { capacity, right }.kw();
         assert_eq!(owned(1_000, 3_333), 333);
         assert_eq!(owned(1, 9_999), 0);
-        assert_eq!(owned(MAX_KW, WHOLE_PLANT), MAX_KW);
+        assert_eq!(owned(MAX_KW, FULL_OWNERSHIP), MAX_KW);
         let contract = Evidence::Contract {
             capacity: 1_000,
             right: 3,

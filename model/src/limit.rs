@@ -20,13 +20,13 @@ pub(crate) fn limit(book: &Book, holder: usize, base: usize, tier: u64) -> u64 {
 }
 
 /// S, what the season gives: three quarters of load A, rounded down.
-pub(crate) fn seasonal(load: u64) -> u64 {
+pub(crate) fn seasonal_eligible(load: u64) -> u64 {
     3 * load / 4
 }
 
 /// P, what the first two tiers give: two thirds of S, rounded down.
-pub(crate) fn priority(load: u64) -> u64 {
-    2 * seasonal(load) / 3
+pub(crate) fn priority_eligible(load: u64) -> u64 {
+    2 * seasonal_eligible(load) / 3
 }
 
 /// What one holder has at one base, seen from a tier's term.
@@ -41,7 +41,7 @@ impl AtBase<'_> {
     /// Tier 1: the lesser of P and last year's allocation, each less LT.
     fn tier_1(&self) -> u64 {
         let allocated = self.sum(|path| self.book.prior_allocated[self.holder][path]);
-        let most = priority(self.load()).min(allocated);
+        let most = priority_eligible(self.load()).min(allocated);
         most.saturating_sub(self.long_term())
     }
 
@@ -49,8 +49,11 @@ impl AtBase<'_> {
     /// and LT.
     fn tier_2_or_3(&self, tier: u64) -> u64 {
         let (most, taken) = match tier {
-            2 => (priority(self.load()), self.awards(1)),
-            _ => (seasonal(self.load()), self.awards(1) + self.awards(2)),
+            2 => (priority_eligible(self.load()), self.awards(1)),
+            _ => (
+                seasonal_eligible(self.load()),
+                self.awards(1) + self.awards(2),
+            ),
         };
         most.saturating_sub(taken + self.long_term())
     }
@@ -89,13 +92,16 @@ mod tests {
 
     /// Limits: S and P are rounded down one after the other (marked case 5).
     #[test]
-    fn s_and_p_are_rounded_down_in_turn() {
-        assert_eq!((seasonal(3), priority(3)), (2, 1));
-        assert_eq!((seasonal(0), priority(0)), (0, 0));
-        assert_eq!((seasonal(1_000), priority(1_000)), (750, 500));
-        assert_eq!((seasonal(7), priority(7)), (5, 3));
+    fn s_and_p_are_rounded_down_one_after_the_other() {
+        assert_eq!((seasonal_eligible(3), priority_eligible(3)), (2, 1));
+        assert_eq!((seasonal_eligible(0), priority_eligible(0)), (0, 0));
+        assert_eq!(
+            (seasonal_eligible(1_000), priority_eligible(1_000)),
+            (750, 500)
+        );
+        assert_eq!((seasonal_eligible(7), priority_eligible(7)), (5, 3));
         // Half of A would be 1 and 3 here.
-        assert_eq!((seasonal(2), priority(2)), (1, 0));
-        assert_eq!((seasonal(6), priority(6)), (4, 2));
+        assert_eq!((seasonal_eligible(2), priority_eligible(2)), (1, 0));
+        assert_eq!((seasonal_eligible(6), priority_eligible(6)), (4, 2));
     }
 }

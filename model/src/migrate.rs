@@ -6,10 +6,10 @@ use crate::calls::{ClassLine, Migrate};
 use crate::refusals::{
     refuse_if, LOSS_ABOVE_LOAD, NOT_AT_THIS_TIME, NOT_BETWEEN_LSES, NOT_IN_BOOK, OUT_OF_RANGE,
 };
-use crate::sizes::{HOLDERS, MAX_CLASS_LINES, MAX_PER_CLASS};
+use crate::sizes::{MAX_CLASS_LINES, MAX_HOLDERS, MAX_PER_CLASS};
 
 /// m kW from a loser to a gainer.
-pub(crate) struct Move {
+pub(crate) struct Transfer {
     pub(crate) loser: usize,
     pub(crate) gainer: usize,
     pub(crate) m: u64,
@@ -25,7 +25,7 @@ enum Record {
     /// Prior's a.
     Allocated,
     /// Prior's a - l.
-    Rest,
+    Remaining,
 }
 
 /// Migration: causes 2 to 4, 8 and 9; then load and records move, all shares
@@ -38,10 +38,10 @@ pub(crate) fn migrate(book: &mut Book, migrate: &Migrate) -> Result<(), u64> {
     let (sink, term) = (migrate.sink as usize, migrate.term as usize);
     let load = column(|holder| book.load[holder][sink][term]);
     let transfers = net(migrate.lines);
-    refuse_if(any_loss_above_load(&transfers, &load), LOSS_ABOVE_LOAD)?;
+    refuse_if(any_loss_exceeds_load(&transfers, &load), LOSS_ABOVE_LOAD)?;
 
-    move_load(book, sink, term, &transfers);
-    move_records(book, sink, term, &transfers, &load);
+    transfer_load(book, sink, term, &transfers);
+    transfer_records(book, sink, term, &transfers, &load);
     Ok(())
 }
 
@@ -75,32 +75,33 @@ fn any_not_between_lses(book: &Book, lines: &[ClassLine]) -> bool {
 /// For each pair of holders: the watts are summed each way over all classes,
 /// the smaller sum comes off the larger, and only then the rest is rounded
 /// down to kW. A pair with nothing left moves nothing.
-pub(crate) fn net(lines: &[ClassLine]) -> Vec<Move> {
-    let mut watts = [[0; HOLDERS]; HOLDERS];
+pub(crate) fn net(lines: &[ClassLine]) -> Vec<Transfer> {
+    let mut watts = [[0; MAX_HOLDERS]; MAX_HOLDERS];
     for line in lines {
         watts[line.from as usize][line.to as usize] += line.customers * line.watts;
     }
-    let pairs = (0..HOLDERS).flat_map(|loser| (0..HOLDERS).map(move |gainer| (loser, gainer)));
+    let pairs =
+        (0..MAX_HOLDERS).flat_map(|loser| (0..MAX_HOLDERS).map(move |gainer| (loser, gainer)));
     let rest = pairs.map(|(loser, gainer)| {
         let lost: u64 = watts[loser][gainer];
         let m = lost.saturating_sub(watts[gainer][loser]) / 1_000;
-        Move { loser, gainer, m }
+        Transfer { loser, gainer, m }
     });
     rest.filter(|one| one.m > 0).collect()
 }
 
 /// Cause 9: what a loser loses to all gainers is more than its load. At a
 /// Sub-LAP no load is ever posted, so every m is more than that.
-pub(crate) fn any_loss_above_load(transfers: &[Move], load: &[u64; HOLDERS]) -> bool {
+pub(crate) fn any_loss_exceeds_load(transfers: &[Transfer], load: &[u64; MAX_HOLDERS]) -> bool {
     let lost_by = |holder| -> u64 {
         let own = transfers.iter().filter(|one| one.loser == holder);
         own.map(|one| one.m).sum()
     };
-    (0..HOLDERS).any(|holder| lost_by(holder) > load[holder])
+    (0..MAX_HOLDERS).any(|holder| lost_by(holder) > load[holder])
 }
 
 /// Load m moves from loser to gainer, at the sink and term of the call.
-fn move_load(book: &mut Book, sink: usize, term: usize, transfers: &[Move]) {
+fn transfer_load(book: &mut Book, sink: usize, term: usize, transfers: &[Transfer]) {
     // In any order: a holder's losses are within its load before the call.
     for one in transfers {
         book.load[one.loser][sink][term] -= one.m;
@@ -110,9 +111,9 @@ fn move_load(book: &mut Book, sink: usize, term: usize, transfers: &[Move]) {
 
 /// The records of a term, each of them shared out apart from the others.
 fn records_of(term: usize) -> &'static [Record] {
-    use Record::{Allocated, Awarded, Carried, Rest};
+    use Record::{Allocated, Awarded, Carried, Remaining};
     match term {
-        0 => &[Carried(0), Carried(1), Carried(2), Allocated, Rest],
+        0 => &[Carried(0), Carried(1), Carried(2), Allocated, Remaining],
         1 => &[Carried(0), Awarded(0)],
         2 => &[Carried(1), Awarded(1)],
         _ => &[Carried(2), Awarded(2)],
@@ -120,12 +121,12 @@ fn records_of(term: usize) -> &'static [Record] {
 }
 
 /// Every record of the term on every path with this base is shared out.
-fn move_records(
+fn transfer_records(
     book: &mut Book,
     base: usize,
     term: usize,
-    transfers: &[Move],
-    load: &[u64; HOLDERS],
+    transfers: &[Transfer],
+    load: &[u64; MAX_HOLDERS],
 ) {
     if transfers.is_empty() {
         return;
@@ -150,10 +151,10 @@ fn move_records(
 /// v and m stay below 2^31, so the product fits; and since a loser's m
 /// together are within L, its shares together are within v.
 pub(crate) fn shared_out(
-    before: &[u64; HOLDERS],
-    transfers: &[Move],
-    load: &[u64; HOLDERS],
-) -> [u64; HOLDERS] {
+    before: &[u64; MAX_HOLDERS],
+    transfers: &[Transfer],
+    load: &[u64; MAX_HOLDERS],
+) -> [u64; MAX_HOLDERS] {
     let mut after = *before;
     for one in transfers {
         let share = before[one.loser] * one.m / load[one.loser];
@@ -164,8 +165,8 @@ pub(crate) fn shared_out(
 }
 
 /// One value for each holder.
-fn column(mut value: impl FnMut(usize) -> u64) -> [u64; HOLDERS] {
-    let mut values = [0; HOLDERS];
+fn column(mut value: impl FnMut(usize) -> u64) -> [u64; MAX_HOLDERS] {
+    let mut values = [0; MAX_HOLDERS];
     for (holder, slot) in values.iter_mut().enumerate() {
         *slot = value(holder);
     }
@@ -178,7 +179,7 @@ fn record_of(book: &mut Book, holder: usize, path: usize, record: Record) -> &mu
         Record::Carried(month) => &mut book.carried[holder][path][month],
         Record::Awarded(month) => &mut book.awarded[holder][path][month],
         Record::Allocated => &mut book.prior_allocated[holder][path],
-        Record::Rest => &mut book.prior_rest[holder][path],
+        Record::Remaining => &mut book.prior_remaining[holder][path],
     }
 }
 

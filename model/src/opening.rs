@@ -1,7 +1,7 @@
 //! The opening: what a book is drawn up from, and when it breaks the rules.
 
 use crate::refusals::{refuse_if, BREAKS_RULES};
-use crate::sizes::{HOLDERS, PATHS, SINKS, SOURCES};
+use crate::sizes::{MAX_HOLDERS, MAX_PATHS, MAX_SINKS, MAX_SOURCES};
 
 /// Holder kind 1: a load-serving entity.
 pub const LSE: u64 = 1;
@@ -50,10 +50,10 @@ impl Opening {
 
     /// The book: up to 8 holders and 16 sources, sinks and paths each.
     fn counts_fit(&self) -> bool {
-        self.holders <= HOLDERS as u64
-            && self.sources <= SOURCES as u64
-            && self.sinks <= SINKS as u64
-            && self.paths <= PATHS as u64
+        self.holders <= MAX_HOLDERS as u64
+            && self.sources <= MAX_SOURCES as u64
+            && self.sinks <= MAX_SINKS as u64
+            && self.paths <= MAX_PATHS as u64
     }
 
     /// A list that is longer or shorter than its count is a broken count.

@@ -29,7 +29,7 @@ pub const ABOVE_LIMIT: u64 = 13;
 /// Feasibility run: an award of more kW than are nominated and still open.
 pub const ABOVE_NOMINATED: u64 = 14;
 /// Host: the output buffer is too short.
-pub const BUFFER_TOO_SHORT: u64 = 15;
+pub const OUTPUT_TOO_SHORT: u64 = 15;
 /// Whoever draws up the book: an opening that no book can be made from.
 pub const BREAKS_RULES: u64 = 16;
 

@@ -1,7 +1,7 @@
 //! Rights posted before tier 1 opens: carry and prior.
 
 use crate::book::Book;
-use crate::calendar::is_before;
+use crate::calendar::before_tier;
 use crate::calls::{OnPath, Prior};
 use crate::refusals::{
     refuse_if, NOT_AT_THIS_TIME, NOT_IN_BOOK, OUT_OF_RANGE, POSTED_BEFORE, SINK_INELIGIBLE,
@@ -14,7 +14,7 @@ pub(crate) fn carry(book: &mut Book, carry: &OnPath) -> Result<(), u64> {
     let known = book.has_holder(carry.holder) && book.has_path(carry.path);
     refuse_if(!known, NOT_IN_BOOK)?;
     refuse_if(!(1..=MAX_KW).contains(&carry.kw), OUT_OF_RANGE)?;
-    refuse_if(!is_before(book, 1), NOT_AT_THIS_TIME)?;
+    refuse_if(!before_tier(book, 1), NOT_AT_THIS_TIME)?;
     let (holder, path) = (carry.holder as usize, carry.path as usize);
     refuse_if(book.carry_posted[holder][path], POSTED_BEFORE)?;
     let not_for_it = book.sink_ineligible(holder, book.path_sink[path]);
@@ -34,14 +34,14 @@ pub(crate) fn prior(book: &mut Book, prior: &Prior) -> Result<(), u64> {
     refuse_if(!known, NOT_IN_BOOK)?;
     let in_range = (1..=MAX_KW).contains(&prior.allocated) && prior.long_term <= prior.allocated;
     refuse_if(!in_range, OUT_OF_RANGE)?;
-    refuse_if(!is_before(book, 1), NOT_AT_THIS_TIME)?;
+    refuse_if(!before_tier(book, 1), NOT_AT_THIS_TIME)?;
     let (holder, path) = (prior.holder as usize, prior.path as usize);
     refuse_if(book.prior_posted[holder][path], POSTED_BEFORE)?;
     let not_for_it = book.sink_ineligible(holder, book.path_sink[path]);
     refuse_if(not_for_it, SINK_INELIGIBLE)?;
 
     book.prior_allocated[holder][path] += prior.allocated;
-    book.prior_rest[holder][path] += prior.allocated - prior.long_term;
+    book.prior_remaining[holder][path] += prior.allocated - prior.long_term;
     book.prior_posted[holder][path] = true;
     Ok(())
 }

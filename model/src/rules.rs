@@ -5,9 +5,9 @@
 
 use crate::book::Book;
 use crate::calls::{Block, Call, ClassLine, Load, Migrate, Verify};
-use crate::migrate::{all_known, any_loss_above_load, in_range, net, shared_out};
+use crate::migrate::{all_known, any_loss_exceeds_load, in_range, net, shared_out};
 use crate::opening::{Opening, DEFAULT_LAP, LSE};
-use crate::sizes::{HOLDERS, TERMS};
+use crate::sizes::{MAX_HOLDERS, TERMS};
 use crate::{calendar, evidence, limit, load};
 
 /// The sums that a limit is made of, for one holder and base.
@@ -41,13 +41,13 @@ pub fn posted(blocks: &[Block], hours: u64, contract: u64) -> Result<u64, u64> {
 }
 
 /// S of a load.
-pub fn seasonal(load: u64) -> u64 {
-    limit::seasonal(load)
+pub fn seasonal_eligible(load: u64) -> u64 {
+    limit::seasonal_eligible(load)
 }
 
 /// P of a load.
-pub fn priority(load: u64) -> u64 {
-    limit::priority(load)
+pub fn priority_eligible(load: u64) -> u64 {
+    limit::priority_eligible(load)
 }
 
 /// The term of a tier 1 to 9.
@@ -101,7 +101,7 @@ pub fn netted(lines: &[ClassLine]) -> Option<Vec<(usize, usize, u64)>> {
         sink: 0,
         lines,
     };
-    let fit = all_known(&book_of(HOLDERS), &migrate) && in_range(&migrate);
+    let fit = all_known(&book_of(MAX_HOLDERS), &migrate) && in_range(&migrate);
     let transfers = fit.then(|| net(lines))?;
     Some(transfers.iter().map(|o| (o.loser, o.gainer, o.m)).collect())
 }
@@ -109,20 +109,20 @@ pub fn netted(lines: &[ClassLine]) -> Option<Vec<(usize, usize, u64)>> {
 /// A column of records after the migration of class lines that are fit; none
 /// where cause 9 refuses it. Each record times an m has to fit 64 bits.
 pub fn transferred(
-    column: &[u64; HOLDERS],
-    load: &[u64; HOLDERS],
+    column: &[u64; MAX_HOLDERS],
+    load: &[u64; MAX_HOLDERS],
     lines: &[ClassLine],
-) -> Option<[u64; HOLDERS]> {
+) -> Option<[u64; MAX_HOLDERS]> {
     let transfers = net(lines);
-    let refused = any_loss_above_load(&transfers, load);
+    let refused = any_loss_exceeds_load(&transfers, load);
     (!refused).then(|| shared_out(column, &transfers, load))
 }
 
 /// What a holder keeps of a column of records in a migration that cause 9
 /// does not refuse: the column shared out by its own losses alone.
 pub fn kept(
-    column: &[u64; HOLDERS],
-    load: &[u64; HOLDERS],
+    column: &[u64; MAX_HOLDERS],
+    load: &[u64; MAX_HOLDERS],
     lines: &[ClassLine],
     holder: usize,
 ) -> u64 {

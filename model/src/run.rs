@@ -3,7 +3,7 @@
 use crate::book::Book;
 use crate::calls::{Answer, Block, Call, ClassLine, Load, Migrate};
 use crate::opening::Opening;
-use crate::refusals::{BUFFER_TOO_SHORT, UNREADABLE};
+use crate::refusals::{OUTPUT_TOO_SHORT, UNREADABLE};
 use crate::script::{self, Head};
 use crate::sizes::{MAX_SCRIPT_BYTES, MAX_SCRIPT_LINES, OUTPUT_BYTES_PER_LINE};
 use std::io::Write;
@@ -18,11 +18,11 @@ const REFUSAL_UNIT: u64 = 1_000_000;
 /// 16 bytes for each line one of 15, counted in millions and with no length;
 /// then nothing is written. The buffer is left alone behind the answers.
 pub fn run(script: &[u8], out: &mut [u8]) -> u64 {
-    if oversize(script) {
+    if too_long(script) {
         return UNREADABLE * REFUSAL_UNIT;
     }
     if out.len() < script::count_lines(script) * OUTPUT_BYTES_PER_LINE {
-        return BUFFER_TOO_SHORT * REFUSAL_UNIT;
+        return OUTPUT_TOO_SHORT * REFUSAL_UNIT;
     }
     let answers = answer_script(script);
     out[..answers.len()].copy_from_slice(&answers);
@@ -32,7 +32,7 @@ pub fn run(script: &[u8], out: &mut [u8]) -> u64 {
 /// The answers as the program prints them; `Err(1)` for a script over its
 /// limits.
 pub fn answers(script: &[u8]) -> Result<Vec<u8>, u64> {
-    if oversize(script) {
+    if too_long(script) {
         Err(UNREADABLE)
     } else {
         Ok(answer_script(script))
@@ -40,7 +40,7 @@ pub fn answers(script: &[u8]) -> Result<Vec<u8>, u64> {
 }
 
 /// Script and host: more bytes, or more lines, than a script may have.
-fn oversize(script: &[u8]) -> bool {
+fn too_long(script: &[u8]) -> bool {
     script.len() > MAX_SCRIPT_BYTES || script::count_lines(script) > MAX_SCRIPT_LINES
 }
 

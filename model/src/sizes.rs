@@ -1,13 +1,13 @@
 //! The sizes of a book and the largest numbers its fields take.
 
 /// Most holders in one book.
-pub const HOLDERS: usize = 8;
+pub const MAX_HOLDERS: usize = 8;
 /// Most sources in one book.
-pub const SOURCES: usize = 16;
+pub const MAX_SOURCES: usize = 16;
 /// Most sinks in one book.
-pub const SINKS: usize = 16;
+pub const MAX_SINKS: usize = 16;
 /// Most paths in one book.
-pub const PATHS: usize = 16;
+pub const MAX_PATHS: usize = 16;
 /// The season (term 0) and its three months (terms 1 to 3).
 pub const TERMS: usize = 4;
 /// Months of the season; month `k` is kept at index `k - 1`.
@@ -26,7 +26,7 @@ pub const MAX_KW: u64 = 99_999_999;
 /// The largest number of customers, and of average watts, in a class line.
 pub const MAX_PER_CLASS: u64 = 9_999_999;
 /// The whole of a plant, as ownership rights count it.
-pub const WHOLE_PLANT: u64 = 10_000;
+pub const FULL_OWNERSHIP: u64 = 10_000;
 
 /// Most bytes of a script.
 pub const MAX_SCRIPT_BYTES: usize = 65_536;

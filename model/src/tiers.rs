@@ -122,7 +122,7 @@ fn earlier_tiers(tier: u64) -> impl Iterator<Item = u64> {
 /// Cause 12, as the kW still free: in tier 1 each path is held to its a - l.
 pub(crate) fn prior_room(book: &Book, holder: usize, path: usize, tier: u64) -> u64 {
     match tier {
-        1 => book.prior_rest[holder][path].saturating_sub(nominated_in(book, holder, path, 1)),
+        1 => book.prior_remaining[holder][path].saturating_sub(nominated_in(book, holder, path, 1)),
         _ => u64::MAX,
     }
 }

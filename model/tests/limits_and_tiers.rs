@@ -325,7 +325,7 @@ fn verified_kw_serves_earlier_tiers_of_the_term_and_the_season() {
 
 /// Open, nominate, award, close: nine tiers in turn, no tenth.
 #[test]
-fn nine_tiers_in_turn() {
+fn nine_tiers_in_order() {
     let tiers = common::empty_tiers(1..=9);
     show_in_book(&format!("{tiers}open,9 => no,04\nopen,10 => no,03"));
 }

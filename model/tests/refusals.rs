@@ -235,7 +235,7 @@ fn refusal_04_migration_before_and_after_its_time() {
 
 /// 4: a tier opens only as the last closed + 1, the first one being 1.
 #[test]
-fn refusal_04_open_out_of_turn() {
+fn refusal_04_open_out_of_order() {
     let rest = empty_tiers(3..=9);
     show_in_book(&format!(
         "open,2 => no,04

@@ -11,7 +11,7 @@ use lib.Dec.{ltb, eqb}
 use borrow.Author.Tests.{ltb-true, ltb-false, eqb-true, eqb-false, eq-eqb, ne-eqb}
 use Rattle.tariff.proofs.Tests.{decided}
 use Rattle.slots.specs.Cells.{rows, cellOf, readAt, clearedTo, Shows}
-use Rattle.slots.specs.Groups.{Group, group, slotsOf, inSlot}
+use Rattle.slots.specs.Groups.{SlotGroup, slotGroup, slotsOf, inSlot}
 use Rattle.slots.proofs.CellLaws.{cell-below, shows-agree}
 use Rattle.slots.proofs.ClearLaws.{shows-cleared}
 
@@ -23,9 +23,9 @@ later-slot slot c n past = go (decided (eqb (slot - c) n))
     go (inl e) = eq-eqb slot (c + n) (let q = eqb-true (slot - c) n e in omega arith) ∙ sym e
     go (inr e) = ne-eqb slot (c + n) (λ q. eqb-false (slot - c) n e (omega (arith, q))) ∙ sym e
 
-module _ (after : List (Group ℕ)) (low : ℕ) (old new : ℕ → ℕ → ℕ → ℕ) (none : (h p k : ℕ) → new h p k ≡ 0) where
+module _ (after : List (SlotGroup ℕ)) (low : ℕ) (old new : ℕ → ℕ → ℕ → ℕ) (none : (h p k : ℕ) → new h p k ≡ 0) where
   -- the slot of a group put to 0 is that of a figure that is 0 everywhere
-  group-cleared : (before : List (Group ℕ)) (h p slot : ℕ) → cond (eqb slot (slotsOf before)) 0 (inSlot 0 (before ++ (group 1 low old ∷ after)) h p slot) ≡ inSlot 0 (before ++ (group 1 low new ∷ after)) h p slot
+  group-cleared : (before : List (SlotGroup ℕ)) (h p slot : ℕ) → cond (eqb slot (slotsOf before)) 0 (inSlot 0 (before ++ (slotGroup 1 low old ∷ after)) h p slot) ≡ inSlot 0 (before ++ (slotGroup 1 low new ∷ after)) h p slot
   unfolding inSlot slotsOf
   group-cleared [] h p slot = go (decided (ltb slot 1))
     where
@@ -39,13 +39,13 @@ module _ (after : List (Group ℕ)) (low : ℕ) (old new : ℕ → ℕ → ℕ �
           let past = ltb-false slot 1 t in
           (λ i. cond (ne-eqb slot 0 (λ e. omega (arith, e)) i) 0 (cond (t i) (old h p (slot + low)) (inSlot 0 after h p (slot - 1))))
           ∙ sym (ap (λ u. cond u (new h p (slot + low)) (inSlot 0 after h p (slot - 1))) t)
-  group-cleared (group c l f ∷ before) h p slot = go (decided (ltb slot c)) (group-cleared before h p (slot - c))
+  group-cleared (slotGroup c l f ∷ before) h p slot = go (decided (ltb slot c)) (group-cleared before h p (slot - c))
     where
       was : ℕ
-      was = inSlot 0 (before ++ (group 1 low old ∷ after)) h p (slot - c)
+      was = inSlot 0 (before ++ (slotGroup 1 low old ∷ after)) h p (slot - c)
 
       is : ℕ
-      is = inSlot 0 (before ++ (group 1 low new ∷ after)) h p (slot - c)
+      is = inSlot 0 (before ++ (slotGroup 1 low new ∷ after)) h p (slot - c)
 
       go : (ltb slot c ≡ true) ⊎ (ltb slot c ≡ false) → cond (eqb (slot - c) (slotsOf before)) 0 was ≡ is → cond (eqb slot (c + slotsOf before)) 0 (cond (ltb slot c) (f h p (slot + l)) was) ≡ cond (ltb slot c) (f h p (slot + l)) is
       go (inl t) ih =
@@ -58,11 +58,11 @@ module _ (after : List (Group ℕ)) (low : ℕ) (old new : ℕ → ℕ → ℕ �
           ∙ sym (ap (λ u. cond u (f h p (slot + l)) is) t)
 
   -- an array with that slot put to 0 in every row
-  pub slot-cleared : (width from : ℕ) (before : List (Group ℕ)) (xs rest : List ℕ) → slotsOf before ≡ from → from < width → Shows width 0 xs (inSlot 0 (before ++ (group 1 low old ∷ after))) rest → Shows width 0 (clearedTo width from xs rows) (inSlot 0 (before ++ (group 1 low new ∷ after))) rest
+  pub slot-cleared : (width from : ℕ) (before : List (SlotGroup ℕ)) (xs rest : List ℕ) → slotsOf before ≡ from → from < width → Shows width 0 xs (inSlot 0 (before ++ (slotGroup 1 low old ∷ after))) rest → Shows width 0 (clearedTo width from xs rows) (inSlot 0 (before ++ (slotGroup 1 low new ∷ after))) rest
   slot-cleared width from before xs rest at inRow s =
-      shows-agree width 0 _ (inSlot 0 (before ++ (group 1 low new ∷ after))) (clearedTo width from xs rows) rest
-      (shows-cleared width from (inSlot 0 (before ++ (group 1 low old ∷ after))) xs rest inRow s)
-      (λ h p slot c. ap (λ n. cond (eqb slot n) 0 (inSlot 0 (before ++ (group 1 low old ∷ after)) h p slot)) (sym at) ∙ group-cleared before h p slot)
+      shows-agree width 0 _ (inSlot 0 (before ++ (slotGroup 1 low new ∷ after))) (clearedTo width from xs rows) rest
+      (shows-cleared width from (inSlot 0 (before ++ (slotGroup 1 low old ∷ after))) xs rest inRow s)
+      (λ h p slot c. ap (λ n. cond (eqb slot n) 0 (inSlot 0 (before ++ (slotGroup 1 low old ∷ after)) h p slot)) (sym at) ∙ group-cleared before h p slot)
 
 -- a number stored after the cells
 pub shows-past : {A : Type 0} (width : ℕ) (none v : A) (f : ℕ → ℕ → ℕ → A) (xs rest : List A) (k : ℕ) → k < length rest → Shows width none xs f rest → Shows width none (set xs (rows * width + k) v) f (set rest k v)

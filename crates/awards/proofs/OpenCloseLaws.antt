@@ -17,7 +17,7 @@ use Rattle.ledger.proofs.TierFacts.{open-facts, close-fact}
 use Rattle.records.specs.declared.answers.Answer.the-variants.{Done}
 use Rattle.records.specs.Opening.{openingIn}
 use Rattle.slots.specs.Cells.{rows, clearedTo, Shows}
-use Rattle.slots.specs.Groups.{group, slotsOf, inSlot}
+use Rattle.slots.specs.Groups.{slotGroup, slotsOf, inSlot}
 use Rattle.slots.specs.Layout.{figureSlots, figureGroups, postedGroups, evidenceGroups, calendarOf, figuresOf, postedOf, evidenceOf, currentTierIn, ledgerIn, nominatedSlot, lastClosedAt, currentTierAt}
 use Rattle.slots.specs.Steps.{Reachable, Steps}
 use Rattle.slots.proofs.CellLaws.{shown-is}
@@ -37,7 +37,7 @@ module _ (o f f′ : List ℕ) (m : List Bool) (x : List Entry) (number : ℕ) (
   L = ledgerIn f m x
 
   -- with no nominations in the open tier
-  cleared : (new : ℕ → ℕ → ℕ → ℕ) → ((h p k : ℕ) → new h p k ≡ 0) → Shows figureSlots 0 (clearedTo figureSlots nominatedSlot f rows) (inSlot 0 (take 5 (figureGroups L) ++ (group 1 0 new ∷ drop 6 (figureGroups L)))) (calendarOf L)
+  cleared : (new : ℕ → ℕ → ℕ → ℕ) → ((h p k : ℕ) → new h p k ≡ 0) → Shows figureSlots 0 (clearedTo figureSlots nominatedSlot f rows) (inSlot 0 (take 5 (figureGroups L) ++ (slotGroup 1 0 new ∷ drop 6 (figureGroups L)))) (calendarOf L)
   unfolding figureGroups slotsOf
   cleared new none = slot-cleared (drop 6 (figureGroups L)) 0 (λ h p k. L .tiers .nominated h p (L .tiers .currentTier)) new none figureSlots nominatedSlot (take 5 (figureGroups L)) f (calendarOf L) refl (omega arith) (figures-shown o f m x r)
 

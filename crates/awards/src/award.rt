@@ -1,6 +1,6 @@
 // Award: what of a holder's nominations is granted, in each month of the open tier's term (01, Tiers, Award).
 use records::answers::Answer;
-use records::calendar::is_open;
+use records::calendar::tier_is_open;
 use records::numbers::ABOVE_NOMINATED;
 use records::numbers::NOT_AT_THIS_TIME;
 use records::numbers::NOT_IN_BOOK;
@@ -12,9 +12,9 @@ use records::setup::unknown_path;
 use slots::calendar::current_tier;
 use slots::cells::add;
 use slots::cells::read;
-use slots::layout::AWARDED;
-use slots::layout::AWARDS;
-use slots::layout::NOMINATED;
+use slots::layout::AWARDED_SLOT;
+use slots::layout::AWARDS_SLOT;
+use slots::layout::NOMINATED_SLOT;
 use slots::months::add_in_term;
 use tariff::terms::term_of;
 ghost use mathlib.Core.Path.{_≡_};
@@ -34,8 +34,8 @@ fn exceeds_nominated(f: &[u64], tier: u64, h: u64, p: u64, kw: u64) -> bool
     requires { ⌜ (tier ≡ currentTierIn (now f)) × (tier ≤ lastTier) × HasRoom (now f) h p nominatedSlot ownershipSlot kw ⌝ }
     ensures { λ r. ⌜ ((m : List Bool) (x : List Entry) → r ≡ exceedsNominated (ledgerIn (now (f .entry)) m x) (currentTierIn (now (f .entry))) h p kw) ⌝ }
 {
-    let nominated = read(f, h, p, NOMINATED);
-    let wanted = read(f, h, p, AWARDS + tier) + kw;
+    let nominated = read(f, h, p, NOMINATED_SLOT);
+    let wanted = read(f, h, p, AWARDS_SLOT + tier) + kw;
     nominated < wanted
 }
 
@@ -52,7 +52,7 @@ fn award_refusal(o: &[u64], f: &[u64], h: u64, p: u64, kw: u64) -> u64
         return OUT_OF_RANGE;
     }
     let tier = current_tier(f);
-    if !is_open(tier) {
+    if !tier_is_open(tier) {
         return NOT_AT_THIS_TIME;
     }
     let above = exceeds_nominated(f, tier, h, p, kw);
@@ -70,7 +70,7 @@ pub fn award(o: &[u64], f: &mut [u64], h: u64, p: u64, kw: u64) -> Answer
     }
     let tier = current_tier(f);
     let term = term_of(tier);
-    add_in_term(f, h, p, AWARDED, term, kw);
-    add(f, h, p, AWARDS + tier, kw);
+    add_in_term(f, h, p, AWARDED_SLOT, term, kw);
+    add(f, h, p, AWARDS_SLOT + tier, kw);
     Answer::Done
 }

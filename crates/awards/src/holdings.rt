@@ -8,8 +8,8 @@ use records::setup::holders;
 use records::setup::unknown_holder;
 use records::setup::unknown_path;
 use slots::cells::read;
-use slots::layout::AWARDED;
-use slots::layout::CARRIED;
+use slots::layout::AWARDED_SLOT;
+use slots::layout::CARRIED_SLOT;
 ghost use mathlib.Core.Path.{_≡_};
 ghost use mathlib.Core.Bool.{Bool};
 ghost use mathlib.Core.List.{List};
@@ -30,8 +30,8 @@ fn holding(f: &[u64], h: u64, p: u64, month: u64) -> u64
     requires { ⌜ HasHolding (now f) h p month ⌝ }
     ensures { λ r. ⌜ ((m : List Bool) (x : List Entry) → r ≡ held (ledgerIn (now (f .entry)) m x) h p month) ⌝ }
 {
-    let carried = read(f, h, p, CARRIED + (month - 1));
-    let awarded = read(f, h, p, AWARDED + (month - 1));
+    let carried = read(f, h, p, CARRIED_SLOT + (month - 1));
+    let awarded = read(f, h, p, AWARDED_SLOT + (month - 1));
     carried + awarded
 }
 

@@ -1,7 +1,7 @@
 // Opening and closing a tier (01, Tiers).
 use records::answers::Answer;
 use records::calendar::is_next_tier;
-use records::calendar::is_open;
+use records::calendar::tier_is_open;
 use records::numbers::NOT_AT_THIS_TIME;
 use records::numbers::OUT_OF_RANGE;
 use records::refusals::refuse;
@@ -9,9 +9,9 @@ use records::refusals::tier_out_of_range;
 use slots::calendar::current_tier;
 use slots::calendar::last_closed;
 use slots::cells::clear;
-use slots::layout::CURRENT_TIER;
-use slots::layout::LAST_CLOSED;
-use slots::layout::NOMINATED;
+use slots::layout::CURRENT_TIER_AT;
+use slots::layout::LAST_CLOSED_AT;
+use slots::layout::NOMINATED_SLOT;
 ghost use mathlib.Core.Path.{_≡_};
 ghost use mathlib.Core.Bool.{Bool};
 ghost use mathlib.Core.List.{List};
@@ -35,7 +35,7 @@ fn open_refusal(f: &[u64], tier: u64) -> u64
 fn close_refusal(f: &[u64]) -> u64
     ensures { λ r. ⌜ ((O : Opening) (m : List Bool) (x : List Entry) → r ≡ refusal O (ledgerIn (now (f .entry)) m x) closeTier) ⌝ }
 {
-    let late = !is_open(current_tier(f));
+    let late = !tier_is_open(current_tier(f));
     refuse(NOT_AT_THIS_TIME, late, 0)
 }
 
@@ -48,8 +48,8 @@ pub fn open_tier(f: &mut [u64], tier: u64) -> Answer
     if number != 0 {
         return Answer::Refused(number);
     }
-    clear(f, NOMINATED);
-    f[CURRENT_TIER] = tier;
+    clear(f, NOMINATED_SLOT);
+    f[CURRENT_TIER_AT] = tier;
     Answer::Done
 }
 
@@ -63,8 +63,8 @@ pub fn close_tier(f: &mut [u64]) -> Answer
         return Answer::Refused(number);
     }
     let closed = current_tier(f);
-    clear(f, NOMINATED);
-    f[LAST_CLOSED] = closed;
-    f[CURRENT_TIER] = 0;
+    clear(f, NOMINATED_SLOT);
+    f[LAST_CLOSED_AT] = closed;
+    f[CURRENT_TIER_AT] = 0;
     Answer::Done
 }

@@ -28,12 +28,12 @@ use Rattle.book.specs.declared.book.Book.{Book}
 use Rattle.book.specs.declared.book.Outcome.{Outcome}
 use Rattle.book.specs.declared.class_lines.Columns.{Columns}
 use Rattle.book.specs.Reachable.{Reachable}
-use Rattle.book.specs.ClassLines.{noColumns, withLine, FullColumns, outcomeOfColumns}
+use Rattle.book.specs.ClassLines.{emptyColumns, withLine, FullColumns, outcomeOfColumns}
 use Rattle.book.proofs.book.Book as B
 use Rattle.book.proofs.book.Book.Laws as B′
 use Rattle.book.proofs.class_lines.Columns as K
 use Rattle.book.proofs.class_lines.Columns.Laws as K′
-use Rattle.book.proofs.class_lines.no_columns as none
+use Rattle.book.proofs.class_lines.empty_columns as none
 use Rattle.book.proofs.class_lines.with_line as more
 use Rattle.book.proofs.class_lines.migrate_columns as last
 
@@ -56,8 +56,8 @@ module _ {M : Type 1} (𝓤 : URA M) (H : Heap 𝓤) (A : Atoms 𝓤) (W : Given
   pub asks-none : ent 𝓤 (emp 𝓤) (None 𝓤 H A mem run .pre to-none)
   asks-none = qed W [] ∵ nothing ! $ nothing ! $ join ! $ frame ! $ done !
 
-  pub none-said : (r : Columns) → ent 𝓤 (ensured 𝓤 H A none.ended (none.clauses 𝓤 H A mem run) tt tt tt r) (fact 𝓤 (r ≡ noColumns))
-  none-said r = exE 𝓤 _ (λ ws. snd∗ 𝓤 (sem 𝓤 H A (lasts none.ended tt tt ws)) (fact 𝓤 (r ≡ noColumns)))
+  pub none-said : (r : Columns) → ent 𝓤 (ensured 𝓤 H A none.ended (none.clauses 𝓤 H A mem run) tt tt tt r) (fact 𝓤 (r ≡ emptyColumns))
+  none-said r = exE 𝓤 _ (λ ws. snd∗ 𝓤 (sem 𝓤 H A (lasts none.ended tt tt ws)) (fact 𝓤 (r ≡ emptyColumns)))
 
   module _ (c : Columns) (w : Val) (k : ℕ) (l : ClassLine) (v : Val) where
     abbrev pub to-more : More 𝓤 H A mem run .Ghost

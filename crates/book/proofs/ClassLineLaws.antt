@@ -31,12 +31,12 @@ use Rattle.book.specs.declared.class_lines.Columns.{Columns}
 use Rattle.book.specs.Reading.{ledgerOf, openingOfBook, bookIn}
 use Rattle.book.specs.Outcomes.{outcomeOf, refusedWith, outcomeOfLines}
 use Rattle.book.specs.Reachable.{Reachable}
-use Rattle.book.specs.ClassLines.{noLine, noColumns, withLine, columnsTo, FullColumns, outcomeOfColumns}
+use Rattle.book.specs.ClassLines.{noLine, emptyColumns, withLine, columnsTo, FullColumns, outcomeOfColumns}
 use Rattle.slots.proofs.StepLaws.{steps-refused}
 use Rattle.book.proofs.OutcomeBooks.{outcome-book}
 
 -- no line as yet, and one more
-pub columns-none : (lines : List ClassLine) → noColumns ≡ columnsTo lines 0
+pub columns-none : (lines : List ClassLine) → emptyColumns ≡ columnsTo lines 0
 unfolding columnsTo
 columns-none lines = refl
 
@@ -58,7 +58,7 @@ pub first-long : (n : ℕ) (xs : List ℕ) → n ≤ maxClassLines → length xs
 first-long n xs few full = sym (length-take-le n xs (omega arith))
 
 -- one column: the field f of each line
-module _ (lines : List ClassLine) (f : ClassLine → ℕ) (column : Columns → List ℕ) (starts : column noColumns ≡ replicate maxClassLines 0) (puts : (c : Columns) (k : ℕ) (l : ClassLine) → column (withLine c k l) ≡ placed maxClassLines (column c) k (f l)) where
+module _ (lines : List ClassLine) (f : ClassLine → ℕ) (column : Columns → List ℕ) (starts : column emptyColumns ≡ replicate maxClassLines 0) (puts : (c : Columns) (k : ℕ) (l : ClassLine) → column (withLine c k l) ≡ placed maxClassLines (column c) k (f l)) where
   abbrev fieldAt : ℕ → ℕ
   fieldAt j = f (getD lines j noLine)
 
@@ -69,7 +69,7 @@ module _ (lines : List ClassLine) (f : ClassLine → ℕ) (column : Columns → 
 
   column-filled : (k : ℕ) → k ≤ maxClassLines → Filled fieldAt k (column (columnsTo lines k))
   unfolding columnsTo
-  column-filled zero l = filled-none fieldAt (column noColumns)
+  column-filled zero l = filled-none fieldAt (column emptyColumns)
   column-filled (suc k) l =
       let old = column (columnsTo lines k) in
       let full = column-long k in
@@ -82,7 +82,7 @@ module _ (lines : List ClassLine) (f : ClassLine → ℕ) (column : Columns → 
 
 -- every column is full, from the first line on
 pub columns-full : (lines : List ClassLine) (k : ℕ) → FullColumns (columnsTo lines k)
-unfolding noColumns withLine
+unfolding emptyColumns withLine
 columns-full lines k =
     record {
       ofFroms = column-long lines (λ l. l .from) (λ c. c .froms) refl (λ c k l. refl) k;
@@ -99,8 +99,8 @@ listed lines =
     ext-getD noLine (tabulate (length lines) (λ j. getD lines j noLine)) lines long (λ j l. at-tabulate (length lines) (λ j. getD lines j noLine) noLine j (omega arith))
 
 -- a number is at most the larger of two where it is at most one of them
-reaches-larger : (h x y : ℕ) → leb h (max x y) ≡ (leb h x || leb h y)
-reaches-larger h x y = go (decided (leb h x)) (decided (leb h y))
+reaches-max : (h x y : ℕ) → leb h (max x y) ≡ (leb h x || leb h y)
+reaches-max h x y = go (decided (leb h x)) (decided (leb h y))
   where
     go : (leb h x ≡ true) ⊎ (leb h x ≡ false) → (leb h y ≡ true) ⊎ (leb h y ≡ false) → leb h (max x y) ≡ (leb h x || leb h y)
     go (inl a) b = rw a (le-leb h (max x y) (let l = leb-true h x a in omega arith))
@@ -113,12 +113,12 @@ module _ (lines : List ClassLine) (h : ℕ) where
   named j = leb h (getD lines j noLine .from) || leb h (getD lines j noLine .to)
 
   top-reaches : (k : ℕ) → leb h (columnsTo lines k .top) ≡ (leb h 0 || anyBelow k named)
-  unfolding columnsTo anyBelow noColumns withLine
+  unfolding columnsTo anyBelow emptyColumns withLine
   top-reaches zero = sym (or-false (leb h 0))
   top-reaches (suc k) =
       let l = getD lines k noLine in
-      reaches-larger h (columnsTo lines k .top) (max (l .from) (l .to))
-      ∙ ap₂ (λ a b. a || b) (top-reaches k) (reaches-larger h (l .from) (l .to))
+      reaches-max h (columnsTo lines k .top) (max (l .from) (l .to))
+      ∙ ap₂ (λ a b. a || b) (top-reaches k) (reaches-max h (l .from) (l .to))
       ∙ or-assoc (leb h 0) (anyBelow k named) (named k)
 
   some-named : (k : ℕ) → 0 < k → (leb h 0 || anyBelow k named) ≡ anyBelow k named
@@ -198,7 +198,7 @@ module _ (b : Book) (r : Reachable b) (term sink : ℕ) (lines : List ClassLine)
 
     -- up to 64 lines the columns have them whole
     lines-back : classLinesOf (firsts (c .froms)) (firsts (c .tos)) (firsts (c .classes)) (firsts (c .customers)) (firsts (c .watts)) ≡ lines
-    unfolding classLinesOf noColumns withLine
+    unfolding classLinesOf emptyColumns withLine
     lines-back =
         let at = classLineAt (firsts (c .froms)) (firsts (c .tos)) (firsts (c .classes)) (firsts (c .customers)) (firsts (c .watts)) in
         let count = first-long n (c .froms) few (columns-full lines n .ofFroms) in

@@ -8,12 +8,12 @@ use native.Mathlib.Omega.{arith}
 use lib.Dec.{ltb}
 use borrow.Author.Tests.{ltb-true, ltb-false}
 use lib.ListN.{getD, replicate, length-replicate, getD-replicate, List·getD-eq-default}
-use Rattle.tariff.specs.Evidence.{noEntry, evidenceKw, entryKw}
+use Rattle.tariff.specs.Evidence.{emptyEntry, evidenceKw, entryKw}
 use Rattle.tariff.proofs.Sums.{when-zero}
 use Rattle.tariff.proofs.Tests.{decided}
 use Rattle.ledger.specs.Ledger.{emptyLedger}
 use Rattle.slots.specs.Cells.{rows, readAt, Shows}
-use Rattle.slots.specs.Groups.{Group, group, inSlot}
+use Rattle.slots.specs.Groups.{SlotGroup, slotGroup, inSlot}
 use Rattle.slots.specs.Layout.{figureSlots, figureCount, postedSlots, postedCount, evidenceSlots, evidenceCount, figureGroups, postedGroups, evidenceGroups, calendarOf, figuresOf, postedOf, evidenceOf}
 use Rattle.slots.proofs.CellLaws.{shown-is}
 
@@ -27,21 +27,21 @@ module _ {A : Type 0} (none : A) where
       go (inr t) = List·getD-eq-default (replicate n none) none {n = k} (let long = length-replicate n none in let past = ltb-false k n t in omega arith)
 
   -- groups whose figures have nothing have nothing in any slot
-  abbrev AllNone : List (Group A) → Type 0
+  abbrev AllNone : List (SlotGroup A) → Type 0
   AllNone [] = Unit {0}
-  AllNone (group count low figure ∷ later) = ((h p k : ℕ) → figure h p k ≡ none) × AllNone later
+  AllNone (slotGroup count low figure ∷ later) = ((h p k : ℕ) → figure h p k ≡ none) × AllNone later
 
-  slot-none : (gs : List (Group A)) (h p slot : ℕ) → AllNone gs → inSlot none gs h p slot ≡ none
+  slot-none : (gs : List (SlotGroup A)) (h p slot : ℕ) → AllNone gs → inSlot none gs h p slot ≡ none
   unfolding inSlot
   slot-none [] h p slot all = refl
-  slot-none (group count low figure ∷ later) h p slot all = ap (λ v. cond (ltb slot count) v (inSlot none later h p (slot - count))) (all .0 h p (slot + low)) ∙ either (ltb slot count) (slot-none later h p (slot - count) (all .1))
+  slot-none (slotGroup count low figure ∷ later) h p slot all = ap (λ v. cond (ltb slot count) v (inSlot none later h p (slot - count))) (all .0 h p (slot + low)) ∙ either (ltb slot count) (slot-none later h p (slot - count) (all .1))
     where
       either : (t : Bool) → inSlot none later h p (slot - count) ≡ none → cond t none (inSlot none later h p (slot - count)) ≡ none
       either true e = refl
       either false e = e
 
   -- a filled array shows such groups, with some of the same after it
-  filled-shows : (width n k : ℕ) (gs : List (Group A)) → n ≡ rows * width + k → AllNone gs → Shows width none (replicate n none) (inSlot none gs) (replicate k none)
+  filled-shows : (width n k : ℕ) (gs : List (SlotGroup A)) → n ≡ rows * width + k → AllNone gs → Shows width none (replicate n none) (inSlot none gs) (replicate k none)
   unfolding readAt
   filled-shows width n k gs long all =
       record {
@@ -51,8 +51,8 @@ module _ {A : Type 0} (none : A) where
       }
 
 -- evidence that was not filed gives nothing
-nothing-filed : (term : ℕ) → entryKw term noEntry ≡ 0
-unfolding entryKw noEntry evidenceKw
+nothing-filed : (term : ℕ) → entryKw term emptyEntry ≡ 0
+unfolding entryKw emptyEntry evidenceKw
 nothing-filed term = when-zero _
 
 pub empty-figures : replicate figureCount 0 ≡ figuresOf emptyLedger
@@ -69,8 +69,8 @@ empty-posted =
     (filled-shows false postedSlots postedCount 0 (postedGroups emptyLedger) refl
     (λ h p k. refl, (λ h p k. refl, (λ h p k. refl, (λ h p k. refl, tt)))))
 
-pub empty-evidence : replicate evidenceCount noEntry ≡ evidenceOf emptyLedger
+pub empty-evidence : replicate evidenceCount emptyEntry ≡ evidenceOf emptyLedger
 unfolding evidenceOf evidenceGroups emptyLedger
 empty-evidence =
-    shown-is evidenceSlots noEntry (inSlot noEntry (evidenceGroups emptyLedger)) (replicate evidenceCount noEntry) [] (omega arith)
-    (filled-shows noEntry evidenceSlots evidenceCount 0 (evidenceGroups emptyLedger) refl (λ h p k. refl, tt))
+    shown-is evidenceSlots emptyEntry (inSlot emptyEntry (evidenceGroups emptyLedger)) (replicate evidenceCount emptyEntry) [] (omega arith)
+    (filled-shows emptyEntry evidenceSlots evidenceCount 0 (evidenceGroups emptyLedger) refl (λ h p k. refl, tt))

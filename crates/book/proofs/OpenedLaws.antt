@@ -6,14 +6,14 @@ use Rattle.ledger.specs.Opening.{Opening, legal}
 use Rattle.ledger.specs.Season.{after, afterFrom}
 use Rattle.records.specs.Opening.{emptyOpening}
 use Rattle.records.proofs.OpeningLaws.{empty-legal}
-use Rattle.opening.specs.Opened.{openedOpening}
+use Rattle.opening.specs.Opened.{resultingOpening}
 use Rattle.book.specs.Reading.{bookIn, bookOf}
 use Rattle.book.specs.Reachable.{Reachable}
 use Rattle.book.specs.Opened.{openingOutcome}
 
 -- the opening that is in force: the one given, or the empty one
-in-force-legal : (o : Opening) → legal (openedOpening o) ≡ true
-unfolding openedOpening
+in-force-legal : (o : Opening) → legal (resultingOpening o) ≡ true
+unfolding resultingOpening
 in-force-legal o = go (legal o) refl
   where
     go : (t : Bool) → legal o ≡ t → legal (cond t o emptyOpening) ≡ true
@@ -23,4 +23,4 @@ in-force-legal o = go (legal o) refl
 -- every book that opening returns is one that opening and no call lead to
 pub opened-reachable : (o : Opening) → Reachable (openingOutcome o .book)
 unfolding openingOutcome bookOf bookIn after afterFrom
-opened-reachable o = record { opening = openedOpening o; calls = []; isLegal = in-force-legal o; ofOpening = refl; ofFigures = refl; ofPosted = refl; ofEvidence = refl }
+opened-reachable o = record { opening = resultingOpening o; calls = []; isLegal = in-force-legal o; ofOpening = refl; ofFigures = refl; ofPosted = refl; ofEvidence = refl }

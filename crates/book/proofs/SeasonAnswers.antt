@@ -12,7 +12,7 @@ use Rattle.ledger.specs.Season.{Request, call, query, afterFrom, after, answers
 use Rattle.ledger.proofs.Steps.{after-more}
 use Rattle.records.specs.Opening.{openingArray, emptyOpening}
 use Rattle.records.specs.Answers.{answerIn, answerOf}
-use Rattle.opening.specs.Opened.{openedAnswer, openedOpening}
+use Rattle.opening.specs.Opened.{openingAnswer, resultingOpening}
 use Rattle.book.specs.Reading.{bookOf}
 use Rattle.book.specs.Outcomes.{outcomeOf, queryAnswerIn}
 use Rattle.book.specs.Opened.{openingOutcome}
@@ -61,19 +61,19 @@ module _ (o : Opening) (e : legal o ≡ true) where
 
   -- opening returns the book of no calls
   pub opened-at : openingOutcome o .book ≡ bookAt o e []
-  unfolding openingOutcome openedOpening after afterFrom
+  unfolding openingOutcome resultingOpening after afterFrom
   opened-at = ap (λ t. bookOf (openingArray (cond t o emptyOpening)) emptyLedger) e
 
   pub last-book : (requests : List Request) → bookAfter (openingOutcome o .book) requests ≡ bookAt o e (callsOf requests)
   last-book requests = ap (λ b. bookAfter b requests) opened-at ∙ books-from [] requests
 
   legal-answered : (requests : List Request) → map answerIn (seasonAnswers o requests) ≡ season o requests
-  unfolding seasonAnswers season openingOutcome openedAnswer openedOpening answerIn after afterFrom
+  unfolding seasonAnswers season openingOutcome openingAnswer resultingOpening answerIn after afterFrom
   legal-answered requests = rw e (ap (λ l. ledger.done ∷ l) (answers-from [] requests))
 
 -- an opening that is not legal is refused, and nothing follows
 refused-answered : (o : Opening) → legal o ≡ false → (requests : List Request) → map answerIn (seasonAnswers o requests) ≡ season o requests
-unfolding seasonAnswers season openingOutcome openedAnswer answerIn
+unfolding seasonAnswers season openingOutcome openingAnswer answerIn
 refused-answered o e requests = rw e
 
 pub season-answered : (o : Opening) (requests : List Request) → map answerIn (seasonAnswers o requests) ≡ season o requests

@@ -16,8 +16,8 @@ use Rattle.book.specs.declared.class_lines.Columns.{Columns}
 use Rattle.book.specs.Reading.{openingOfBook}
 use Rattle.book.specs.Outcomes.{refusedWith, outcomeOfLines}
 
-unfoldable pub noColumns : Columns
-noColumns =
+unfoldable pub emptyColumns : Columns
+emptyColumns =
     record {
       froms = replicate maxClassLines 0;
       tos = replicate maxClassLines 0;
@@ -45,7 +45,7 @@ noLine = record { from = 0; to = 0; class = 0; customers = 0; watts = 0 }
 
 -- the columns of the first k lines
 unfoldable pub columnsTo : List ClassLine → ℕ → Columns
-columnsTo lines zero = noColumns
+columnsTo lines zero = emptyColumns
 columnsTo lines (suc k) = withLine (columnsTo lines k) k (getD lines k noLine)
 
 -- each column has its 64 numbers
@@ -56,7 +56,7 @@ pub record FullColumns (c : Columns) : Type 0 where
   pub ofCustomers : length (c .customers) ≡ maxClassLines
   pub ofWatts : length (c .watts) ≡ maxClassLines
 
--- what a migration of n lines in columns returns: past 64 lines a holder that is not in the book is looked for first
+-- what a migration of n lines in columns returns: more than 64 lines are refused, with 2 where the sink or a holder is not in the book, else with 3
 unfoldable pub outcomeOfColumns : Book → ℕ → ℕ → ℕ → Columns → Outcome
 outcomeOfColumns b term sink n c =
     cond (ltb maxClassLines n) (refusedWith b (cond (unknownSink (openingOfBook b) sink || unknownHolder (openingOfBook b) (c .top)) notInBook outOfRange))

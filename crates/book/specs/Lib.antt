@@ -1,4 +1,4 @@
--- The book as the ledger sees it, and the ledger as a book.
+-- The ledger that stands in a book, what its calls return, and the season theorem.
 pub mod Reading
 pub mod Outcomes
 pub mod Reachable

@@ -30,11 +30,11 @@ unfoldable pub queryAnswerIn : Book → Query → Answer
 queryAnswerIn b q = answerOf (season.answer (openingOfBook b) (ledgerOf b) (season.query q))
 
 -- an answer beside a book with these figures, and with these postings too
-unfoldable pub besidePostings : Book → Answer → List ℕ → List Bool → Outcome
-besidePostings b answer figures posted = record { answer = answer; book = bookIn (b .opening) figures posted (b .evidence) }
+unfoldable pub withPostings : Book → Answer → List ℕ → List Bool → Outcome
+withPostings b answer figures posted = record { answer = answer; book = bookIn (b .opening) figures posted (b .evidence) }
 
-unfoldable pub besideFigures : Book → Answer → List ℕ → Outcome
-besideFigures b answer figures = besidePostings b answer figures (b .posted)
+unfoldable pub withFigures : Book → Answer → List ℕ → Outcome
+withFigures b answer figures = withPostings b answer figures (b .posted)
 
 -- slices of unequal length are no blocks and no class lines: the call is refused as unreadable, and the book stays as it was
 unfoldable pub outcomeOfBlocks : Book → ℕ → ℕ → ℕ → ℕ → ℕ → List ℕ → List ℕ → List ℕ → Outcome

@@ -1,18 +1,18 @@
 // The book: its opening, its figures, what was posted, and the evidence filed, in flat arrays.
 use records::answers::Answer;
-use records::setup::OPENING;
-use slots::layout::EVIDENCE;
-use slots::layout::FIGURES;
-use slots::layout::POSTED;
+use records::setup::OPENING_COUNT;
+use slots::layout::EVIDENCE_COUNT;
+use slots::layout::FIGURE_COUNT;
+use slots::layout::POSTED_COUNT;
 use tariff::evidence::Entry;
 ghost use mathlib.Core.Path.{_≡_};
-ghost use Rattle.book.specs.Outcomes.{refusedWith, besideFigures, besidePostings};
+ghost use Rattle.book.specs.Outcomes.{refusedWith, withFigures, withPostings};
 
 pub struct Book {
-    pub opening: [u64; OPENING],
-    pub figures: [u64; FIGURES],
-    pub posted: [bool; POSTED],
-    pub evidence: [Entry; EVIDENCE],
+    pub opening: [u64; OPENING_COUNT],
+    pub figures: [u64; FIGURE_COUNT],
+    pub posted: [bool; POSTED_COUNT],
+    pub evidence: [Entry; EVIDENCE_COUNT],
 }
 
 // An answer beside the next book.
@@ -22,7 +22,7 @@ pub struct Outcome {
 }
 
 // A refusal: its number alone, beside the book as it was.
-pub fn refused(b: Book, number: u64) -> Outcome
+pub fn refused_with(b: Book, number: u64) -> Outcome
     ensures { λ r. ⌜ r ≡ refusedWith b number ⌝ }
 {
     let answer = Answer::Refused(number);
@@ -30,8 +30,8 @@ pub fn refused(b: Book, number: u64) -> Outcome
 }
 
 // The book with other figures, beside an answer.
-pub fn with_figures(b: Book, answer: Answer, figures: [u64; FIGURES]) -> Outcome
-    ensures { λ r. ⌜ r ≡ besideFigures b answer figures ⌝ }
+pub fn with_figures(b: Book, answer: Answer, figures: [u64; FIGURE_COUNT]) -> Outcome
+    ensures { λ r. ⌜ r ≡ withFigures b answer figures ⌝ }
 {
     let posted = b.posted;
     with_postings(b, answer, figures, posted)
@@ -41,10 +41,10 @@ pub fn with_figures(b: Book, answer: Answer, figures: [u64; FIGURES]) -> Outcome
 pub fn with_postings(
     b: Book,
     answer: Answer,
-    figures: [u64; FIGURES],
-    posted: [bool; POSTED],
+    figures: [u64; FIGURE_COUNT],
+    posted: [bool; POSTED_COUNT],
 ) -> Outcome
-    ensures { λ r. ⌜ r ≡ besidePostings b answer figures posted ⌝ }
+    ensures { λ r. ⌜ r ≡ withPostings b answer figures posted ⌝ }
 {
     let opening = b.opening;
     let evidence = b.evidence;

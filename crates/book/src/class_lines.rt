@@ -1,7 +1,7 @@
 // Migrate over a lent slice of class lines (01, Migration): the lines are taken apart, a column of numbers to a field, and the core migrates the columns.
 use crate::book::Book;
 use crate::book::Outcome;
-use crate::book::refused;
+use crate::book::refused_with;
 use netting::netting::ClassLine;
 use records::numbers::NOT_IN_BOOK;
 use records::numbers::OUT_OF_RANGE;
@@ -16,7 +16,7 @@ ghost use Rattle.tariff.specs.Placed.{placed};
 ghost use Rattle.ledger.specs.Call.{migrate};
 ghost use Rattle.book.specs.Outcomes.{outcomeOf};
 ghost use Rattle.book.specs.Reachable.{Reachable};
-ghost use Rattle.book.specs.ClassLines.{noColumns, withLine, FullColumns, outcomeOfColumns};
+ghost use Rattle.book.specs.ClassLines.{emptyColumns, withLine, FullColumns, outcomeOfColumns};
 
 // The fields of the first 64 lines, a column to a field, and the largest holder number in any line.
 struct Columns {
@@ -29,8 +29,8 @@ struct Columns {
 }
 
 // No line as yet.
-fn no_columns() -> Columns
-    ensures { λ r. ⌜ r ≡ noColumns ⌝ }
+fn empty_columns() -> Columns
+    ensures { λ r. ⌜ r ≡ emptyColumns ⌝ }
 {
     Columns {
         froms: [0u64; MAX_CLASS_LINES],
@@ -74,7 +74,7 @@ fn with_line(c: Columns, k: usize, line: ClassLine) -> Columns
     }
 }
 
-// Migrates n lines that stand in columns. Of more than 64 lines all that matters is whether one names a holder that is not in the book.
+// Migrates n lines that stand in columns. More than 64 lines are refused: 2 where the sink or a holder is not in the book, else 3.
 fn migrate_columns(b: Book, term: u64, sink: u64, n: usize, c: Columns) -> Outcome
     requires { ⌜ Reachable b × FullColumns c ⌝ }
     ensures { λ r. ⌜ r ≡ outcomeOfColumns b term sink n c ⌝ }
@@ -82,7 +82,7 @@ fn migrate_columns(b: Book, term: u64, sink: u64, n: usize, c: Columns) -> Outco
     if MAX_CLASS_LINES < n {
         let opening = b.opening;
         let unknown = unknown_sink(&opening, sink) | unknown_holder(&opening, c.top);
-        return refused(b, refuse(NOT_IN_BOOK, unknown, OUT_OF_RANGE));
+        return refused_with(b, refuse(NOT_IN_BOOK, unknown, OUT_OF_RANGE));
     }
     let froms = c.froms;
     let tos = c.tos;
@@ -106,7 +106,7 @@ impl Book {
         requires { ⌜ Reachable self ⌝ }
         ensures { λ r. ⌜ r ≡ outcomeOf self (migrate term sink (now (lines .entry))) ⌝ }
     {
-        let mut columns = no_columns();
+        let mut columns = empty_columns();
         let mut k = 0;
         while k < lines.len() {
             columns = with_line(columns, k, lines[k]);

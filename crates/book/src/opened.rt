@@ -2,10 +2,10 @@
 use crate::book::Book;
 use crate::book::Outcome;
 use opening::opening::open;
-use records::setup::OPENING;
-use slots::layout::EVIDENCE;
-use slots::layout::FIGURES;
-use slots::layout::POSTED;
+use records::setup::OPENING_COUNT;
+use slots::layout::EVIDENCE_COUNT;
+use slots::layout::FIGURE_COUNT;
+use slots::layout::POSTED_COUNT;
 use tariff::evidence::Entry;
 use tariff::evidence::Evidence;
 ghost use mathlib.Core.Path.{_≡_};
@@ -15,7 +15,7 @@ ghost use Rattle.slots.specs.Layout.{evidenceOf};
 ghost use Rattle.book.specs.Opened.{openingOutcome};
 
 // No evidence filed.
-pub fn no_evidence() -> [Entry; EVIDENCE]
+pub fn no_evidence() -> [Entry; EVIDENCE_COUNT]
     ensures { λ r. ⌜ r ≡ evidenceOf emptyLedger ⌝ }
 {
     let none = Entry {
@@ -23,7 +23,7 @@ pub fn no_evidence() -> [Entry; EVIDENCE]
         first: 0,
         last: 0,
     };
-    [none; EVIDENCE]
+    [none; EVIDENCE_COUNT]
 }
 
 // Opens a book, for any counts and slices.
@@ -40,7 +40,7 @@ pub fn open_book(
 ) -> Outcome
     ensures { λ r. ⌜ r ≡ openingOutcome (openingFrom holders sources sinks paths (now («holder_kinds» .entry)) (now («sink_kinds» .entry)) (now («sink_parents» .entry)) (now («path_sources» .entry)) (now («path_sinks» .entry))) ⌝ }
 {
-    let mut kept = [0u64; OPENING];
+    let mut kept = [0u64; OPENING_COUNT];
     let answer = open(
         &mut kept,
         holders,
@@ -58,8 +58,8 @@ pub fn open_book(
         answer,
         book: Book {
             opening: kept,
-            figures: [0u64; FIGURES],
-            posted: [false; POSTED],
+            figures: [0u64; FIGURE_COUNT],
+            posted: [false; POSTED_COUNT],
             evidence,
         },
     }

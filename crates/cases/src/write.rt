@@ -29,7 +29,7 @@ pub fn answer(answer: Answer) {
         Answer::Done => {
             io::write_all(STDOUT_FILENO, b"ok\n");
         }
-        Answer::Value(figure) => numbered(b"ok,", figure),
+        Answer::Value(value) => numbered(b"ok,", value),
         Answer::Refused(number) => refusal(number),
     }
 }

@@ -16,7 +16,7 @@ use Rattle.ledger.specs.Ledger.{emptyLedger}
 use Rattle.records.specs.Opening.{openingArray}
 use Rattle.records.specs.declared.answers.Answer.{Answer}
 use Rattle.records.specs.declared.answers.Answer.the-variants.{Done, Refused}
-use Rattle.opening.specs.Opened.{openedAnswer, openedOpening}
+use Rattle.opening.specs.Opened.{openingAnswer, resultingOpening}
 use Rattle.book.specs.Reading.{bookOf}
 use Rattle.book.specs.Opened.{openingOutcome}
 use Rattle.book.specs.Reachable.{Reachable}
@@ -28,10 +28,10 @@ use Rattle.lines.specs.Rows.{rowsOf, bookLine, holderLine, sinkLine, pathLine, 
 use Rattle.lines.specs.Reading.{nextRow}
 use Rattle.lines.specs.Counted.{bytesOfLines}
 use Rattle.lines.specs.BookLines.{bookLinesComplete, bookListsOf}
-use Rattle.lines.proofs.FieldLaws.{rest-whole}
+use Rattle.lines.proofs.FieldLaws.{rest-all}
 use Rattle.lines.proofs.RowSteps.{consumed-within}
 use Rattle.lines.proofs.LineBytes.{bytes-within, rows-after}
-use Rattle.groups.specs.declared.opened.BookGroup.{BookGroup}
+use Rattle.groups.specs.declared.book_group.BookGroup.{BookGroup}
 use Rattle.groups.specs.Groups.{bookReadable, openingOfRows, callRows}
 use Rattle.groups.specs.BookGroup.{isDone, openingKept, bookGroupWith, openingLeft, bookGroupOf, openingAfter}
 use Rattle.groups.proofs.CutLists.{kept-answer, kept-opening}
@@ -47,8 +47,8 @@ unfolding counted
 as-counted kind n lines e = eqb-true (length lines) n (and-both (eqb (length lines) n) (allOfKind kind lines) e .0)
 
 -- a legal opening is done, and no other
-done-legal : (o : Opening) → isDone (openedAnswer o) ≡ legal o
-unfolding openedAnswer isDone
+done-legal : (o : Opening) → isDone (openingAnswer o) ≡ legal o
+unfolding openingAnswer isDone
 done-legal o = go (legal o) (openingRefusal o)
   where
     go : (t : Bool) (n : ℕ) → isDone (cond t Done (Refused n)) ≡ t
@@ -96,7 +96,7 @@ module _ (head : Row) (rest : List ℕ) (lists : BookLists) (e : lists ≡ bookL
         let first = and-both _ _ (last .0) in
         (as-counted holderLine (field 0 head) (holderRows head rows) (first .0), as-counted sinkLine (field 2 head) (sinkRows head rows) (first .1), as-counted pathLine (field 3 head) (pathRows head rows) (last .1))
 
-    pub group-opened : (consumed : ℕ) (answer : Answer) (isOpen : Bool) → answer ≡ openedAnswer (openingKept head lists) → isOpen ≡ isDone answer → _≡_ {A = BookGroup} (record { answer = answer; consumed = consumed + lists .consumed; «is_open» = isOpen }) (group consumed)
+    pub group-opened : (consumed : ℕ) (answer : Answer) (isOpen : Bool) → answer ≡ openingAnswer (openingKept head lists) → isOpen ≡ isDone answer → _≡_ {A = BookGroup} (record { answer = answer; consumed = consumed + lists .consumed; «is_open» = isOpen }) (group consumed)
     unfolding bookGroupWith
     group-opened consumed answer isOpen ea ed =
         let o = openingOfRows head rows in
@@ -104,11 +104,11 @@ module _ (head : Row) (rest : List ℕ) (lists : BookLists) (e : lists ≡ bookL
         let so = sym (sym is-readable ∙ readable) in
         let done = ed ∙ ap isDone ea' ∙ done-legal o in
         (λ i. record { answer = ea' i; consumed = consumed + lists-consumed i; «is_open» = done i })
-        ∙ (λ i. record { answer = cond (so i) (openedAnswer o) (Refused unreadable); consumed = consumed + bytesOfLines (field 0 head + field 2 head + field 3 head) rest; «is_open» = so i && legal o })
+        ∙ (λ i. record { answer = cond (so i) (openingAnswer o) (Refused unreadable); consumed = consumed + bytesOfLines (field 0 head + field 2 head + field 3 head) rest; «is_open» = so i && legal o })
 
-    pub opening-put : (o₀ o₁ : List ℕ) → o₁ ≡ openingArray (openedOpening (openingKept head lists)) → o₁ ≡ openingLeft head rows o₀
+    pub opening-put : (o₀ o₁ : List ℕ) → o₁ ≡ openingArray (resultingOpening (openingKept head lists)) → o₁ ≡ openingLeft head rows o₀
     unfolding openingLeft
-    opening-put o₀ o₁ put = put ∙ ap openingArray (kept-opening head rest lists e all-counted) ∙ ap (λ t. cond t (openingArray (openedOpening (openingOfRows head rows))) o₀) (sym (sym is-readable ∙ readable))
+    opening-put o₀ o₁ put = put ∙ ap openingArray (kept-opening head rest lists e all-counted) ∙ ap (λ t. cond t (openingArray (resultingOpening (openingOfRows head rows))) o₀) (sym (sym is-readable ∙ readable))
 
   -- and what is answered where they are not
   module _ (unread : (lists .complete && eqb (head .kind) bookLine) ≡ false) where
@@ -118,11 +118,11 @@ module _ (head : Row) (rest : List ℕ) (lists : BookLists) (e : lists ≡ bookL
         let o = openingOfRows head rows in
         let so = sym (sym is-readable ∙ unread) in
         (λ i. record { answer = Refused unreadable; consumed = consumed + lists-consumed i; «is_open» = false })
-        ∙ (λ i. record { answer = cond (so i) (openedAnswer o) (Refused unreadable); consumed = consumed + bytesOfLines (field 0 head + field 2 head + field 3 head) rest; «is_open» = so i && legal o })
+        ∙ (λ i. record { answer = cond (so i) (openingAnswer o) (Refused unreadable); consumed = consumed + bytesOfLines (field 0 head + field 2 head + field 3 head) rest; «is_open» = so i && legal o })
 
     pub opening-stays : (o : List ℕ) → o ≡ openingLeft head rows o
     unfolding openingLeft
-    opening-stays o = ap (λ t. cond t (openingArray (openedOpening (openingOfRows head rows))) o) (sym (sym is-readable ∙ unread))
+    opening-stays o = ap (λ t. cond t (openingArray (resultingOpening (openingOfRows head rows))) o) (sym (sym is-readable ∙ unread))
 
 -- the head and what is left are those of the script
 groupAt : NextRow → List ℕ → BookGroup
@@ -131,13 +131,13 @@ groupAt f rest = bookGroupWith (f .row) (rowsOf rest) (f .consumed + bytesOfLine
 pub whole-group : (script : List ℕ) (f : NextRow) → f ≡ nextRow script → bookGroupWith (f .row) (rowsOf (take (length script - f .consumed) (drop (f .consumed) script))) (f .consumed + bytesOfLines (field 0 (f .row) + field 2 (f .row) + field 3 (f .row)) (take (length script - f .consumed) (drop (f .consumed) script))) ≡ bookGroupOf script
 unfolding bookGroupOf groupAt
 whole-group script f e =
-    ap (groupAt f) (rest-whole script (f .consumed))
+    ap (groupAt f) (rest-all script (f .consumed))
     ∙ ap (λ g. groupAt g (drop (g .consumed) script)) e
 
 pub whole-opening : (script o : List ℕ) (f : NextRow) → f ≡ nextRow script → openingLeft (f .row) (rowsOf (take (length script - f .consumed) (drop (f .consumed) script))) o ≡ openingAfter script o
 unfolding openingAfter
 whole-opening script o f e =
-    ap (λ rest. openingLeft (f .row) (rowsOf rest) o) (rest-whole script (f .consumed))
+    ap (λ rest. openingLeft (f .row) (rowsOf rest) o) (rest-all script (f .consumed))
     ∙ ap (λ g. openingLeft (g .row) (rowsOf (drop (g .consumed) script)) o) e
 
 -- where the calls begin
@@ -179,7 +179,7 @@ module _ (script : List ℕ) where
 pub lists-fit : (script : List ℕ) (f : NextRow) (lists : BookLists) → f ≡ nextRow script → lists ≡ bookListsOf (f .row) (take (length script - f .consumed) (drop (f .consumed) script)) → f .consumed + lists .consumed ≤ length script
 lists-fit script f lists e el =
     let more = lists-within (f .row) (take (length script - f .consumed) (drop (f .consumed) script)) lists el in
-    let all = ap length (rest-whole script (f .consumed)) in
+    let all = ap length (rest-all script (f .consumed)) in
     let len = length-drop (f .consumed) script in
     let one = le-trans (le-of-eq (ap (λ g. g .consumed) e)) (consumed-within script) in
     omega arith

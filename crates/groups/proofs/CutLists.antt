@@ -17,7 +17,7 @@ use Rattle.ledger.specs.Numbers.{breaksRules}
 use Rattle.ledger.specs.Opening.{Opening, countsFit, legal, openingRefusal}
 use Rattle.records.specs.Opening.{emptyOpening, openingFrom}
 use Rattle.records.specs.declared.answers.Answer.the-variants.{Refused}
-use Rattle.opening.specs.Opened.{openedAnswer, openedOpening}
+use Rattle.opening.specs.Opened.{openingAnswer, resultingOpening}
 use Rattle.lines.specs.declared.rows.Row.{Row}
 use Rattle.lines.specs.declared.book_lines.BookLists.{BookLists}
 use Rattle.lines.specs.Rows.{rowsOf, field, holderRows, sinkRows, pathRows}
@@ -30,28 +30,28 @@ not-legal : (o : Opening) → countsFit o ≡ false → legal o ≡ false
 unfolding legal
 not-legal o e = and-left-false _ (and-left-false _ (and-left-false _ (and-left-false _ (and-left-false _ e))))
 
-refused-for-counts : (o : Opening) → countsFit o ≡ false → openedAnswer o ≡ Refused breaksRules
-unfolding openedAnswer openingRefusal
+refused-for-counts : (o : Opening) → countsFit o ≡ false → openingAnswer o ≡ Refused breaksRules
+unfolding openingAnswer openingRefusal
 refused-for-counts o e = rw (not-legal o e)
 
-empty-for-counts : (o : Opening) → countsFit o ≡ false → openedOpening o ≡ emptyOpening
-unfolding openedOpening
+empty-for-counts : (o : Opening) → countsFit o ≡ false → resultingOpening o ≡ emptyOpening
+unfolding resultingOpening
 empty-for-counts o e = rw (not-legal o e)
 
 -- two openings of the same counts, whose lists are the same where the counts fit, are answered the same and leave the same opening
 module _ (o p : Opening) (counts : countsFit o ≡ countsFit p) (lists : countsFit p ≡ true → o ≡ p) where
-  same-answer : openedAnswer o ≡ openedAnswer p
+  same-answer : openingAnswer o ≡ openingAnswer p
   same-answer = go (decided (countsFit p))
     where
-      go : (countsFit p ≡ true) ⊎ (countsFit p ≡ false) → openedAnswer o ≡ openedAnswer p
-      go (inl e) = ap openedAnswer (lists e)
+      go : (countsFit p ≡ true) ⊎ (countsFit p ≡ false) → openingAnswer o ≡ openingAnswer p
+      go (inl e) = ap openingAnswer (lists e)
       go (inr e) = refused-for-counts o (counts ∙ e) ∙ sym (refused-for-counts p e)
 
-  same-opening : openedOpening o ≡ openedOpening p
+  same-opening : resultingOpening o ≡ resultingOpening p
   same-opening = go (decided (countsFit p))
     where
-      go : (countsFit p ≡ true) ⊎ (countsFit p ≡ false) → openedOpening o ≡ openedOpening p
-      go (inl e) = ap openedOpening (lists e)
+      go : (countsFit p ≡ true) ⊎ (countsFit p ≡ false) → resultingOpening o ≡ resultingOpening p
+      go (inl e) = ap resultingOpening (lists e)
       go (inr e) = empty-for-counts o (counts ∙ e) ∙ sym (empty-for-counts p e)
 
 -- counts that fit are at most 16
@@ -136,8 +136,8 @@ module _ (head : Row) (rest : List ℕ) (lists : BookLists) (e : lists ≡ bookL
     unfolding countsFit openingKept openingFrom openingOfRows
     same-counts = refl
 
-    pub kept-answer : openedAnswer (openingKept head lists) ≡ openedAnswer read
+    pub kept-answer : openingAnswer (openingKept head lists) ≡ openingAnswer read
     kept-answer = same-answer (openingKept head lists) read same-counts whole-lists
 
-    pub kept-opening : openedOpening (openingKept head lists) ≡ openedOpening read
+    pub kept-opening : resultingOpening (openingKept head lists) ≡ resultingOpening read
     kept-opening = same-opening (openingKept head lists) read same-counts whole-lists

@@ -24,11 +24,11 @@ use Rattle.lines.specs.declared.counted.CountedLines.{CountedLines}
 use Rattle.lines.specs.declared.lines.NextRow.{NextRow}
 use Rattle.lines.specs.Reading.{nextRow}
 use Rattle.lines.specs.Rows.{rowsOf, loadLine, migrateLine, field, counted, allOfKind}
-use Rattle.lines.specs.Counted.{bytesOfLines, rowsCounted, countedOf, keptFields, columnLength, columnOf, roomWith}
+use Rattle.lines.specs.Counted.{bytesOfLines, rowsCounted, countedOf, keptFields, columnLength, columnOf, bufferWith}
 use Rattle.lines.proofs.RowSteps.{consumed-within}
 use Rattle.lines.proofs.LineBytes.{bytes-within, rows-after}
-use Rattle.lines.proofs.FieldLaws.{rest-whole}
-use Rattle.lines.proofs.RoomLaws.{same-columns, column-kept}
+use Rattle.lines.proofs.FieldLaws.{rest-all}
+use Rattle.lines.proofs.BufferLaws.{same-columns, column-kept}
 use Rattle.groups.specs.declared.outcome.GroupOutcome.{GroupOutcome}
 use Rattle.groups.specs.Groups.{blockOf, classLineOf, Group, request, linesCounted, whenComplete, requestOf}
 use Rattle.groups.specs.Outcome.{ofOneLine, headGroup, headBytes, firstGroup, groupBytes, outcomeOfGroup, Answers, GroupAnswers}
@@ -56,17 +56,17 @@ module _ (kind n : ℕ) (s : List ℕ) (x : CountedLines) (read : x ≡ countedO
   unfolding countedOf
   consumed-is = ap (λ y. y .consumed) read
 
-  -- where the lines are complete, each column of the room has a field of each of them
-  module _ (all : x .complete ≡ true) (room kept : List ℕ) (fits : length rows ≤ columnLength room) (is : kept ≡ roomWith rows room) where
+  -- where the lines are complete, each column of the buffer has a field of each of them
+  module _ (all : x .complete ≡ true) (buffer kept : List ℕ) (fits : length rows ≤ columnLength buffer) (is : kept ≡ bufferWith rows buffer) where
     rows-many : length rows ≡ n
     unfolding counted
     rows-many = eqb-true (length rows) n (and-both (eqb (length rows) n) (allOfKind kind rows) (sym complete-is ∙ all) .0)
 
     pub count-fits : n ≤ columnLength kept
-    count-fits = le-trans (le-of-eq (sym rows-many)) (le-trans fits (le-of-eq (sym (ap columnLength is ∙ same-columns rows room fits))))
+    count-fits = le-trans (le-of-eq (sym rows-many)) (le-trans fits (le-of-eq (sym (ap columnLength is ∙ same-columns rows buffer fits))))
 
     pub column-is : (j : ℕ) (part : List ℕ) → j < keptFields → part ≡ columnOf j n kept → part ≡ map (field j) rows
-    column-is j part l e = e ∙ (λ i. columnOf j (sym rows-many i) (is i)) ∙ column-kept j rows room l fits
+    column-is j part l e = e ∙ (λ i. columnOf j (sym rows-many i) (is i)) ∙ column-kept j rows buffer l fits
 
 -- a head that makes a request if the lines it counts are complete
 module _ (head : Row) (s : List ℕ) (kind n : ℕ) (req : Request) (x : CountedLines) (read : x ≡ countedOf kind n s) (counts : linesCounted head ≡ n) (requests : requestOf head (rowsCounted n s) ≡ whenComplete (counted kind n (rowsCounted n s)) req) where
@@ -87,15 +87,15 @@ module _ (head : Row) (s : List ℕ) (kind n : ℕ) (req : Request) (x : Counted
   unfolding whenComplete
   complete-outcome b e a next is = is ∙ ap (outcomeOfGroup b) (sym (what true e))
 
--- as many lines as a head counts: in the room there is place for them, and it keeps them
+-- as many lines as a head counts: in the buffer there is place for them, and it keeps them
 module _ (head : Row) (s : List ℕ) (n : ℕ) (counts : linesCounted head ≡ n) where
   pub fits-counted : (most : ℕ) → length (rowsCounted (linesCounted head) s) ≤ most → length (rowsCounted n s) ≤ most
   fits-counted most = subst (λ k. length (rowsCounted k s) ≤ most) counts
 
-  pub kept-counted : (room kept : List ℕ) → kept ≡ roomWith (rowsCounted n s) room → kept ≡ roomWith (rowsCounted (linesCounted head) s) room
-  kept-counted room kept e = e ∙ ap (λ k. roomWith (rowsCounted k s) room) (sym counts)
+  pub kept-counted : (buffer kept : List ℕ) → kept ≡ bufferWith (rowsCounted n s) buffer → kept ≡ bufferWith (rowsCounted (linesCounted head) s) buffer
+  kept-counted buffer kept e = e ∙ ap (λ k. bufferWith (rowsCounted k s) buffer) (sym counts)
 
-  -- a room of zeros that is made for so many lines, or for all that a script has
+  -- a buffer of zeros that is made for so many lines, or for all that a script has
   pub few-fit : (size : ℕ) → n ≤ size / keptFields → length (rowsCounted (linesCounted head) s) ≤ columnLength (replicate size 0)
   unfolding columnLength
   few-fit size few = let long = length-replicate {A = ℕ} size 0 in let most = rows-counted (linesCounted head) s in let same = counts in omega arith
@@ -167,7 +167,7 @@ module _ (rest : List ℕ) (x : NextRow) (read : x ≡ nextRow rest) where
   head-fits = le-trans (le-of-eq (ap (λ y. y .consumed) read)) (consumed-within rest)
 
   after-head-is : afterHead ≡ drop (nextRow rest .consumed) rest
-  after-head-is = rest-whole rest (x .consumed) ∙ ap (λ y. drop (y .consumed) rest) read
+  after-head-is = rest-all rest (x .consumed) ∙ ap (λ y. drop (y .consumed) rest) read
 
   pub after-head-few : (most : ℕ) → length (rowsOf rest) ≤ most → length (rowsOf afterHead) ≤ most
   unfolding bytesOfLines
@@ -195,7 +195,7 @@ module _ (rest : List ℕ) (x : NextRow) (read : x ≡ nextRow rest) where
   unfolding headBytes
   group-fits consumed e =
       let within = bytes-within (linesCounted (x .row)) afterHead in
-      let all = ap length (rest-whole rest (x .consumed)) in
+      let all = ap length (rest-all rest (x .consumed)) in
       let left = length-drop (x .consumed) rest in
       let own = head-fits in
       omega arith

@@ -10,13 +10,13 @@ use Rattle.ledger.specs.Opening.{Opening, legal}
 use Rattle.records.specs.Opening.{openingArray, openingFrom}
 use Rattle.records.specs.declared.answers.Answer.{Answer}
 use Rattle.records.specs.declared.answers.Answer.the-variants.{Done, Value, Refused}
-use Rattle.opening.specs.Opened.{openedAnswer, openedOpening}
+use Rattle.opening.specs.Opened.{openingAnswer, resultingOpening}
 use Rattle.lines.specs.declared.rows.Row.{Row}
 use Rattle.lines.specs.declared.book_lines.BookLists.{BookLists}
 use Rattle.lines.specs.Rows.{rowsOf, field}
 use Rattle.lines.specs.Reading.{nextRow}
 use Rattle.lines.specs.Counted.{bytesOfLines}
-use Rattle.groups.specs.declared.opened.BookGroup.{BookGroup}
+use Rattle.groups.specs.declared.book_group.BookGroup.{BookGroup}
 use Rattle.groups.specs.Groups.{bookReadable, openingOfRows}
 
 -- an answer without a figure that is no refusal
@@ -48,14 +48,14 @@ module _ (head : Row) (rows : List Row) where
   unfoldable pub bookGroupWith : ℕ → BookGroup
   bookGroupWith consumed =
       record {
-        answer = cond (bookReadable head rows) (openedAnswer (openingOfRows head rows)) (Refused unreadable);
+        answer = cond (bookReadable head rows) (openingAnswer (openingOfRows head rows)) (Refused unreadable);
         consumed = consumed;
         «is_open» = bookReadable head rows && legal (openingOfRows head rows);
       }
 
   -- the array that an opening is kept in: an unreadable group leaves it as it was
   unfoldable pub openingLeft : List ℕ → List ℕ
-  openingLeft o = cond (bookReadable head rows) (openingArray (openedOpening (openingOfRows head rows))) o
+  openingLeft o = cond (bookReadable head rows) (openingArray (resultingOpening (openingOfRows head rows))) o
 
 -- the script's first line is the head
 unfoldable pub bookGroupOf : List ℕ → BookGroup

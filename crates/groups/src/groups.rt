@@ -9,19 +9,19 @@ use awards::holdings::net;
 use awards::open_close::close_tier;
 use awards::open_close::open_tier;
 use lines::lines::next_row;
-use lines::rows::AWARD;
-use lines::rows::CARRY;
-use lines::rows::CLOSE;
-use lines::rows::HELD;
-use lines::rows::LIMIT;
-use lines::rows::LOAD;
-use lines::rows::MIGRATE;
-use lines::rows::NET;
-use lines::rows::NOMINATE;
-use lines::rows::OPEN;
-use lines::rows::PRIOR;
+use lines::rows::AWARD_LINE;
+use lines::rows::CARRY_LINE;
+use lines::rows::CLOSE_LINE;
+use lines::rows::HELD_LINE;
+use lines::rows::LIMIT_LINE;
+use lines::rows::LOAD_LINE;
+use lines::rows::MIGRATE_LINE;
+use lines::rows::NET_LINE;
+use lines::rows::NOMINATE_LINE;
+use lines::rows::OPEN_LINE;
+use lines::rows::PRIOR_LINE;
 use lines::rows::Row;
-use lines::rows::VERIFY;
+use lines::rows::VERIFY_LINE;
 use nominations::limits::limit;
 use nominations::nominate::nominate;
 use postings::carry::carry;
@@ -55,18 +55,18 @@ fn run_head(o: &[u64], f: &mut [u64], m: &mut [bool], head: Row, rest: &[u8]) ->
     let g = n[5];
     let h = n[6];
     match kind {
-        LOAD => run_load(o, f, m, head, rest),
-        CARRY => of_one_line(carry(o, f, m, a, b, c)),
-        PRIOR => of_one_line(prior(o, f, m, a, b, c, d)),
-        VERIFY => of_one_line(verify(o, f, m, a, b, c, d, e, g, h)),
-        MIGRATE => run_migrate(o, f, head, rest),
-        OPEN => of_one_line(open_tier(f, a)),
-        NOMINATE => of_one_line(nominate(o, f, a, b, c)),
-        AWARD => of_one_line(award(o, f, a, b, c)),
-        CLOSE => of_one_line(close_tier(f)),
-        LIMIT => of_one_line(limit(o, f, a, b)),
-        HELD => of_one_line(held(o, f, a, b, c)),
-        NET => of_one_line(net(o, f, a, b)),
+        LOAD_LINE => run_load(o, f, m, head, rest),
+        CARRY_LINE => of_one_line(carry(o, f, m, a, b, c)),
+        PRIOR_LINE => of_one_line(prior(o, f, m, a, b, c, d)),
+        VERIFY_LINE => of_one_line(verify(o, f, m, a, b, c, d, e, g, h)),
+        MIGRATE_LINE => run_migrate(o, f, head, rest),
+        OPEN_LINE => of_one_line(open_tier(f, a)),
+        NOMINATE_LINE => of_one_line(nominate(o, f, a, b, c)),
+        AWARD_LINE => of_one_line(award(o, f, a, b, c)),
+        CLOSE_LINE => of_one_line(close_tier(f)),
+        LIMIT_LINE => of_one_line(limit(o, f, a, b)),
+        HELD_LINE => of_one_line(held(o, f, a, b, c)),
+        NET_LINE => of_one_line(net(o, f, a, b)),
         _ => of_one_line(Answer::Refused(UNREADABLE)),
     }
 }

@@ -12,7 +12,7 @@ use borrow.Author.Tests.{leb-true, eq-eqb}
 use Rattle.tariff.specs.Sum.{whenTrue, sumTo}
 use Rattle.tariff.proofs.Sums.{when-is-true, sum-le, sum-bound, term-le-sum}
 use Rattle.tariff.proofs.Tests.{and-both}
-use Rattle.ledger.specs.Opening.{Opening, countsFit, legal, endsAt, pathBase}
+use Rattle.ledger.specs.Opening.{Opening, countsFit, legal, hasBase, pathBase}
 use Rattle.ledger.specs.Ledger.{Ledger}
 use Rattle.ledger.specs.Call.{Call}
 use Rattle.ledger.specs.Limits.{sumAtBase, nominatedAt}
@@ -42,7 +42,7 @@ together n s few l = le-trans l (mul-le-mul-right maxKw few)
 
 -- awards on a path are among the nominations at its base
 awards-at-base : (o : Opening) (L : Ledger) → Bounded o L → (h p t : ℕ) → p < o .paths → L .tiers .awards h p t ≤ nominatedAt o L h (pathBase o p) t
-unfolding nominatedAt sumAtBase endsAt
+unfolding nominatedAt sumAtBase hasBase
 awards-at-base o L k h p t l =
     let here = when-is-true (L .tiers .nominated h p t) (eq-eqb (pathBase o p) (pathBase o p) refl) in
     let part = term-le-sum (λ q. whenTrue (eqb (pathBase o q) (pathBase o p)) (L .tiers .nominated h q t)) (o .paths) p l in

@@ -12,7 +12,7 @@ use Rattle.tariff.specs.Load.{loadPosted}
 use Rattle.tariff.specs.Terms.{termOf, isMonth, hasMonth}
 use Rattle.tariff.proofs.Sums.{sum-ext, sum-add, sum-zero}
 use Rattle.tariff.proofs.Tests.{and-both}
-use Rattle.ledger.specs.Opening.{Opening, endsAt}
+use Rattle.ledger.specs.Opening.{Opening, hasBase}
 use Rattle.ledger.specs.Ledger.{Ledger, emptyLedger, withLoads, withRights, withPriors, withEvidence, withTiers}
 use Rattle.ledger.specs.Call.{Call, load, carry, prior, verify, migrate, openTier, nominate, award, closeTier}
 use Rattle.ledger.specs.Migration.{transferredWhere, loadBefore, loadsAfter, rightsAfter, migrated}
@@ -63,7 +63,7 @@ module _ (o : Opening) (p m : ℕ) where
   awarded-adds L (prior h q a l) e = omega arith
   awarded-adds L (verify h s kind capacity right first last) e = omega arith
   awarded-adds L (migrate term sink lines) e =
-      column-kept o L term sink lines (migrate-facts o L term sink lines e .fits) (endsAt o sink p && hasMonth term m && not (eqb term 0)) (λ h. L .rights .awarded h p m)
+      column-kept o L term sink lines (migrate-facts o L term sink lines e .fits) (hasBase o sink p && hasMonth term m && not (eqb term 0)) (λ h. L .rights .awarded h p m)
       ∙ sym (add-zero (sumTo (o .holders) (λ h. L .rights .awarded h p m)))
   awarded-adds L (openTier tier) e = omega arith
   awarded-adds L (nominate h q kw) e = omega arith
@@ -84,7 +84,7 @@ module _ (o : Opening) (p m : ℕ) where
   carried-adds month L (prior h q a l) e = omega arith
   carried-adds month L (verify h s kind capacity right first last) e = omega arith
   carried-adds month L (migrate term sink lines) e =
-      column-kept o L term sink lines (migrate-facts o L term sink lines e .fits) (endsAt o sink p && hasMonth term m) (λ h. L .rights .carried h p m)
+      column-kept o L term sink lines (migrate-facts o L term sink lines e .fits) (hasBase o sink p && hasMonth term m) (λ h. L .rights .carried h p m)
       ∙ sym (add-zero (sumTo (o .holders) (λ h. L .rights .carried h p m)))
   carried-adds month L (openTier tier) e = omega arith
   carried-adds month L (nominate h q kw) e = omega arith

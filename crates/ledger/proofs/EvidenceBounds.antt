@@ -4,7 +4,7 @@ use mathlib.Core.Path.{_≡_}
 use mathlib.Core.Bool.{Bool, true, false, cond}
 use mathlib.Core.List.{List}
 use Rattle.tariff.specs.declared.evidence.Entry.{Entry}
-use Rattle.tariff.specs.Evidence.{noEntry, entryOf}
+use Rattle.tariff.specs.Evidence.{emptyEntry, entryOf}
 use Rattle.tariff.proofs.EvidenceBounds.{InRange, filed-in-range}
 use Rattle.ledger.specs.Opening.{Opening}
 use Rattle.ledger.specs.Ledger.{Ledger, EvidenceRecord, emptyLedger, withLoads, withRights, withPriors, withEvidence, withTiers}
@@ -40,5 +40,5 @@ evidence-effect o L closeTier k e = k
 
 -- it holds after every list of calls
 pub evidence-in-range : (o : Opening) (cs : List Call) → EvidenceInRange (after o cs .evidence)
-unfolding emptyLedger noEntry
+unfolding emptyLedger emptyEntry
 evidence-in-range o cs = after-keeps (λ l. EvidenceInRange (l .evidence)) o (λ L c k. step-keeps (λ l. EvidenceInRange (l .evidence)) o L c k (evidence-effect o L c k)) (λ h s kind. tt) cs

@@ -13,7 +13,7 @@ use Rattle.tariff.specs.Terms.{hasMonth}
 use Rattle.netting.specs.Migration.{netted, lostBy, shares}
 use Rattle.tariff.proofs.Tests.{and-both}
 use Rattle.netting.proofs.Transfers.{transfer-entry}
-use Rattle.ledger.specs.Opening.{Opening, endsAt}
+use Rattle.ledger.specs.Opening.{Opening, hasBase}
 use Rattle.ledger.specs.Ledger.{Ledger}
 use Rattle.ledger.specs.Call.{Call, migrate}
 use Rattle.ledger.specs.Effects.{effect}
@@ -47,10 +47,10 @@ module _ (o : Opening) (L : Ledger) (term sink : ℕ) (lines : List ClassLine) (
       record {
         loadCovers = fits i l;
         loads = λ s t. load-balance (eqb s sink && eqb t term) (λ h. L .loads .kw h s t) i l (λ e. let same = and-both (eqb s sink) (eqb t term) e in λ k. L .loads .kw i (eqb-true s sink (same .0) k) (eqb-true t term (same .1) k));
-        carried = λ p m. taken (endsAt o sink p && hasMonth term m) (λ h. L .rights .carried h p m) i l;
-        awarded = λ p m. taken (endsAt o sink p && hasMonth term m && not (eqb term 0)) (λ h. L .rights .awarded h p m) i l;
-        allocated = λ p. taken (endsAt o sink p && eqb term 0) (λ h. L .priors .allocated h p) i l;
-        remaining = λ p. taken (endsAt o sink p && eqb term 0) (λ h. L .priors .remaining h p) i l;
+        carried = λ p m. taken (hasBase o sink p && hasMonth term m) (λ h. L .rights .carried h p m) i l;
+        awarded = λ p m. taken (hasBase o sink p && hasMonth term m && not (eqb term 0)) (λ h. L .rights .awarded h p m) i l;
+        allocated = λ p. taken (hasBase o sink p && eqb term 0) (λ h. L .priors .allocated h p) i l;
+        remaining = λ p. taken (hasBase o sink p && eqb term 0) (λ h. L .priors .remaining h p) i l;
       }
 
 pub never-below-zero : (o : Opening) (cs : List Call) (term sink : ℕ) (lines : List ClassLine) → accepted o (after o cs) (migrate term sink lines) ≡ true → (i : ℕ) → i < o .holders → HolderBalance o (after o cs) term sink lines (step o (after o cs) (migrate term sink lines)) i

@@ -13,7 +13,7 @@ use Rattle.tariff.specs.Terms.{hasMonth}
 use Rattle.tariff.proofs.Sums.{sum-le}
 use Rattle.tariff.proofs.Tests.{and-both}
 use Rattle.tariff.proofs.Metric.{posted-le}
-use Rattle.ledger.specs.Opening.{Opening, endsAt}
+use Rattle.ledger.specs.Opening.{Opening, hasBase}
 use Rattle.ledger.specs.Ledger.{Ledger, Loads, Rights, Priors, emptyLedger, withLoads, withRights, withPriors, withEvidence, withTiers}
 use Rattle.ledger.specs.Call.{Call, load, carry, prior, verify, migrate, openTier, nominate, award, closeTier}
 use Rattle.ledger.specs.Migration.{transferredWhere, loadBefore, loadsAfter, rightsAfter, priorsAfter, migrated}
@@ -87,9 +87,9 @@ once-migrate o L term sink lines k e =
           λ s t.
           le-trans (le-of-eq (load-kept o L term sink lines fits (eqb s sink && eqb t term) (λ h. L .loads .kw h s t) (λ h w. let both = and-both (eqb s sink) (eqb t term) w in λ i. L .loads .kw h (eqb-true s sink (both .0) i) (eqb-true t term (both .1) i))))
           (k .loadColumn s t);
-      carriedColumn = λ p m. le-trans (le-of-eq (column-kept o L term sink lines fits (endsAt o sink p && hasMonth term m) (λ h. L .rights .carried h p m))) (k .carriedColumn p m);
-      allocatedColumn = λ p. le-trans (le-of-eq (column-kept o L term sink lines fits (endsAt o sink p && eqb term 0) (λ h. L .priors .allocated h p))) (k .allocatedColumn p);
-      remainingColumn = λ p. le-trans (le-of-eq (column-kept o L term sink lines fits (endsAt o sink p && eqb term 0) (λ h. L .priors .remaining h p))) (k .remainingColumn p);
+      carriedColumn = λ p m. le-trans (le-of-eq (column-kept o L term sink lines fits (hasBase o sink p && hasMonth term m) (λ h. L .rights .carried h p m))) (k .carriedColumn p m);
+      allocatedColumn = λ p. le-trans (le-of-eq (column-kept o L term sink lines fits (hasBase o sink p && eqb term 0) (λ h. L .priors .allocated h p))) (k .allocatedColumn p);
+      remainingColumn = λ p. le-trans (le-of-eq (column-kept o L term sink lines fits (hasBase o sink p && eqb term 0) (λ h. L .priors .remaining h p))) (k .remainingColumn p);
     }
 
 pub once-effect : (o : Opening) (L : Ledger) (c : Call) → PostedOnce o L → accepted o L c ≡ true → PostedOnce o (effect o L c)

@@ -11,7 +11,7 @@ use Rattle.tariff.specs.Sum.{whenTrue, sumTo}
 use Rattle.tariff.specs.Terms.{termOf, hasMonth}
 use Rattle.tariff.proofs.Sums.{when-is-true, when-le, when-zero, sum-ext, sum-le, sum-zero}
 use Rattle.tariff.proofs.Limits.{limit-le-load}
-use Rattle.ledger.specs.Opening.{Opening, endsAt}
+use Rattle.ledger.specs.Opening.{Opening, hasBase}
 use Rattle.ledger.specs.Ledger.{Ledger, emptyLedger, withLoads, withRights, withPriors, withEvidence, withTiers}
 use Rattle.ledger.specs.Call.{Call, load, carry, prior, verify, migrate, openTier, nominate, award, closeTier}
 use Rattle.ledger.specs.Limits.{sumAtBase, nominatedAt, limitSums, tierLimit}
@@ -71,7 +71,7 @@ nominate-bound o L x q kw k w one old e b t = go (eqb t (L .tiers .currentTier))
 close-bound : (o : Opening) (L : Ledger) → TiersSound (L .tiers) → NominatedBound o L → NominatedBound o (effect o L closeTier)
 unfolding effect withTiers afterClose nominatedSum nominatedAt sumAtBase whenTrue
 close-bound o L k old b t =
-    le-trans (sum-le (o .holders) (λ h l. sum-le (o .paths) (λ p m. lower (endsAt o b p) h p (eqb t (L .tiers .currentTier))))) (old b t)
+    le-trans (sum-le (o .holders) (λ h l. sum-le (o .paths) (λ p m. lower (hasBase o b p) h p (eqb t (L .tiers .currentTier))))) (old b t)
   where
     lower : (there : Bool) (h p : ℕ) (d : Bool) → whenTrue there (cond d (L .tiers .awards h p t) (L .tiers .nominated h p t)) ≤ whenTrue there (L .tiers .nominated h p t)
     lower true h p true = k .awardsWithin h p t
@@ -157,7 +157,7 @@ bounded-empty o =
       sound = sound-empty;
       within = λ isOpen. absurd (let z : ⊥ = omega arith in z);
       once = once-empty o;
-      nominations = λ b t. le-trans (le-of-eq (sum-zero (o .holders) (λ h l. sum-zero (o .paths) (λ p i. when-zero (endsAt o b p))))) zero-le;
+      nominations = λ b t. le-trans (le-of-eq (sum-zero (o .holders) (λ h l. sum-zero (o .paths) (λ p i. when-zero (hasBase o b p))))) zero-le;
       awards = λ p m. le-trans (le-of-eq (sum-zero (o .holders) (λ h l. refl))) zero-le;
     }
 

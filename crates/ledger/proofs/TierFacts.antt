@@ -21,7 +21,7 @@ use Rattle.ledger.specs.Ranges.{unknownHolder, unknownSink, unknownPath,
 use Rattle.ledger.specs.Calendar.{beforeTier, migrationInTime, isNextTier}
 use Rattle.ledger.specs.Limits.{nominatedAt, tierLimit}
 use Rattle.ledger.specs.Migration.{loadBefore}
-use Rattle.ledger.specs.Causes.{callCauses, migrateCauses, openCauses, nominateCauses, awardCauses, closeCauses, losesTooMuch, kindIneligible, isSubLap, lineNotBetweenLses, exceedsVerified, exceedsPrior, exceedsLimit, exceedsNominated}
+use Rattle.ledger.specs.Causes.{callCauses, migrateCauses, openCauses, nominateCauses, awardCauses, closeCauses, lossExceedsLoad, kindIneligible, isSubLap, lineNotBetweenLses, exceedsVerified, exceedsPrior, exceedsLimit, exceedsNominated}
 use Rattle.ledger.specs.Season.{accepted}
 use Rattle.ledger.proofs.Unmet.{unmet, accepted-zero, is-within, kw-in-range, open-number, none-open, before-tier}
 
@@ -38,7 +38,7 @@ pub record MigrateFacts (o : Opening) (L : Ledger) (term sink : ℕ) (lines : Li
   pub fits : (i : ℕ) → i < o .holders → lostBy (o .holders) (netted lines) i ≤ loadBefore L term sink i
 
 pub migrate-facts : (o : Opening) (L : Ledger) (term sink : ℕ) (lines : List ClassLine) → accepted o L (migrate term sink lines) ≡ true → MigrateFacts o L term sink lines
-unfolding callCauses migrateCauses unknownSink migrationOutOfRange termOutOfRange migrationInTime losesTooMuch
+unfolding callCauses migrateCauses unknownSink migrationOutOfRange termOutOfRange migrationInTime lossExceedsLoad
 migrate-facts o L term sink lines e =
     let r2 = unmet 1 _ _ (accepted-zero o L (migrate term sink lines) e) in
     let r3 = unmet 2 _ _ (r2 .1) in

@@ -11,7 +11,7 @@ use Rattle.tariff.specs.Sum.{whenTrue}
 use Rattle.tariff.proofs.Sums.{when-is-true, when-is-false, when-zero, sum-zero}
 use Rattle.tariff.proofs.Tests.{and-both, decided}
 use Rattle.tariff.proofs.Limits.{limit-reads-before}
-use Rattle.ledger.specs.Opening.{Opening, endsAt, pathBase}
+use Rattle.ledger.specs.Opening.{Opening, hasBase, pathBase}
 use Rattle.ledger.specs.Ledger.{Ledger, withLoads, withRights, withPriors, withEvidence, withTiers}
 use Rattle.ledger.specs.Call.{Call, load, carry, prior, verify, migrate, openTier, nominate, award, closeTier}
 use Rattle.ledger.specs.Limits.{sumAtBase, longTermAt, priorYearAt, awardsAt, nominatedAt, limitSums, tierLimit}
@@ -60,10 +60,10 @@ pub opened-empty : (o : Opening) (L : Ledger) (tier h b : ℕ) → TiersSound (L
 unfolding nominatedAt sumAtBase effect withTiers afterOpen
 opened-empty o L tier h b k e =
     let f = open-facts o L tier e in
-    sum-zero (o .paths) (λ p l. ap (whenTrue (endsAt o b p)) (k .fresh h p tier (omega arith) (λ q. omega (arith, q))) ∙ when-zero (endsAt o b p))
+    sum-zero (o .paths) (λ p l. ap (whenTrue (hasBase o b p)) (k .fresh h p tier (omega arith) (λ q. omega (arith, q))) ∙ when-zero (hasBase o b p))
 
 -- what a nomination adds at a base, where it was accepted
-pub nominate-adds : (o : Opening) (L : Ledger) (x q kw h b : ℕ) → accepted o L (nominate x q kw) ≡ true → nominatedAt o (effect o L (nominate x q kw)) h b (L .tiers .currentTier) ≡ nominatedAt o L h b (L .tiers .currentTier) + whenTrue (eqb h x && endsAt o b q) kw
+pub nominate-adds : (o : Opening) (L : Ledger) (x q kw h b : ℕ) → accepted o L (nominate x q kw) ≡ true → nominatedAt o (effect o L (nominate x q kw)) h b (L .tiers .currentTier) ≡ nominatedAt o L h b (L .tiers .currentTier) + whenTrue (eqb h x && hasBase o b q) kw
 unfolding nominatedAt effect withTiers afterNominate
 nominate-adds o L x q kw h b e = base-plus o b x q (L .tiers .currentTier) kw h (L .tiers .nominated) (nominate-facts o L x q kw e .path)
 
@@ -72,16 +72,16 @@ pub award-leaves : (o : Opening) (L : Ledger) (x q kw h b t : ℕ) → nominated
 unfolding nominatedAt effect withTiers withRights awardsAfter
 award-leaves o L x q kw h b t = refl
 
-nominate-within : (o : Opening) (L : Ledger) (x q kw h b : ℕ) → accepted o L (nominate x q kw) ≡ true → nominatedAt o L h b (L .tiers .currentTier) ≤ tierLimit o L (L .tiers .currentTier) h b → nominatedAt o L h b (L .tiers .currentTier) + whenTrue (eqb h x && endsAt o b q) kw ≤ tierLimit o L (L .tiers .currentTier) h b
-unfolding endsAt
-nominate-within o L x q kw h b e old = go (decided (eqb h x && endsAt o b q))
+nominate-within : (o : Opening) (L : Ledger) (x q kw h b : ℕ) → accepted o L (nominate x q kw) ≡ true → nominatedAt o L h b (L .tiers .currentTier) ≤ tierLimit o L (L .tiers .currentTier) h b → nominatedAt o L h b (L .tiers .currentTier) + whenTrue (eqb h x && hasBase o b q) kw ≤ tierLimit o L (L .tiers .currentTier) h b
+unfolding hasBase
+nominate-within o L x q kw h b e old = go (decided (eqb h x && hasBase o b q))
   where
     k : ℕ
     k = L .tiers .currentTier
 
-    go : (eqb h x && endsAt o b q ≡ true) ⊎ (eqb h x && endsAt o b q ≡ false) → nominatedAt o L h b k + whenTrue (eqb h x && endsAt o b q) kw ≤ tierLimit o L k h b
+    go : (eqb h x && hasBase o b q ≡ true) ⊎ (eqb h x && hasBase o b q ≡ false) → nominatedAt o L h b k + whenTrue (eqb h x && hasBase o b q) kw ≤ tierLimit o L k h b
     go (inl t) =
-        let both = and-both (eqb h x) (endsAt o b q) t in
+        let both = and-both (eqb h x) (hasBase o b q) t in
         let here = when-is-true kw t in
         let hx = eqb-true h x (both .0) in
         let bq = sym (eqb-true (pathBase o q) b (both .1)) in

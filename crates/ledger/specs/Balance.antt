@@ -9,7 +9,7 @@ use Rattle.netting.specs.declared.netting.ClassLine.{ClassLine}
 use Rattle.tariff.specs.Sum.{whenTrue, sumTo}
 use Rattle.tariff.specs.Terms.{hasMonth}
 use Rattle.netting.specs.Migration.{netted, lostBy, shares}
-use Rattle.ledger.specs.Opening.{Opening, endsAt}
+use Rattle.ledger.specs.Opening.{Opening, hasBase}
 use Rattle.ledger.specs.Ledger.{Ledger}
 use Rattle.ledger.specs.Migration.{loadBefore}
 
@@ -35,7 +35,7 @@ module _ (o : Opening) (L : Ledger) (term sink : ℕ) (lines : List ClassLine) w
   pub record HolderBalance (N : Ledger) (i : ℕ) : Type 0 where
     pub loadCovers : lostBy (o .holders) (netted lines) i ≤ L .loads .kw i sink term
     pub loads : (s t : ℕ) → N .loads .kw i s t + whenTrue (eqb s sink && eqb t term) (lostBy (o .holders) (netted lines) i) ≡ L .loads .kw i s t + whenTrue (eqb s sink && eqb t term) (loadGained i)
-    pub carried : (p m : ℕ) → RecordBalance (endsAt o sink p && hasMonth term m) (λ h. L .rights .carried h p m) (N .rights .carried i p m) i
-    pub awarded : (p m : ℕ) → RecordBalance (endsAt o sink p && hasMonth term m && not (eqb term 0)) (λ h. L .rights .awarded h p m) (N .rights .awarded i p m) i
-    pub allocated : (p : ℕ) → RecordBalance (endsAt o sink p && eqb term 0) (λ h. L .priors .allocated h p) (N .priors .allocated i p) i
-    pub remaining : (p : ℕ) → RecordBalance (endsAt o sink p && eqb term 0) (λ h. L .priors .remaining h p) (N .priors .remaining i p) i
+    pub carried : (p m : ℕ) → RecordBalance (hasBase o sink p && hasMonth term m) (λ h. L .rights .carried h p m) (N .rights .carried i p m) i
+    pub awarded : (p m : ℕ) → RecordBalance (hasBase o sink p && hasMonth term m && not (eqb term 0)) (λ h. L .rights .awarded h p m) (N .rights .awarded i p m) i
+    pub allocated : (p : ℕ) → RecordBalance (hasBase o sink p && eqb term 0) (λ h. L .priors .allocated h p) (N .priors .allocated i p) i
+    pub remaining : (p : ℕ) → RecordBalance (hasBase o sink p && eqb term 0) (λ h. L .priors .remaining h p) (N .priors .remaining i p) i

@@ -27,8 +27,8 @@ lineNotBetweenLses o l =
     || eqb (holderKind o (l .to)) obaalse
 
 -- cause 9: some loser's m together exceed its load at the sink and term
-unfoldable pub losesTooMuch : Opening → Ledger → ℕ → ℕ → List ClassLine → Bool
-losesTooMuch o L term sink lines =
+unfoldable pub lossExceedsLoad : Opening → Ledger → ℕ → ℕ → List ClassLine → Bool
+lossExceedsLoad o L term sink lines =
     anyBelow (o .holders) (λ i. ltb (loadBefore L term sink i) (lostBy (o .holders) (netted lines) i))
 
 -- cause 10: a scheduling point is not for an LSE, and nothing else is for an OBAALSE
@@ -100,7 +100,7 @@ module _ (o : Opening) (L : Ledger) where
       ∷ cause outOfRange (migrationOutOfRange term lines)
       ∷ cause notAtThisTime (not (migrationInTime term L))
       ∷ cause notBetweenLses (anyOf lines (lineNotBetweenLses o))
-      ∷ cause lossAboveLoad (losesTooMuch o L term sink lines)
+      ∷ cause lossAboveLoad (lossExceedsLoad o L term sink lines)
       ∷ []
 
   unfoldable pub openCauses : ℕ → List Cause

@@ -2,7 +2,7 @@
 use Prim.Native.Nat.{ℕ}
 use mathlib.Core.Bool.{Bool, false}
 use Rattle.tariff.specs.declared.evidence.Entry.{Entry}
-use Rattle.tariff.specs.Evidence.{noEntry}
+use Rattle.tariff.specs.Evidence.{emptyEntry}
 
 -- by holder, sink and term: the load, and whether one was posted
 pub record Loads : Type 0 where
@@ -47,7 +47,7 @@ emptyLedger =
       loads = record { kw = λ h s t. 0; posted = λ h s t. false };
       rights = record { carried = λ h p m. 0; awarded = λ h p m. 0; posted = λ h p. false };
       priors = record { allocated = λ h p. 0; remaining = λ h p. 0; posted = λ h p. false };
-      evidence = record { entry = λ h s k. noEntry; posted = λ h s k. false };
+      evidence = record { entry = λ h s k. emptyEntry; posted = λ h s k. false };
       tiers = record { nominated = λ h p t. 0; awards = λ h p t. 0; lastClosed = 0; currentTier = 0 };
     }
 

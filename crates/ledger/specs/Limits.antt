@@ -4,12 +4,12 @@ use Rattle.tariff.specs.Sum.{whenTrue, sumTo}
 use Rattle.tariff.specs.Terms.{termOf, carriedMonth}
 use Rattle.tariff.specs.declared.limit.Sums.{Sums}
 use Rattle.tariff.specs.Limit.{limitOfSums}
-use Rattle.ledger.specs.Opening.{Opening, endsAt}
+use Rattle.ledger.specs.Opening.{Opening, hasBase}
 use Rattle.ledger.specs.Ledger.{Ledger}
 
 -- f summed over the paths whose sink has this base
 unfoldable pub sumAtBase : Opening → ℕ → (ℕ → ℕ) → ℕ
-sumAtBase o b f = sumTo (o .paths) (λ p. whenTrue (endsAt o b p) (f p))
+sumAtBase o b f = sumTo (o .paths) (λ p. whenTrue (hasBase o b p) (f p))
 
 -- LT: the holder's carried holding there in a month
 unfoldable pub longTermAt : Opening → Ledger → ℕ → ℕ → ℕ → ℕ

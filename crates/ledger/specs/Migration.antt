@@ -6,7 +6,7 @@ use lib.Dec.{eqb}
 use Rattle.netting.specs.declared.netting.ClassLine.{ClassLine}
 use Rattle.tariff.specs.Terms.{hasMonth}
 use Rattle.netting.specs.Migration.{netted, shares, transferred}
-use Rattle.ledger.specs.Opening.{Opening, endsAt}
+use Rattle.ledger.specs.Opening.{Opening, hasBase}
 use Rattle.ledger.specs.Ledger.{Ledger, Loads, Rights, Priors}
 
 -- records of which those at some places are transferred: each place has a column of the holders' records, which changes as one
@@ -22,8 +22,8 @@ module _ (o : Opening) (term sink : ℕ) (column : (ℕ → ℕ) → ℕ → ℕ
   unfoldable pub rightsAfter : Rights → Rights
   rightsAfter x =
       record {
-        carried = transferredWhere (λ p m. endsAt o sink p && hasMonth term m) column (x .carried);
-        awarded = transferredWhere (λ p m. endsAt o sink p && hasMonth term m && not (eqb term 0)) column (x .awarded);
+        carried = transferredWhere (λ p m. hasBase o sink p && hasMonth term m) column (x .carried);
+        awarded = transferredWhere (λ p m. hasBase o sink p && hasMonth term m && not (eqb term 0)) column (x .awarded);
         posted = x .posted;
       }
 
@@ -31,8 +31,8 @@ module _ (o : Opening) (term sink : ℕ) (column : (ℕ → ℕ) → ℕ → ℕ
   unfoldable pub priorsAfter : Priors → Priors
   priorsAfter x =
       record {
-        allocated = λ h p. cond (endsAt o sink p && eqb term 0) (column (λ i. x .allocated i p) h) (x .allocated h p);
-        remaining = λ h p. cond (endsAt o sink p && eqb term 0) (column (λ i. x .remaining i p) h) (x .remaining h p);
+        allocated = λ h p. cond (hasBase o sink p && eqb term 0) (column (λ i. x .allocated i p) h) (x .allocated h p);
+        remaining = λ h p. cond (hasBase o sink p && eqb term 0) (column (λ i. x .remaining i p) h) (x .remaining h p);
         posted = x .posted;
       }
 

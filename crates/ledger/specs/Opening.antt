@@ -58,12 +58,12 @@ unfoldable pub pathBase : Opening → ℕ → ℕ
 pathBase o p = base o (pathSink o p)
 
 -- the path's sink has this base
-unfoldable pub endsAt : Opening → ℕ → ℕ → Bool
-endsAt o b p = eqb (pathBase o p) b
+unfoldable pub hasBase : Opening → ℕ → ℕ → Bool
+hasBase o b p = eqb (pathBase o p) b
 
 -- the path comes from this source
-unfoldable pub comesFrom : Opening → ℕ → ℕ → Bool
-comesFrom o s p = eqb (pathSource o p) s
+unfoldable pub hasSource : Opening → ℕ → ℕ → Bool
+hasSource o s p = eqb (pathSource o p) s
 
 -- at most 8 holders, 16 sources, 16 sinks and 16 paths; none of a kind is allowed
 unfoldable pub countsFit : Opening → Bool

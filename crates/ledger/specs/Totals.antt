@@ -6,7 +6,7 @@ use lib.Dec.{eqb}
 use Rattle.tariff.specs.Sum.{whenTrue}
 use Rattle.tariff.specs.Load.{loadPosted}
 use Rattle.tariff.specs.Terms.{termOf, hasMonth}
-use Rattle.ledger.specs.Opening.{Opening, endsAt}
+use Rattle.ledger.specs.Opening.{Opening, hasBase}
 use Rattle.ledger.specs.Call.{Call, load, carry, prior, verify, migrate, openTier, nominate, award, closeTier}
 use Rattle.ledger.specs.Ledger.{Ledger, emptyLedger}
 use Rattle.ledger.specs.Season.{accepted, step}
@@ -47,7 +47,7 @@ contribution o L (prior h p a l) = noContribution
 contribution o L (verify h s kind capacity right first last) = noContribution
 contribution o L (migrate term sink lines) = noContribution
 contribution o L (openTier tier) = noContribution
-contribution o L (nominate h p kw) = record { carried = none; awarded = neither; posted = neither; nominated = λ x b. whenTrue (eqb x h && endsAt o b p) kw; closes = false }
+contribution o L (nominate h p kw) = record { carried = none; awarded = neither; posted = neither; nominated = λ x b. whenTrue (eqb x h && hasBase o b p) kw; closes = false }
 contribution o L (award h p kw) = record { carried = none; awarded = λ q m. whenTrue (eqb q p && hasMonth (termOf (L .tiers .currentTier)) m) kw; posted = neither; nominated = neither; closes = false }
 contribution o L closeTier = record { carried = none; awarded = neither; posted = neither; nominated = neither; closes = true }
 

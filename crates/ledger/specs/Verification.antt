@@ -6,12 +6,12 @@ use Rattle.tariff.specs.Sizes.{lastSeasonTier, ownership, contract}
 use Rattle.tariff.specs.Sum.{whenTrue, sumTo}
 use Rattle.tariff.specs.Terms.{termOf}
 use Rattle.tariff.specs.Evidence.{entryKw}
-use Rattle.ledger.specs.Opening.{Opening, comesFrom}
+use Rattle.ledger.specs.Opening.{Opening, hasSource}
 use Rattle.ledger.specs.Ledger.{Ledger}
 
 -- f summed over the paths from this source
 unfoldable pub sumFromSource : Opening → ℕ → (ℕ → ℕ) → ℕ
-sumFromSource o s f = sumTo (o .paths) (λ p. whenTrue (comesFrom o s p) (f p))
+sumFromSource o s f = sumTo (o .paths) (λ p. whenTrue (hasSource o s p) (f p))
 
 -- the verified kW for a term: ownership (kind 1) and contract (kind 2) add
 unfoldable pub verifiedKw : Ledger → ℕ → ℕ → ℕ → ℕ

@@ -17,9 +17,9 @@ use Rattle.lines.specs.declared.lines.NextRow.{NextRow}
 use Rattle.lines.specs.Text.{linesOf}
 use Rattle.lines.specs.Rows.{rowsOf, allOfKind, counted}
 use Rattle.lines.specs.Reading.{firstBytes, nextRow}
-use Rattle.lines.specs.Counted.{bytesOfLines, rowsCounted, countedOf, keptFields, columnLength, columnsPut, roomWith}
+use Rattle.lines.specs.Counted.{bytesOfLines, rowsCounted, countedOf, keptFields, columnLength, columnsPut, bufferWith}
 use Rattle.lines.proofs.RowSteps.{first-row, consumed-within}
-use Rattle.lines.proofs.RoomLaws.{row-kept, room-long}
+use Rattle.lines.proofs.BufferLaws.{row-kept, buffer-long}
 use Rattle.lines.proofs.KeptFields.{take-more, drop-more, in-list, kinds-more}
 
 -- one line more takes the bytes of the line that comes next
@@ -114,27 +114,27 @@ module _ (s : List ℕ) (kind count k consumed : ℕ) (complete : Bool) (f : SoF
       turn-rows = ap (λ n. take n (rowsOf s)) (add-one k) ∙ one-more ∙ ap (λ y. take k (rowsOf s) ++ (y .row ∷ [])) (sym e)
 
       -- its fields are kept after those before it
-      pub turn-kept : (room old new : List ℕ) → length (rowsCounted count s) ≤ columnLength room → k < count → old ≡ roomWith (take k (rowsOf s)) room → new ≡ columnsPut keptFields 0 (columnLength room) k (x .row) old → new ≡ roomWith (take (k + 1) (rowsOf s)) room
-      turn-kept room old new fits l kept stored =
+      pub turn-kept : (buffer old new : List ℕ) → length (rowsCounted count s) ≤ columnLength buffer → k < count → old ≡ bufferWith (take k (rowsOf s)) buffer → new ≡ columnsPut keptFields 0 (columnLength buffer) k (x .row) old → new ≡ bufferWith (take (k + 1) (rowsOf s)) buffer
+      turn-kept buffer old new fits l kept stored =
           let many = length-take-le k (rowsOf s) (f .inRows) in
-          let below = line-fits (columnLength room) fits l in
+          let below = line-fits (columnLength buffer) fits l in
           stored
-          ∙ (λ i. columnsPut keptFields 0 (columnLength room) (sym many i) (x .row) (kept i))
-          ∙ row-kept (take k (rowsOf s)) (x .row) room (omega arith)
-          ∙ ap (λ rows. roomWith rows room) (sym turn-rows)
+          ∙ (λ i. columnsPut keptFields 0 (columnLength buffer) (sym many i) (x .row) (kept i))
+          ∙ row-kept (take k (rowsOf s)) (x .row) buffer (omega arith)
+          ∙ ap (λ rows. bufferWith rows buffer) (sym turn-rows)
 
       pub turn-within : consumed + x .consumed ≤ length s
       turn-within = le-trans (le-of-eq (ap (λ y. consumed + y .consumed) e)) next-within
 
-  -- the room keeps its length
-  pub room-length : (room old : List ℕ) → length (rowsCounted count s) ≤ columnLength room → old ≡ roomWith (take k (rowsOf s)) room → length old ≡ length room
+  -- the buffer keeps its length
+  pub buffer-length : (buffer old : List ℕ) → length (rowsCounted count s) ≤ columnLength buffer → old ≡ bufferWith (take k (rowsOf s)) buffer → length old ≡ length buffer
   unfolding rowsCounted
-  room-length room old fits kept =
+  buffer-length buffer old fits kept =
       let all = length-take count (rowsOf s) in
       let some = length-take-le k (rowsOf s) (f .inRows) in
       let up = f .upTo in
       let below = f .inRows in
-      ap length kept ∙ room-long (take k (rowsOf s)) room (omega arith)
+      ap length kept ∙ buffer-long (take k (rowsOf s)) buffer (omega arith)
 
   -- where the bytes run out the lines that are left are all there are
   module _ (none : length s ≤ consumed) (short : k < count) where
@@ -157,8 +157,8 @@ module _ (s : List ℕ) (kind count k consumed : ℕ) (complete : Bool) (f : SoF
         let all = ap length (take-all count (rowsOf s) (omega arith)) in
         λ i. record { complete = sym (and-left-false (allOfKind kind (take count (rowsOf s))) (ne-eqb (length (take count (rowsOf s))) count (λ e. omega (arith, e)))) i; consumed = (f .bytes ∙ bytes-all k count s (let same = f .bytes in omega arith) (omega arith)) i }
 
-    pub room-all : (room old : List ℕ) → old ≡ roomWith (take k (rowsOf s)) room → old ≡ roomWith (rowsCounted count s) room
-    room-all room old e = e ∙ ap (λ rows. roomWith rows room) rows-cut
+    pub buffer-all : (buffer old : List ℕ) → old ≡ bufferWith (take k (rowsOf s)) buffer → old ≡ bufferWith (rowsCounted count s) buffer
+    buffer-all buffer old e = e ∙ ap (λ rows. bufferWith rows buffer) rows-cut
 
   -- where all are read
   module _ (done : count ≤ k) where
@@ -176,5 +176,5 @@ module _ (s : List ℕ) (kind count k consumed : ℕ) (complete : Bool) (f : SoF
     unfolding rowsCounted
     rows-read = ap (λ n. take n (rowsOf s)) at-count
 
-    pub room-read : (room old : List ℕ) → old ≡ roomWith (take k (rowsOf s)) room → old ≡ roomWith (rowsCounted count s) room
-    room-read room old e = e ∙ ap (λ rows. roomWith rows room) rows-read
+    pub buffer-read : (buffer old : List ℕ) → old ≡ bufferWith (take k (rowsOf s)) buffer → old ≡ bufferWith (rowsCounted count s) buffer
+    buffer-read buffer old e = e ∙ ap (λ rows. bufferWith rows buffer) rows-read

@@ -17,15 +17,15 @@ use Rattle.lines.specs.declared.text.Field.{Field}
 use Rattle.lines.specs.declared.rows.Fields.{Fields}
 use Rattle.lines.specs.Text.{lineFeed, comma, isDigit, allDigits, maxDigits, isNumber, valueOf}
 use Rattle.lines.specs.Rows.{maxFields, allNumbers}
-use Rattle.lines.specs.Reading.{lengthUpTo, leading, leadingDigits, fieldAt, fieldsAfter, lineText, fieldEnds, hasFeed, fieldsIf, fieldsRead, noFields}
+use Rattle.lines.specs.Reading.{bytesBefore, leading, leadingDigits, fieldAt, fieldsAfter, lineText, fieldEnds, hasLineFeed, fieldsIf, fieldsRead, noFields}
 use Rattle.lines.proofs.TextLaws.{at-byte}
 use Rattle.lines.proofs.LineFields.{fieldLength, firstField, first-length, line-fields, feed-after, up-to-after}
 use Rattle.lines.proofs.LeadingLaws.{leading-field, field-leading, field-continues}
 use Rattle.lines.proofs.NumberLaws.{digit-inside, digits-more, number-fits, field-valid, field-invalid}
 
 -- a part of a line up to its end
-pub rest-whole : (text : List ℕ) (from : ℕ) → take (length text - from) (drop from text) ≡ drop from text
-rest-whole text from = take-all (length text - from) (drop from text) (let left = length-drop from text in omega arith)
+pub rest-all : (text : List ℕ) (from : ℕ) → take (length text - from) (drop from text) ≡ drop from text
+rest-all text from = take-all (length text - from) (drop from text) (let left = length-drop from text in omega arith)
 
 -- no number read yet
 unfoldable pub zeros : List ℕ
@@ -41,7 +41,7 @@ restIf readable count numbers fields end = fieldsWhere (readable && allNumbers f
 
 -- the same, from a place on
 unfoldable pub readFrom : ℕ → List ℕ → ℕ → List ℕ → Fields
-readFrom count numbers at bytes = restIf (fieldEnds bytes && hasFeed bytes) count numbers (fieldsAfter (lineText bytes)) (at + lengthUpTo lineFeed bytes)
+readFrom count numbers at bytes = restIf (fieldEnds bytes && hasLineFeed bytes) count numbers (fieldsAfter (lineText bytes)) (at + bytesBefore lineFeed bytes)
 
 long : length zeros ≡ maxFields
 unfolding zeros
@@ -83,7 +83,7 @@ started readable fields end =
 
 pub reading-starts : (start : ℕ) (bytes : List ℕ) → fieldsRead start bytes ≡ readFrom 0 zeros start bytes
 unfolding fieldsRead readFrom
-reading-starts start bytes = started (fieldEnds bytes && hasFeed bytes) (fieldsAfter (lineText bytes)) (start + lengthUpTo lineFeed bytes)
+reading-starts start bytes = started (fieldEnds bytes && hasLineFeed bytes) (fieldsAfter (lineText bytes)) (start + bytesBefore lineFeed bytes)
 
 refused : (t : Bool) (count : ℕ) (numbers : List ℕ) (end : ℕ) → t ≡ false → fieldsWhere t count numbers end ≡ noFields
 unfolding fieldsWhere
@@ -120,11 +120,11 @@ reading-ends count numbers at l =
 -- a line at a comma: the field after it, and what stands after that
 module _ (count : ℕ) (numbers : List ℕ) (at : ℕ) (bytes : List ℕ) where
   end : ℕ
-  end = at + suc (lengthUpTo lineFeed bytes)
+  end = at + suc (bytesBefore lineFeed bytes)
 
-  at-comma : readFrom count numbers at (comma ∷ bytes) ≡ restIf (hasFeed bytes) count numbers (firstField bytes ∷ fieldsAfter (lineText (drop (fieldLength bytes) bytes))) end
-  unfolding readFrom fieldEnds hasFeed anyOf lineText lengthUpTo fieldsAfter end
-  at-comma = ap (λ fields. restIf (hasFeed bytes) count numbers fields end) (line-fields bytes)
+  at-comma : readFrom count numbers at (comma ∷ bytes) ≡ restIf (hasLineFeed bytes) count numbers (firstField bytes ∷ fieldsAfter (lineText (drop (fieldLength bytes) bytes))) end
+  unfolding readFrom fieldEnds hasLineFeed anyOf lineText bytesBefore fieldsAfter end
+  at-comma = ap (λ fields. restIf (hasLineFeed bytes) count numbers fields end) (line-fields bytes)
 
   comma-too-many : count ≡ maxFields → readFrom count numbers at (comma ∷ bytes) ≡ noFields
   comma-too-many e = at-comma ∙ one-too-many _ count numbers _ _ _ e
@@ -153,16 +153,16 @@ module _ (count : ℕ) (numbers : List ℕ) (at : ℕ) (bytes : List ℕ) where
       digits : List ℕ
       digits = leading isDigit maxDigits bytes
 
-      go : (t : Bool) → fieldEnds (drop (length digits) bytes) ≡ t → readFrom count numbers at (comma ∷ bytes) ≡ restIf (fieldEnds (drop (length digits) bytes) && hasFeed (drop (length digits) bytes)) (count + 1) (set numbers count (valueOf digits)) (fieldsAfter (lineText (drop (length digits) bytes))) (at + 1 + length digits + lengthUpTo lineFeed (drop (length digits) bytes))
+      go : (t : Bool) → fieldEnds (drop (length digits) bytes) ≡ t → readFrom count numbers at (comma ∷ bytes) ≡ restIf (fieldEnds (drop (length digits) bytes) && hasLineFeed (drop (length digits) bytes)) (count + 1) (set numbers count (valueOf digits)) (fieldsAfter (lineText (drop (length digits) bytes))) (at + 1 + length digits + bytesBefore lineFeed (drop (length digits) bytes))
       go true q =
           let same : digits ≡ firstField bytes = leading-field isDigit digit-inside allDigits digits-more maxDigits bytes q in
           let width : fieldLength bytes ≡ length digits = sym (ap length same ∙ first-length bytes) in
-          let line = up-to-after bytes ∙ ap (λ n. n + lengthUpTo lineFeed (drop n bytes)) width in
-          let place : end ≡ at + 1 + length digits + lengthUpTo lineFeed (drop (length digits) bytes) = omega arith in
+          let line = up-to-after bytes ∙ ap (λ n. n + bytesBefore lineFeed (drop n bytes)) width in
+          let place : end ≡ at + 1 + length digits + bytesBefore lineFeed (drop (length digits) bytes) = omega arith in
           at-comma
-          ∙ ap₂ (λ field n. restIf (hasFeed bytes) count numbers (field ∷ fieldsAfter (lineText (drop n bytes))) end) (sym same) width
-          ∙ field-more (hasFeed bytes) count numbers digits _ _ e
-          ∙ ap₂ (λ t n. restIf t (count + 1) (set numbers count (valueOf digits)) (fieldsAfter (lineText (drop (length digits) bytes))) n) (feed-after bytes ∙ ap (λ n. hasFeed (drop n bytes)) width ∙ sym (ap (λ t. t && hasFeed (drop (length digits) bytes)) q)) place
+          ∙ ap₂ (λ field n. restIf (hasLineFeed bytes) count numbers (field ∷ fieldsAfter (lineText (drop n bytes))) end) (sym same) width
+          ∙ field-more (hasLineFeed bytes) count numbers digits _ _ e
+          ∙ ap₂ (λ t n. restIf t (count + 1) (set numbers count (valueOf digits)) (fieldsAfter (lineText (drop (length digits) bytes))) n) (feed-after bytes ∙ ap (λ n. hasLineFeed (drop n bytes)) width ∙ sym (ap (λ t. t && hasLineFeed (drop (length digits) bytes)) q)) place
       go false q = at-comma ∙ field-refused _ count numbers _ _ _ (number-ends q) ∙ sym (rest-refused _ _ _ _ _ (and-left-false _ q))
 
 -- a turn of the reading: from one comma of a line to the next
@@ -171,7 +171,7 @@ module _ (rest : List ℕ) (start at count : ℕ) (numbers : List ℕ) (passed :
   here b l e = passed ∙ at-byte (readFrom count numbers at) rest at l ∙ ap (λ b. readFrom count numbers at (b ∷ drop (at + 1) rest)) e
 
   pub line-ends : at < length rest → getD rest at 0 ≡ lineFeed → count ≤ maxFields → record { readable = true; count = count; numbers = numbers; end = at } ≡ fieldsRead start (drop start rest)
-  unfolding readFrom fieldEnds hasFeed anyOf lineText lengthUpTo fieldsAfter
+  unfolding readFrom fieldEnds hasLineFeed anyOf lineText bytesBefore fieldsAfter
   line-ends l e few = sym (here lineFeed l e ∙ reading-ends count numbers at few)
 
   pub stops-at-byte : at < length rest → (getD rest at 0 ≡ lineFeed → ⊥) → (getD rest at 0 ≡ comma → ⊥) → noFields ≡ fieldsRead start (drop start rest)
@@ -182,7 +182,7 @@ module _ (rest : List ℕ) (start at count : ℕ) (numbers : List ℕ) (passed :
       sym (here b l refl ∙ rest-refused _ count numbers _ _ (and-left-false _ other))
 
   pub stops-at-end : length rest ≤ at → noFields ≡ fieldsRead start (drop start rest)
-  unfolding readFrom hasFeed anyOf
+  unfolding readFrom hasLineFeed anyOf
   stops-at-end l = sym (passed ∙ ap (readFrom count numbers at) (drop-of-length-le rest l) ∙ rest-refused _ count numbers _ _ (and-right-false (fieldEnds []) refl))
 
   module _ (l : at < length rest) (e : getD rest at 0 ≡ comma) where

@@ -9,7 +9,7 @@ pub mod ReadRowLaws
 pub mod RowSteps
 pub mod LineBytes
 pub mod KeptFields
-pub mod RoomLaws
+pub mod BufferLaws
 pub mod CountedLaws
 pub mod PairLaws
 pub mod BookLines

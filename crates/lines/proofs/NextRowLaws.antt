@@ -12,12 +12,12 @@ use lib.Dec.{ltb}
 use Rattle.tariff.proofs.Tests.{decided}
 use Rattle.lines.specs.Text.{lineFeed, Line, ended, unended, linesOf, fieldsOf}
 use Rattle.lines.specs.Rows.{unreadableRow, rowOfFields, rowOf, rowsOf}
-use Rattle.lines.specs.Reading.{lengthUpTo, lineText, hasFeed, firstRow, firstBytes, nextRow}
+use Rattle.lines.specs.Reading.{bytesBefore, lineText, hasLineFeed, firstRow, firstBytes, nextRow}
 use Rattle.lines.proofs.TextLaws.{up-to-le, line-ended, line-unended}
 use Rattle.lines.proofs.LineFields.{feed-found, no-feed}
 
 -- the next line has an end
-module _ (rest : List ℕ) (n : ℕ) (e : n ≡ lengthUpTo lineFeed rest) (l : n < length rest) where
+module _ (rest : List ℕ) (n : ℕ) (e : n ≡ bytesBefore lineFeed rest) (l : n < length rest) where
   first-ended : linesOf rest ≡ ended (take n rest) ∷ linesOf (drop (suc n) rest)
   first-ended = line-ended rest (omega arith) ∙ ap (λ k. ended (take k rest) ∷ linesOf (drop (suc k) rest)) (sym e)
 
@@ -26,7 +26,7 @@ module _ (rest : List ℕ) (n : ℕ) (e : n ≡ lengthUpTo lineFeed rest) (l : n
   ended-bytes = sym (ap firstBytes first-ended ∙ ap (λ k. k + 1) (length-take-le n rest (omega arith)))
 
 -- no LF is left
-pub unended-bytes : (rest : List ℕ) (n : ℕ) → n ≡ lengthUpTo lineFeed rest → length rest ≤ n → n ≡ firstBytes (linesOf rest)
+pub unended-bytes : (rest : List ℕ) (n : ℕ) → n ≡ bytesBefore lineFeed rest → length rest ≤ n → n ≡ firstBytes (linesOf rest)
 unfolding firstBytes linesOf
 unended-bytes [] n e l = let none = up-to-le lineFeed [] in omega arith
 unended-bytes (b ∷ bytes) n e l =
@@ -34,11 +34,11 @@ unended-bytes (b ∷ bytes) n e l =
     let all : n ≡ length (b ∷ bytes) = omega arith in
     all ∙ sym (ap firstBytes (line-unended b bytes (omega arith)))
 
-pub ended-row : (rest : List ℕ) → hasFeed rest ≡ true → firstRow (linesOf rest) ≡ rowOfFields (fieldsOf (lineText rest))
+pub ended-row : (rest : List ℕ) → hasLineFeed rest ≡ true → firstRow (linesOf rest) ≡ rowOfFields (fieldsOf (lineText rest))
 unfolding firstRow rowOf lineText
 ended-row rest e = ap firstRow (line-ended rest (feed-found rest e))
 
-pub unended-row : (rest : List ℕ) → hasFeed rest ≡ false → firstRow (linesOf rest) ≡ unreadableRow
+pub unended-row : (rest : List ℕ) → hasLineFeed rest ≡ false → firstRow (linesOf rest) ≡ unreadableRow
 unfolding firstRow rowOf linesOf
 unended-row [] e = refl
 unended-row (b ∷ bytes) e = ap firstRow (line-unended b bytes (no-feed (b ∷ bytes) e))
@@ -55,7 +55,7 @@ first-of b bytes = ⊎-elim (λ t. end-at (ltb-true n (length rest) t)) (λ t. w
     rest = b ∷ bytes
 
     n : ℕ
-    n = lengthUpTo lineFeed (b ∷ bytes)
+    n = bytesBefore lineFeed (b ∷ bytes)
 
     end-at : n < length rest → FirstOf rest
     end-at l =

@@ -14,7 +14,7 @@ use Rattle.lines.specs.declared.text.Token.{Token}
 use Rattle.lines.specs.declared.rows.Fields.{Fields}
 use Rattle.lines.specs.Text.{lineFeed, linesOf, fieldsOf, valueOf}
 use Rattle.lines.specs.Rows.{maxFields, kindOf, allNumbers, row, unreadableRow, rowIf, rowOfFields}
-use Rattle.lines.specs.Reading.{lengthUpTo, leading, fieldsAfter, lineText, fieldEnds, hasFeed, fieldsIf, fieldsRead, noFields, firstRow, firstBytes, nextRow, unreadableLine}
+use Rattle.lines.specs.Reading.{bytesBefore, leading, fieldsAfter, lineText, fieldEnds, hasLineFeed, fieldsIf, fieldsRead, noFields, firstRow, firstBytes, nextRow, unreadableLine}
 use Rattle.lines.specs.Words.{maxLetters, isLetter, allLetters, letterKey, keyLimit, leadingLetters, wordAt, isWord, wordKey}
 use Rattle.lines.proofs.LineFields.{fieldLength, firstField, first-length, line-fields, feed-after, up-to-after, feed-found}
 use Rattle.lines.proofs.LeadingLaws.{leading-few, leading-all, leading-field, field-continues}
@@ -83,7 +83,7 @@ module _ (rest : List ℕ) (word : Token) (f : Fields) (spelt : word ≡ wordAt 
   fields : List (List ℕ)
   fields = fieldsAfter (lineText bytes)
 
-  read-there : f ≡ fieldsIf (fieldEnds bytes && hasFeed bytes) fields (length letters + lengthUpTo lineFeed bytes)
+  read-there : f ≡ fieldsIf (fieldEnds bytes && hasLineFeed bytes) fields (length letters + bytesBefore lineFeed bytes)
   unfolding wordAt leadingLetters fieldsRead letters bytes fields
   read-there = read ∙ ap (λ n. fieldsRead n (drop n rest)) (ap (λ t. t .end) spelt)
 
@@ -109,13 +109,13 @@ module _ (rest : List ℕ) (word : Token) (f : Fields) (spelt : word ≡ wordAt 
     unfolding fields bytes
     parted = line-fields rest ∙ ap₂ (λ field n. field ∷ fieldsAfter (lineText (drop n rest))) (sym same) width
 
-    fed : hasFeed rest ≡ hasFeed bytes
+    fed : hasLineFeed rest ≡ hasLineFeed bytes
     unfolding bytes
-    fed = feed-after rest ∙ ap (λ n. hasFeed (drop n rest)) width
+    fed = feed-after rest ∙ ap (λ n. hasLineFeed (drop n rest)) width
 
-    feed-at : lengthUpTo lineFeed rest ≡ length letters + lengthUpTo lineFeed bytes
+    feed-at : bytesBefore lineFeed rest ≡ length letters + bytesBefore lineFeed bytes
     unfolding bytes
-    feed-at = up-to-after rest ∙ ap (λ n. n + lengthUpTo lineFeed (drop n rest)) width
+    feed-at = up-to-after rest ∙ ap (λ n. n + bytesBefore lineFeed (drop n rest)) width
 
   -- or goes on, and is none
   continues : fieldEnds bytes ≡ false → rowOfFields (fieldsOf (lineText rest)) ≡ unreadableRow
@@ -124,24 +124,24 @@ module _ (rest : List ℕ) (word : Token) (f : Fields) (spelt : word ≡ wordAt 
 
   pub fields-unread : f .readable ≡ false → unreadableLine rest ≡ nextRow rest
   unfolding unreadableLine nextRow
-  fields-unread r = ap (λ q. record { row = q; consumed = firstBytes (linesOf rest) }) (sym (go (decided (hasFeed rest)) (decided (fieldEnds bytes))))
+  fields-unread r = ap (λ q. record { row = q; consumed = firstBytes (linesOf rest) }) (sym (go (decided (hasLineFeed rest)) (decided (fieldEnds bytes))))
     where
-      go : (hasFeed rest ≡ true) ⊎ (hasFeed rest ≡ false) → (fieldEnds bytes ≡ true) ⊎ (fieldEnds bytes ≡ false) → firstRow (linesOf rest) ≡ unreadableRow
+      go : (hasLineFeed rest ≡ true) ⊎ (hasLineFeed rest ≡ false) → (fieldEnds bytes ≡ true) ⊎ (fieldEnds bytes ≡ false) → firstRow (linesOf rest) ≡ unreadableRow
       go (inr none) e = unended-row rest none
       go (inl fd) (inr e) = ended-row rest fd ∙ continues e
       go (inl fd) (inl e) = ended-row rest fd ∙ ap rowOfFields (parted e) ∙ are-unreadable _ fields _ f read-there letters (and-join e (sym (fed e) ∙ fd)) r
 
   module _ (r : f .readable ≡ true) where
-    facts : Readable (fieldEnds bytes && hasFeed bytes) fields (length letters + lengthUpTo lineFeed bytes) f
+    facts : Readable (fieldEnds bytes && hasLineFeed bytes) fields (length letters + bytesBefore lineFeed bytes) f
     facts = are-readable _ fields _ f read-there r
 
     ends : fieldEnds bytes ≡ true
-    ends = and-both (fieldEnds bytes) (hasFeed bytes) (facts .before-feed) .0
+    ends = and-both (fieldEnds bytes) (hasLineFeed bytes) (facts .before-feed) .0
 
-    has : hasFeed rest ≡ true
-    has = fed ends ∙ and-both (fieldEnds bytes) (hasFeed bytes) (facts .before-feed) .1
+    has : hasLineFeed rest ≡ true
+    has = fed ends ∙ and-both (fieldEnds bytes) (hasLineFeed bytes) (facts .before-feed) .1
 
-    at-feed : f .end ≡ lengthUpTo lineFeed rest
+    at-feed : f .end ≡ bytesBefore lineFeed rest
     at-feed = facts .ended ∙ sym (feed-at ends)
 
     pub count-fits : f .count ≤ maxFields

@@ -1,4 +1,4 @@
--- Lines that a head counts: how many bytes they take, and the room that keeps their fields.
+-- Lines that a head counts: how many bytes they take, and the buffer that keeps their fields.
 use Prim.Native.Nat.{ℕ, zero, suc, _+_, _*_, _/_}
 use mathlib.Core.List.{List, _++_, map}
 use lib.ListN.{length, take, drop, set}
@@ -24,27 +24,27 @@ countedOf kind n script = record { complete = counted kind n (rowsCounted n scri
 unfoldable pub withField : ℕ → List Row → List ℕ → List ℕ
 withField k rows numbers = map (field k) rows ++ drop (length rows) numbers
 
--- Lines are kept in one room: a column to each of a row's first five fields, one column after another, all of one length.
+-- Lines are kept in one buffer: a column to each of a row's first five fields, one column after another, all of one length.
 abbrev pub keptFields : ℕ
 keptFields = 5
 
 unfoldable pub columnLength : List ℕ → ℕ
-columnLength room = length room / keptFields
+columnLength buffer = length buffer / keptFields
 
--- so many columns of length n in a room, from that of field j on, with a field of each row in front of each
+-- so many columns of length n in a buffer, from that of field j on, with a field of each row in front of each
 unfoldable pub columnsWith : ℕ → ℕ → ℕ → List Row → List ℕ → List ℕ
-columnsWith zero j n rows room = room
-columnsWith (suc more) j n rows room = withField j rows (take n room) ++ columnsWith more (suc j) n rows (drop n room)
+columnsWith zero j n rows buffer = buffer
+columnsWith (suc more) j n rows buffer = withField j rows (take n buffer) ++ columnsWith more (suc j) n rows (drop n buffer)
 
--- the room that keeps these rows
-unfoldable pub roomWith : List Row → List ℕ → List ℕ
-roomWith rows room = columnsWith keptFields 0 (columnLength room) rows room
+-- the buffer that keeps these rows
+unfoldable pub bufferWith : List Row → List ℕ → List ℕ
+bufferWith rows buffer = columnsWith keptFields 0 (columnLength buffer) rows buffer
 
--- so many columns of a room, from that of field j on, with the fields of one row at place k of each
+-- so many columns of a buffer, from that of field j on, with the fields of one row at place k of each
 unfoldable pub columnsPut : ℕ → ℕ → ℕ → ℕ → Row → List ℕ → List ℕ
-columnsPut zero j n k r room = room
-columnsPut (suc more) j n k r room = set (take n room) k (field j r) ++ columnsPut more (suc j) n k r (drop n room)
+columnsPut zero j n k r buffer = buffer
+columnsPut (suc more) j n k r buffer = set (take n buffer) k (field j r) ++ columnsPut more (suc j) n k r (drop n buffer)
 
--- a column of a room, as far as lines are kept in it
+-- a column of a buffer, as far as lines are kept in it
 unfoldable pub columnOf : ℕ → ℕ → List ℕ → List ℕ
-columnOf j count room = take count (drop (j * columnLength room) room)
+columnOf j count buffer = take count (drop (j * columnLength buffer) buffer)

@@ -16,14 +16,14 @@ use Rattle.lines.specs.Text.{lineFeed, comma, Line, ended, unended, line
 use Rattle.lines.specs.Rows.{maxFields, allNumbers, unreadableRow, rowOf}
 
 -- how many bytes stand before the first that is the stop, all of them if none is
-unfoldable pub lengthUpTo : ℕ → List ℕ → ℕ
-lengthUpTo stop [] = 0
-lengthUpTo stop (b ∷ bytes) = cond (eqb b stop) 0 (suc (lengthUpTo stop bytes))
+unfoldable pub bytesBefore : ℕ → List ℕ → ℕ
+bytesBefore stop [] = 0
+bytesBefore stop (b ∷ bytes) = cond (eqb b stop) 0 (suc (bytesBefore stop bytes))
 
 -- how many bytes are LF
-unfoldable pub feedsIn : List ℕ → ℕ
-feedsIn [] = 0
-feedsIn (b ∷ bytes) = cond (eqb b lineFeed) (suc (feedsIn bytes)) (feedsIn bytes)
+unfoldable pub lineFeedsIn : List ℕ → ℕ
+lineFeedsIn [] = 0
+lineFeedsIn (b ∷ bytes) = cond (eqb b lineFeed) (suc (lineFeedsIn bytes)) (lineFeedsIn bytes)
 
 -- the most bytes whose LFs are counted together
 abbrev pub chunkBytes : ℕ
@@ -37,7 +37,7 @@ numeral field = cond (isNumber field) (Value (valueOf field)) Invalid
 unfoldable pub readingLimit : ℕ → ℕ → ℕ → ℕ
 readingLimit length from most = cond (ltb most (length - from)) (from + most) length
 
--- the bytes of a test that others start with, at most so many
+-- the bytes at the start that pass a test, at most so many
 unfoldable pub leading : (ℕ → Bool) → ℕ → List ℕ → List ℕ
 leading test most [] = []
 leading test zero (b ∷ bytes) = []
@@ -65,15 +65,15 @@ fieldsAfter (b ∷ bytes) = fieldsOf bytes
 
 -- the bytes of the first line, its LF not among them
 unfoldable pub lineText : List ℕ → List ℕ
-lineText bytes = take (lengthUpTo lineFeed bytes) bytes
+lineText bytes = take (bytesBefore lineFeed bytes) bytes
 
 -- a field has ended where nothing is left, or at a comma or an LF
 unfoldable pub fieldEnds : List ℕ → Bool
 fieldEnds [] = true
 fieldEnds (b ∷ bytes) = eqb b comma || eqb b lineFeed
 
-unfoldable pub hasFeed : List ℕ → Bool
-hasFeed bytes = anyOf bytes (λ b. eqb b lineFeed)
+unfoldable pub hasLineFeed : List ℕ → Bool
+hasLineFeed bytes = anyOf bytes (λ b. eqb b lineFeed)
 
 unfoldable pub noFields : Fields
 noFields = record { readable = false; count = 0; numbers = tabulate maxFields (λ k. 0); end = 0 }
@@ -87,7 +87,7 @@ fieldsIf readable fields end =
 
 -- the fields from a place on, where a word has ended, if an LF ends their line
 unfoldable pub fieldsRead : ℕ → List ℕ → Fields
-fieldsRead start bytes = fieldsIf (fieldEnds bytes && hasFeed bytes) (fieldsAfter (lineText bytes)) (start + lengthUpTo lineFeed bytes)
+fieldsRead start bytes = fieldsIf (fieldEnds bytes && hasLineFeed bytes) (fieldsAfter (lineText bytes)) (start + bytesBefore lineFeed bytes)
 
 -- the row of the first line; where there is none, that of a line that cannot be read
 unfoldable pub firstRow : List Line → Row

@@ -10,8 +10,8 @@ use Rattle.lines.specs.declared.rows.Row.{Row}
 use Rattle.lines.specs.Text.{bytesOf, Line, ended, unended, linesOf, fieldsOf, isNumber, valueOf}
 
 -- the kinds of lines; 0 is a line that cannot be read
-abbrev pub unreadable : ℕ
-unreadable = 0
+abbrev pub unreadableKind : ℕ
+unreadableKind = 0
 
 abbrev pub bookLine : ℕ
 bookLine = 1
@@ -103,7 +103,7 @@ sameBytes (x ∷ xs) (y ∷ ys) = eqb x y && sameBytes xs ys
 
 -- the kind of a line of this word, with so many fields, among some forms
 unfoldable pub kindAmong : List ℕ → ℕ → List Form → ℕ
-kindAmong word count [] = unreadable
+kindAmong word count [] = unreadableKind
 kindAmong word count (form known fields kind ∷ later) = cond (sameBytes word (bytesOf known) && eqb fields count) kind (kindAmong word count later)
 
 -- a line of another word or count of fields is unreadable
@@ -123,11 +123,11 @@ unfoldable pub row : ℕ → List ℕ → Row
 row kind numbers = record { kind = kind; fields = tabulate maxFields (λ k. getD numbers k 0) }
 
 unfoldable pub unreadableRow : Row
-unreadableRow = row unreadable []
+unreadableRow = row unreadableKind []
 
 -- a row of a kind, none where that is unreadable
 unfoldable pub rowIf : ℕ → List ℕ → Row
-rowIf kind numbers = cond (eqb kind unreadable) unreadableRow (row kind numbers)
+rowIf kind numbers = cond (eqb kind unreadableKind) unreadableRow (row kind numbers)
 
 -- the word and the fields after it
 unfoldable pub rowOfFields : List (List ℕ) → Row
@@ -146,11 +146,12 @@ rowsOf script = map rowOf (linesOf script)
 unfoldable pub field : ℕ → Row → ℕ
 field k r = getD (r .fields) k 0
 
--- as many lines as were counted, all of one kind
+-- every row is of this kind
 unfoldable pub allOfKind : ℕ → List Row → Bool
 allOfKind kind [] = true
 allOfKind kind (r ∷ rows) = eqb (r .kind) kind && allOfKind kind rows
 
+-- as many lines as were counted, all of one kind
 unfoldable pub counted : ℕ → ℕ → List Row → Bool
 counted kind n lines = eqb (length lines) n && allOfKind kind lines
 

@@ -1,9 +1,9 @@
 // The lines that a book head counts, read one kind after another (01, Script and host).
 use crate::lines::next_row;
-use crate::rows::HOLDER;
-use crate::rows::PATH;
+use crate::rows::HOLDER_LINE;
+use crate::rows::PATH_LINE;
 use crate::rows::Row;
-use crate::rows::SINK;
+use crate::rows::SINK_LINE;
 use tariff::sizes::MAX_PLACES;
 ghost use mathlib.Core.Path.{_≡_};
 ghost use Rattle.tariff.specs.Sizes.{maxPlaces};
@@ -82,11 +82,11 @@ pub fn read_book_lines(rest: &[u8], head: Row) -> BookLists
     ensures { λ r. ⌜ r ≡ bookListsOf head (now (rest .entry)) ⌝ }
 {
     let fields = head.fields;
-    let holders = read_pairs(rest, HOLDER, fields[0]);
+    let holders = read_pairs(rest, HOLDER_LINE, fields[0]);
     let at_sinks = holders.consumed;
-    let sinks = read_pairs(&rest[at_sinks..], SINK, fields[2]);
+    let sinks = read_pairs(&rest[at_sinks..], SINK_LINE, fields[2]);
     let at_paths = at_sinks + sinks.consumed;
-    let paths = read_pairs(&rest[at_paths..], PATH, fields[3]);
+    let paths = read_pairs(&rest[at_paths..], PATH_LINE, fields[3]);
     let holder_kinds = holders.firsts;
     let sink_kinds = sinks.firsts;
     let sink_parents = sinks.seconds;

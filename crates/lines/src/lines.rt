@@ -1,6 +1,6 @@
 // The lines of a script, read one after another (01, Script and host).
 use crate::rows::Row;
-use crate::rows::UNREADABLE;
+use crate::rows::UNREADABLE_KIND;
 use crate::rows::read_fields;
 use crate::rows::unreadable_row;
 use crate::text::line_length;
@@ -43,7 +43,7 @@ pub fn next_row(rest: &[u8]) -> NextRow
         return unreadable_line(rest);
     }
     let kind = kind_of(word.value, fields.count);
-    if kind == UNREADABLE {
+    if kind == UNREADABLE_KIND {
         return unreadable_line(rest);
     }
     let numbers = fields.numbers;

@@ -7,43 +7,43 @@ ghost use Rattle.lines.specs.Rows.{unreadableRow};
 ghost use Rattle.lines.specs.Reading.{fieldsRead, noFields};
 
 // The kinds of lines. 0 is a line that cannot be read.
-pub const UNREADABLE: u64 = 0;
+pub const UNREADABLE_KIND: u64 = 0;
 
-pub const BOOK: u64 = 1;
+pub const BOOK_LINE: u64 = 1;
 
-pub const HOLDER: u64 = 2;
+pub const HOLDER_LINE: u64 = 2;
 
-pub const SINK: u64 = 3;
+pub const SINK_LINE: u64 = 3;
 
-pub const PATH: u64 = 4;
+pub const PATH_LINE: u64 = 4;
 
-pub const LOAD: u64 = 5;
+pub const LOAD_LINE: u64 = 5;
 
-pub const BLOCK: u64 = 6;
+pub const BLOCK_LINE: u64 = 6;
 
-pub const CARRY: u64 = 7;
+pub const CARRY_LINE: u64 = 7;
 
-pub const PRIOR: u64 = 8;
+pub const PRIOR_LINE: u64 = 8;
 
-pub const VERIFY: u64 = 9;
+pub const VERIFY_LINE: u64 = 9;
 
-pub const MIGRATE: u64 = 10;
+pub const MIGRATE_LINE: u64 = 10;
 
-pub const CLASS: u64 = 11;
+pub const CLASS_LINE: u64 = 11;
 
-pub const OPEN: u64 = 12;
+pub const OPEN_LINE: u64 = 12;
 
-pub const NOMINATE: u64 = 13;
+pub const NOMINATE_LINE: u64 = 13;
 
-pub const AWARD: u64 = 14;
+pub const AWARD_LINE: u64 = 14;
 
-pub const CLOSE: u64 = 15;
+pub const CLOSE_LINE: u64 = 15;
 
-pub const LIMIT: u64 = 16;
+pub const LIMIT_LINE: u64 = 16;
 
-pub const HELD: u64 = 17;
+pub const HELD_LINE: u64 = 17;
 
-pub const NET: u64 = 18;
+pub const NET_LINE: u64 = 18;
 
 const COMMA: u8 = b',';
 
@@ -69,7 +69,7 @@ pub fn unreadable_row() -> Row
     ensures { λ r. ⌜ r ≡ unreadableRow ⌝ }
 {
     Row {
-        kind: UNREADABLE,
+        kind: UNREADABLE_KIND,
         fields: [0u64; MAX_FIELDS],
     }
 }

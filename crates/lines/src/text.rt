@@ -3,7 +3,7 @@ ghost use mathlib.Core.Path.{_≡_};
 ghost use Prim.Native.Nat.{_≤_};
 ghost use lib.ListN.{length, drop};
 ghost use Rattle.lines.specs.Text.{lineFeed, linesOf};
-ghost use Rattle.lines.specs.Reading.{chunkBytes, feedsIn, lengthUpTo, numeral, readingLimit, digitsAt, fieldAt, noField};
+ghost use Rattle.lines.specs.Reading.{chunkBytes, lineFeedsIn, bytesBefore, numeral, readingLimit, digitsAt, fieldAt, noField};
 
 // The most bytes that a run takes.
 pub const MAX_BYTES: usize = 65536;
@@ -43,7 +43,7 @@ pub struct Field {
 
 // How many bytes stand before the first that is `stop`: all of them if none is.
 pub fn bytes_before(rest: &[u8], stop: u8) -> usize
-    ensures { λ r. ⌜ r ≡ lengthUpTo stop (now (rest .entry)) ⌝ }
+    ensures { λ r. ⌜ r ≡ bytesBefore stop (now (rest .entry)) ⌝ }
 {
     let mut i = 0;
     while i < rest.len() {
@@ -57,15 +57,15 @@ pub fn bytes_before(rest: &[u8], stop: u8) -> usize
 
 // How many bytes stand before the first LF.
 pub fn line_length(rest: &[u8]) -> usize
-    ensures { λ r. ⌜ r ≡ lengthUpTo lineFeed (now (rest .entry)) ⌝ }
+    ensures { λ r. ⌜ r ≡ bytesBefore lineFeed (now (rest .entry)) ⌝ }
 {
     bytes_before(rest, LINE_FEED)
 }
 
 // How many of a few bytes are LF. The count takes one byte, so that many are compared at once.
-fn feeds_in(chunk: &[u8]) -> u8
+fn line_feeds_in(chunk: &[u8]) -> u8
     requires { ⌜ length (now chunk) ≤ chunkBytes ⌝ }
-    ensures { λ r. ⌜ r ≡ feedsIn (now (chunk .entry)) ⌝ }
+    ensures { λ r. ⌜ r ≡ lineFeedsIn (now (chunk .entry)) ⌝ }
 {
     let mut feeds: u8 = 0;
     let mut i = 0;
@@ -79,16 +79,16 @@ fn feeds_in(chunk: &[u8]) -> u8
 }
 
 // How many bytes of a script are LF: whole chunks, and what is left.
-fn count_feeds(script: &[u8]) -> u64
-    ensures { λ r. ⌜ r ≡ feedsIn (now (script .entry)) ⌝ }
+fn count_line_feeds(script: &[u8]) -> u64
+    ensures { λ r. ⌜ r ≡ lineFeedsIn (now (script .entry)) ⌝ }
 {
     let mut feeds: u64 = 0;
     let mut i = 0;
     while CHUNK_BYTES <= script.len() - i {
-        feeds += feeds_in(&script[i..i + CHUNK_BYTES]) as u64;
+        feeds += line_feeds_in(&script[i..i + CHUNK_BYTES]) as u64;
         i += CHUNK_BYTES;
     }
-    feeds + feeds_in(&script[i..]) as u64
+    feeds + line_feeds_in(&script[i..]) as u64
 }
 
 // How many lines a script has: one to each LF, and one more if bytes follow the last LF.
@@ -99,7 +99,7 @@ pub fn count_lines(script: &[u8]) -> u64
     if length == 0 {
         return 0;
     }
-    let feeds = count_feeds(script);
+    let feeds = count_line_feeds(script);
     if script[length - 1] == LINE_FEED {
         return feeds;
     }

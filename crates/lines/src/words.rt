@@ -1,5 +1,5 @@
 // The words that lines begin with, and the kinds of lines that they say (01, Script and host).
-use crate::rows::UNREADABLE;
+use crate::rows::UNREADABLE_KIND;
 use crate::text::Token;
 use crate::text::reading_limit;
 ghost use mathlib.Core.Path.{_≡_};
@@ -93,5 +93,5 @@ pub fn kind_of(key: u64, count: u64) -> u64
         }
         k += 1;
     }
-    UNREADABLE
+    UNREADABLE_KIND
 }

@@ -17,7 +17,7 @@ use Rattle.ledger.specs.Effects.{same3}
 use Rattle.slots.specs.Cells.{HasCell, readAt, storedAt, Shows}
 use Rattle.slots.specs.Layout.{figureSlots, lastClosedAt, figureCount}
 use Rattle.slots.proofs.CellLaws.{shows-stored, shows-agree}
-use Rattle.migrate.specs.Columns.{HasColumn, inColumn, columnAt, columnStored, Transferred}
+use Rattle.migrate.specs.Columns.{HasColumn, inColumn, columnAt, columnStored, ColumnTransfer}
 
 -- what stands in a column
 pub column-holder : (f : List ℕ) (p slot i : ℕ) → i < 8 → holderAt (columnAt f p slot) i ≡ inColumn f p slot i
@@ -84,15 +84,15 @@ self-shown f long =
     }
 
 -- a transferred array is as long as it was
-pub transferred-long : (column : ℕ → ℕ → (ℕ → ℕ) → ℕ → ℕ) (f f′ : List ℕ) → length f ≡ figureCount → Transferred column f f′ → length f′ ≡ figureCount
+pub transferred-long : (column : ℕ → ℕ → (ℕ → ℕ) → ℕ → ℕ) (f f′ : List ℕ) → length f ≡ figureCount → ColumnTransfer column f f′ → length f′ ≡ figureCount
 transferred-long column f f′ long t = let s = t (readAt figureSlots 0 f) (drop lastClosedAt f) (self-shown f long) in let a = s .sized in let b = self-shown f long .sized in omega arith
 
 -- and what stands in its columns is known
-pub transferred-read : (column : ℕ → ℕ → (ℕ → ℕ) → ℕ → ℕ) (f f′ : List ℕ) → length f ≡ figureCount → Transferred column f f′ → (h p slot : ℕ) → HasCell figureSlots h p slot → readAt figureSlots 0 f′ h p slot ≡ column p slot (inColumn f p slot) h
+pub transferred-read : (column : ℕ → ℕ → (ℕ → ℕ) → ℕ → ℕ) (f f′ : List ℕ) → length f ≡ figureCount → ColumnTransfer column f f′ → (h p slot : ℕ) → HasCell figureSlots h p slot → readAt figureSlots 0 f′ h p slot ≡ column p slot (inColumn f p slot) h
 transferred-read column f f′ long t h p slot c = t (readAt figureSlots 0 f) (drop lastClosedAt f) (self-shown f long) .each h p slot c
 
 -- one transfer after another
-pub transferred-then : (first second both : ℕ → ℕ → (ℕ → ℕ) → ℕ → ℕ) (f one two : List ℕ) → ((p slot h : ℕ) (v : ℕ → ℕ) → HasCell figureSlots h p slot → second p slot (first p slot v) h ≡ both p slot v h) → Transferred first f one → Transferred second one two → Transferred both f two
+pub transferred-then : (first second both : ℕ → ℕ → (ℕ → ℕ) → ℕ → ℕ) (f one two : List ℕ) → ((p slot h : ℕ) (v : ℕ → ℕ) → HasCell figureSlots h p slot → second p slot (first p slot v) h ≡ both p slot v h) → ColumnTransfer first f one → ColumnTransfer second one two → ColumnTransfer both f two
 transferred-then first second both f one two same a b g rest s =
     shows-agree figureSlots 0 _ (λ h p slot. both p slot (λ i. g i p slot) h) two rest
     (b (λ h p slot. first p slot (λ i. g i p slot) h) rest (a g rest s))

@@ -28,13 +28,13 @@ use Rattle.ledger.proofs.TierFacts.{MigrateFacts}
 use Rattle.ledger.proofs.Outside.{awarded-outside, netted-outside}
 use Rattle.records.specs.Opening.{openingIn}
 use Rattle.slots.specs.Cells.{readAt}
-use Rattle.slots.specs.Layout.{loadSlot, priorSlot, priorRemainingSlot, carriedSlot, awardedSlot, nominatedSlot, figureSlots, ledgerIn}
+use Rattle.slots.specs.Layout.{loadSlot, priorAllocatedSlot, priorRemainingSlot, carriedSlot, awardedSlot, nominatedSlot, figureSlots, ledgerIn}
 use Rattle.slots.specs.Steps.{Reachable}
 use Rattle.slots.proofs.Reachable.{bases-known, known, counts, fits, figures-long}
 use Rattle.slots.proofs.Figures.{by-number, from-zero}
 use Rattle.migrate.specs.declared.transfers.Transfer.{Transfer}
-use Rattle.migrate.specs.Columns.{inColumn, Transferred}
-use Rattle.migrate.specs.Transfers.{loadColumn, shareColumn, columnWhere, loadAt, Covered, ColumnFits, RightsFit}
+use Rattle.migrate.specs.Columns.{inColumn, ColumnTransfer}
+use Rattle.migrate.specs.Transfers.{loadColumn, shareColumn, columnWhere, loadAt, LossesWithinLoads, ColumnFits, RightsFit}
 use Rattle.migrate.specs.Lines.{transferOf}
 use Rattle.migrate.proofs.ColumnLaws.{transferred-read}
 use Rattle.migrate.proofs.WhereLaws.{where-off, where-long}
@@ -42,7 +42,7 @@ use Rattle.migrate.proofs.MovingLaws.{moving-slot}
 use Rattle.migrate.proofs.LineCauses.{line-count, lines-fit, m-of-lines, load-before}
 
 -- a load stands in a lower slot than any right
-pub no-load : (term sink p slot : ℕ) → term ≤ lastTerm → priorSlot ≤ slot → loadAt term sink p slot ≡ false
+pub no-load : (term sink p slot : ℕ) → term ≤ lastTerm → priorAllocatedSlot ≤ slot → loadAt term sink p slot ≡ false
 unfolding loadAt
 no-load term sink p slot few low = and-right-false (eqb p sink) (ne-eqb slot (loadSlot + term) (λ q. omega (arith, q)))
 
@@ -75,7 +75,7 @@ module _ (o f : List ℕ) (m : List Bool) (e : List Entry) (r : Reachable o f m 
   load-is : (i : ℕ) → i < 8 → holderAt (x .load) i ≡ loadBefore L term sink i
   load-is i l = load-before froms tos classes customers watts o f term sink x refl few m e inSinks (facts .termInRange) i l
 
-  pub covered : Covered x
+  pub covered : LossesWithinLoads x
   unfolding transferOf lostBy loadSum loadBefore
   covered =
       record {
@@ -108,14 +108,14 @@ module _ (o f : List ℕ) (m : List Bool) (e : List Entry) (r : Reachable o f m 
       go O cs (inl t) inside = inside (ltb-true p (O .paths) t)
       go O cs (inr t) inside = le-trans (le-of-eq (awarded-outside O p k (ltb-false p (O .paths) t) cs)) zero-le
 
-  columns-fit : (p slot : ℕ) → p < 16 → priorSlot ≤ slot → slot < nominatedSlot → ColumnFits x (inColumn f p slot)
+  columns-fit : (p slot : ℕ) → p < 16 → priorAllocatedSlot ≤ slot → slot < nominatedSlot → ColumnFits x (inColumn f p slot)
   unfolding ledgerIn carriedSum awardedSum
   columns-fit p slot place low high = go (decided (ltb slot priorRemainingSlot)) (decided (ltb slot carriedSlot)) (decided (ltb slot awardedSlot))
     where
       go : (ltb slot priorRemainingSlot ≡ true) ⊎ (ltb slot priorRemainingSlot ≡ false) → (ltb slot carriedSlot ≡ true) ⊎ (ltb slot carriedSlot ≡ false) → (ltb slot awardedSlot ≡ true) ⊎ (ltb slot awardedSlot ≡ false) → ColumnFits x (inColumn f p slot)
       go (inl a) b c =
           let l = ltb-true slot priorRemainingSlot a in
-          together p slot (λ i. L .priors .allocated i p) maxTogether (λ i k. ap (readAt figureSlots 0 f i p) (let s : slot ≡ priorSlot + 0 = omega arith in s) ∙ from-zero f priorSlot 1 i p 0 k place (omega arith)) (fits o f m e r .allocatedFit p) (omega arith)
+          together p slot (λ i. L .priors .allocated i p) maxTogether (λ i k. ap (readAt figureSlots 0 f i p) (let s : slot ≡ priorAllocatedSlot + 0 = omega arith in s) ∙ from-zero f priorAllocatedSlot 1 i p 0 k place (omega arith)) (fits o f m e r .allocatedFit p) (omega arith)
       go (inr a) (inl b) c =
           let l = ltb-true slot carriedSlot b in
           let g = ltb-false slot priorRemainingSlot a in
@@ -129,7 +129,7 @@ module _ (o f : List ℕ) (m : List Bool) (e : List Entry) (r : Reachable o f m 
           together p slot (λ i. L .rights .awarded i p (slot + 1 - awardedSlot)) (10 * maxTogether) (λ i k. ap (readAt figureSlots 0 f i p) (let s : slot ≡ awardedSlot + (slot + 1 - awardedSlot - 1) = omega arith in s) ∙ by-number f awardedSlot lastMonth i p (slot + 1 - awardedSlot) k place 1 (omega arith) (omega arith)) (awarded-sum p (slot + 1 - awardedSlot)) (omega arith)
 
   -- the loads are transferred, and the rights are as they were
-  pub rights-fit : (next : List ℕ) → Transferred (columnWhere (loadAt term sink) (loadColumn x)) f next → RightsFit o next term sink x
+  pub rights-fit : (next : List ℕ) → ColumnTransfer (columnWhere (loadAt term sink) (loadColumn x)) f next → RightsFit o next term sink x
   rights-fit next a p place =
       record {
         long = where-long (loadColumn x) (loadAt term sink) f next (figures-long o f m e r) a;
@@ -140,7 +140,7 @@ module _ (o f : List ℕ) (m : List Bool) (e : List Entry) (r : Reachable o f m 
         fits = λ slot high on. let low = moving-slot O term sink p slot (facts .termInRange) on in le-trans (le-of-eq (sum-ext {f = inColumn next p slot} {g = inColumn f p slot} (x .holders) (λ i l. as-it-was slot (low .0) (low .1) i (let n = covered .few in omega arith)))) (columns-fit p slot place (low .0) (low .1));
       }
     where
-      as-it-was : (slot : ℕ) → priorSlot ≤ slot → slot < nominatedSlot → (i : ℕ) → i < 8 → inColumn next p slot i ≡ inColumn f p slot i
+      as-it-was : (slot : ℕ) → priorAllocatedSlot ≤ slot → slot < nominatedSlot → (i : ℕ) → i < 8 → inColumn next p slot i ≡ inColumn f p slot i
       as-it-was slot low high i l =
           transferred-read (columnWhere (loadAt term sink) (loadColumn x)) f next (figures-long o f m e r) a i p slot (record { holder = l; place = place; inRow = omega arith })
           ∙ where-off (loadColumn x) (loadAt term sink) p slot (inColumn f p slot) i (no-load term sink p slot (facts .termInRange) low)

@@ -8,19 +8,19 @@ use native.Mathlib.Omega.{arith}
 use lib.Dec.{ltb}
 use borrow.Author.Tests.{ltb-true, ltb-false}
 use Rattle.tariff.proofs.Tests.{decided}
-use Rattle.slots.specs.Groups.{Group, group, slotsOf, inSlot}
+use Rattle.slots.specs.Groups.{SlotGroup, slotGroup, slotsOf, inSlot}
 
 -- a group whose figure changes
 pub data Change : Type 0 where
   change : (count low : ℕ) (old new : ℕ → ℕ → ℕ → ℕ) → Change
 
-unfoldable pub before : List Change → List (Group ℕ)
+unfoldable pub before : List Change → List (SlotGroup ℕ)
 before [] = []
-before (change count low old new ∷ later) = group count low old ∷ before later
+before (change count low old new ∷ later) = slotGroup count low old ∷ before later
 
-unfoldable pub afterwards : List Change → List (Group ℕ)
+unfoldable pub afterwards : List Change → List (SlotGroup ℕ)
 afterwards [] = []
-afterwards (change count low old new ∷ later) = group count low new ∷ afterwards later
+afterwards (change count low old new ∷ later) = slotGroup count low new ∷ afterwards later
 
 module _ (column : ℕ → ℕ → (ℕ → ℕ) → ℕ → ℕ) (h p : ℕ) where
   -- each figure is put through the function of its slot; the first group's slots begin at `from`

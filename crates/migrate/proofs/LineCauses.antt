@@ -25,13 +25,13 @@ use Rattle.netting.proofs.FitLines.{counted}
 use Rattle.ledger.specs.Opening.{Opening}
 use Rattle.ledger.specs.Ranges.{unknownHolder, unknownHolderIn, migrationOutOfRange}
 use Rattle.ledger.specs.Migration.{loadBefore}
-use Rattle.ledger.specs.Causes.{lineNotBetweenLses, losesTooMuch}
+use Rattle.ledger.specs.Causes.{lineNotBetweenLses, lossExceedsLoad}
 use Rattle.ledger.proofs.SumBounds.{watts-fit}
 use Rattle.migrate.specs.declared.transfers.Transfer.{Transfer}
 use Rattle.records.specs.Opening.{openingIn}
 use Rattle.slots.specs.Layout.{loadSlot, ledgerIn}
 use Rattle.slots.proofs.Figures.{from-zero}
-use Rattle.migrate.specs.Lines.{unknownAt, outOfRangeAt, notBetweenAt, transferOf}
+use Rattle.migrate.specs.Lines.{unknownAt, outOfRangeAt, notBetweenLsesAt, transferOf}
 use Rattle.migrate.proofs.ColumnLaws.{column-holder}
 
 -- tests that agree below n
@@ -62,8 +62,8 @@ module _ (froms tos classes customers watts : List ℕ) where
   unfolding unknownHolderIn classLinesOf unknownAt
   unknown-cause o = sym (any-tabulate (length froms) (classLineAt froms tos classes customers watts) (λ l. unknownHolder o (l .from) || unknownHolder o (l .to)))
 
-  pub between-cause : (o : Opening) → anyBelow (length froms) (notBetweenAt o froms tos) ≡ anyOf lines (lineNotBetweenLses o)
-  unfolding lineNotBetweenLses classLinesOf notBetweenAt
+  pub between-cause : (o : Opening) → anyBelow (length froms) (notBetweenLsesAt o froms tos) ≡ anyOf lines (lineNotBetweenLses o)
+  unfolding lineNotBetweenLses classLinesOf notBetweenLsesAt
   between-cause o = sym (any-tabulate (length froms) (classLineAt froms tos classes customers watts) (lineNotBetweenLses o))
 
   range-of-lines : length classes ≡ length froms → anyBelow (length classes) (outOfRangeAt classes customers watts) ≡ anyOf lines classLineOutOfRange
@@ -135,8 +135,8 @@ module _ (froms tos classes customers watts : List ℕ) where
       unfolding transferOf loadBefore ledgerIn
       load-before i l = ap (λ y. holderAt (y .load) i) is ∙ column-holder f sink (loadSlot + term) i l ∙ from-zero f loadSlot terms i sink term l inSinks (omega arith)
 
-      pub loss-cause : linesFit froms tos classes customers watts ≡ true → anyBelow (x .holders) (λ i. ltb (holderAt (x .load) i) (sumTo (x .holders) (λ j. pairAt (x .m) i j))) ≡ losesTooMuch (openingIn o) (ledgerIn f m e) term sink lines
-      unfolding transferOf losesTooMuch lostBy
+      pub loss-cause : linesFit froms tos classes customers watts ≡ true → anyBelow (x .holders) (λ i. ltb (holderAt (x .load) i) (sumTo (x .holders) (λ j. pairAt (x .m) i j))) ≡ lossExceedsLoad (openingIn o) (ledgerIn f m e) term sink lines
+      unfolding transferOf lossExceedsLoad lostBy
       loss-cause fit =
           ap (λ n. anyBelow n (λ i. ltb (holderAt (x .load) i) (sumTo n (λ j. pairAt (x .m) i j)))) (ap (λ y. y .holders) is)
           ∙ any-ext (openingIn o .holders) (λ i. ltb (holderAt (x .load) i) (sumTo (openingIn o .holders) (λ j. pairAt (x .m) i j))) (λ i. ltb (loadBefore (ledgerIn f m e) term sink i) (sumTo (openingIn o .holders) (λ j. netted lines i j)))

@@ -24,7 +24,7 @@ use Rattle.ledger.specs.Ranges.{unknownSink, unknownHolderIn, migrationOutOfRan
 use Rattle.ledger.specs.Calendar.{tierIsOpen, beforeTier, migrationInTime}
 use Rattle.ledger.specs.Numbers.{unreadable, notInBook, outOfRange, notAtThisTime, notBetweenLses, lossAboveLoad, cause, firstMet}
 use Rattle.ledger.specs.Call.{migrate}
-use Rattle.ledger.specs.Causes.{migrateCauses, callCauses, refusal, losesTooMuch}
+use Rattle.ledger.specs.Causes.{migrateCauses, callCauses, refusal, lossExceedsLoad}
 use Rattle.ledger.specs.Effects.{effect}
 use Rattle.ledger.specs.Migration.{migrated, loadsAfter, rightsAfter, priorsAfter}
 use Rattle.ledger.proofs.Unmet.{unmet}
@@ -39,9 +39,9 @@ use Rattle.slots.specs.Steps.{Reachable, Steps, StepsIf}
 use Rattle.slots.proofs.Reachable.{counts, figures-long, figures-known, posted-known, evidence-known}
 use Rattle.slots.proofs.StepLaws.{accepted-test, steps-accepted, steps-refused}
 use Rattle.migrate.specs.declared.transfers.Transfer.{Transfer}
-use Rattle.migrate.specs.Columns.{HasColumn, columnAt, Transferred}
-use Rattle.migrate.specs.Transfers.{loadColumn, shareColumn, movesAt, columnWhere, loadAt, Covered, RightsFit}
-use Rattle.migrate.specs.Lines.{earlyCauses, unknownAt, outOfRangeAt, notBetweenAt, transferOf}
+use Rattle.migrate.specs.Columns.{HasColumn, columnAt, ColumnTransfer}
+use Rattle.migrate.specs.Transfers.{loadColumn, shareColumn, movesAt, columnWhere, loadAt, LossesWithinLoads, RightsFit}
+use Rattle.migrate.specs.Lines.{earlyCauses, unknownAt, outOfRangeAt, notBetweenLsesAt, transferOf}
 use Rattle.migrate.proofs.LineCauses.{unknown-cause, between-cause, range-cause, in-range, lines-fit, losses-fit, loss-cause}
 use Rattle.migrate.proofs.CoveredLaws.{covered, rights-fit}
 use Rattle.migrate.proofs.MigratedFigures.{figures-migrated}
@@ -60,7 +60,7 @@ module _ (o f : List ℕ) (term sink : ℕ) (froms tos classes customers watts :
   x = transferOf o f term sink froms tos classes customers watts
 
   -- the tests that come before netting
-  pub early-cause : (noSuchSink unknown outOfRangeByTerm lineOutOfRange inTime apart : Bool) (last current r2 r3 r4 r8 : ℕ) → length classes ≡ length froms → noSuchSink ≡ unknownSink O sink → unknown ≡ anyBelow (length froms) (unknownAt O froms tos) → outOfRangeByTerm ≡ termOutOfRange term → lineOutOfRange ≡ anyBelow (length classes) (outOfRangeAt classes customers watts) → last ≡ lastClosedIn f → current ≡ currentTierIn f → inTime ≡ ((not (not (eqb current 0)) && ltb last (firstTierOf term)) && (eqb term 0 || leb lastSeasonTier last)) → apart ≡ anyBelow (length froms) (notBetweenAt O froms tos) → r2 ≡ cond (noSuchSink || unknown) notInBook r3 → r3 ≡ cond ((outOfRangeByTerm || ltb maxClassLines (length froms)) || lineOutOfRange) outOfRange r4 → r4 ≡ cond (not inTime) notAtThisTime r8 → r8 ≡ cond apart notBetweenLses 0 → r2 ≡ firstMet (take earlyCauses (migrateCauses O L term sink lines))
+  pub early-cause : (noSuchSink unknown outOfRangeByTerm lineOutOfRange inTime apart : Bool) (last current r2 r3 r4 r8 : ℕ) → length classes ≡ length froms → noSuchSink ≡ unknownSink O sink → unknown ≡ anyBelow (length froms) (unknownAt O froms tos) → outOfRangeByTerm ≡ termOutOfRange term → lineOutOfRange ≡ anyBelow (length classes) (outOfRangeAt classes customers watts) → last ≡ lastClosedIn f → current ≡ currentTierIn f → inTime ≡ ((not (not (eqb current 0)) && ltb last (firstTierOf term)) && (eqb term 0 || leb lastSeasonTier last)) → apart ≡ anyBelow (length froms) (notBetweenLsesAt O froms tos) → r2 ≡ cond (noSuchSink || unknown) notInBook r3 → r3 ≡ cond ((outOfRangeByTerm || ltb maxClassLines (length froms)) || lineOutOfRange) outOfRange r4 → r4 ≡ cond (not inTime) notAtThisTime r8 → r8 ≡ cond apart notBetweenLses 0 → r2 ≡ firstMet (take earlyCauses (migrateCauses O L term sink lines))
   unfolding migrateCauses migrationInTime beforeTier tierIsOpen ledgerIn
   early-cause noSuchSink unknown outOfRangeByTerm lineOutOfRange inTime apart last current r2 r3 r4 r8 counted ofSink ofUnknown ofTerm ofRange ofLast ofCurrent ofTime ofApart e2 e3 e4 e8 =
       link notInBook _ _ _ e2 (ap₂ (λ a b. a || b) ofSink (ofUnknown ∙ unknown-cause froms tos classes customers watts O))
@@ -80,7 +80,7 @@ module _ (o f : List ℕ) (term sink : ℕ) (froms tos classes customers watts :
     inTerm : term ≤ lastTerm
     short : length froms ≤ maxClassLines
     right : anyOf lines classLineOutOfRange ≡ false
-    later : (r : ℕ) → r ≡ firstMet (cause lossAboveLoad (losesTooMuch O L term sink lines) ∷ []) → r ≡ refusal O L (migrate term sink lines)
+    later : (r : ℕ) → r ≡ firstMet (cause lossAboveLoad (lossExceedsLoad O L term sink lines) ∷ []) → r ≡ refusal O L (migrate term sink lines)
 
   early : firstMet (take earlyCauses (migrateCauses O L term sink lines)) ≡ 0 → Early
   unfolding migrateCauses refusal callCauses unknownSink migrationOutOfRange termOutOfRange
@@ -148,7 +148,7 @@ module _ (o f : List ℕ) (term sink : ℕ) (froms tos classes customers watts :
             losses = losses-fit froms tos classes customers watts o f term sink y is few
 
             module _ (loss : Bool) (lost : loss ≡ anyBelow (y .holders) (λ i. ltb (holderAt (y .load) i) (sumTo (y .holders) (λ j. pairAt (y .m) i j)))) where
-              loses : loss ≡ losesTooMuch O L term sink lines
+              loses : loss ≡ lossExceedsLoad O L term sink lines
               loses = lost ∙ loss-cause froms tos classes customers watts o f term sink y is few m e inSinks (past .inTerm) fit
 
               pub too-much : loss ≡ true → Outcome (Refused lossAboveLoad) f
@@ -161,21 +161,21 @@ module _ (o f : List ℕ) (term sink : ℕ) (froms tos classes customers watts :
                 facts : MigrateFacts O L term sink lines
                 facts = migrate-facts O L term sink lines (accepted-test O L (migrate term sink lines) 0 unrefused refl)
 
-                pub load-needs : HasColumn f sink (loadSlot + term) × Covered y × (y .load ≡ columnAt f sink (loadSlot + term))
+                pub load-needs : HasColumn f sink (loadSlot + term) × LossesWithinLoads y × (y .load ≡ columnAt f sink (loadSlot + term))
                 unfolding transferOf
-                load-needs = (load-there, subst Covered (sym is) (covered o f m e reach term sink froms tos classes customers watts lengths facts), ap (λ z. z .load) is)
+                load-needs = (load-there, subst LossesWithinLoads (sym is) (covered o f m e reach term sink froms tos classes customers watts lengths facts), ap (λ z. z .load) is)
 
-                pub rights-needs : (one : List ℕ) → Transferred (columnWhere (loadAt term sink) (loadColumn y)) f one → RightsFit o one term sink y
-                rights-needs one a = subst (RightsFit o one term sink) (sym is) (rights-fit o f m e reach term sink froms tos classes customers watts lengths facts one (subst (λ z. Transferred (columnWhere (loadAt term sink) (loadColumn z)) f one) is a))
+                pub rights-needs : (one : List ℕ) → ColumnTransfer (columnWhere (loadAt term sink) (loadColumn y)) f one → RightsFit o one term sink y
+                rights-needs one a = subst (RightsFit o one term sink) (sym is) (rights-fit o f m e reach term sink froms tos classes customers watts lengths facts one (subst (λ z. ColumnTransfer (columnWhere (loadAt term sink) (loadColumn z)) f one) is a))
 
                 stay : (postedOf L ≡ postedOf (effect O L (migrate term sink lines))) × (evidenceOf L ≡ evidenceOf (effect O L (migrate term sink lines)))
                 unfolding postedOf postedGroups evidenceOf evidenceGroups effect migrated loadsAfter rightsAfter priorsAfter
                 stay = (refl, refl)
 
-                pub migrated-steps : (one two : List ℕ) → Transferred (columnWhere (loadAt term sink) (loadColumn y)) f one → Transferred (columnWhere (movesAt O term sink) (shareColumn y)) one two → Outcome Done two
+                pub migrated-steps : (one two : List ℕ) → ColumnTransfer (columnWhere (loadAt term sink) (loadColumn y)) f one → ColumnTransfer (columnWhere (movesAt O term sink) (shareColumn y)) one two → Outcome Done two
                 migrated-steps one two a b =
                     outcome Done two
                     (steps-accepted O L (migrate term sink lines) 0 unrefused two m e refl
-                    (figures-migrated o f m e reach term sink froms tos classes customers watts lengths facts one two (subst (λ z. Transferred (columnWhere (loadAt term sink) (loadColumn z)) f one) is a) (subst (λ z. Transferred (columnWhere (movesAt O term sink) (shareColumn z)) one two) is b))
+                    (figures-migrated o f m e reach term sink froms tos classes customers watts lengths facts one two (subst (λ z. ColumnTransfer (columnWhere (loadAt term sink) (loadColumn z)) f one) is a) (subst (λ z. ColumnTransfer (columnWhere (movesAt O term sink) (shareColumn z)) one two) is b))
                     (posted-known o f m e reach ∙ stay .0)
                     (evidence-known o f m e reach ∙ stay .1))

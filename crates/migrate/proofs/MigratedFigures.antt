@@ -13,7 +13,7 @@ use Rattle.tariff.specs.Terms.{hasMonth}
 use Rattle.tariff.specs.Evidence.{entryKw}
 use Rattle.netting.specs.declared.netting.ClassLine.{ClassLine}
 use Rattle.netting.specs.Netting.{classLinesOf, SameLengths}
-use Rattle.ledger.specs.Opening.{Opening, endsAt}
+use Rattle.ledger.specs.Opening.{Opening, hasBase}
 use Rattle.ledger.specs.Ledger.{Ledger}
 use Rattle.ledger.specs.Call.{migrate}
 use Rattle.ledger.specs.Effects.{effect}
@@ -21,12 +21,12 @@ use Rattle.ledger.specs.Migration.{transferredWhere, loadsAfter, rightsAfter, p
 use Rattle.ledger.proofs.TierFacts.{MigrateFacts}
 use Rattle.records.specs.Opening.{openingIn}
 use Rattle.slots.specs.Groups.{slotsOf, inSlot}
-use Rattle.slots.specs.Layout.{loadSlot, priorSlot, priorRemainingSlot, carriedSlot, awardedSlot, nominatedSlot, awardsSlot, tierSlots, ownershipSlot, contractSlot, figureSlots, figureGroups, calendarOf, figuresOf, ledgerIn}
+use Rattle.slots.specs.Layout.{loadSlot, priorAllocatedSlot, priorRemainingSlot, carriedSlot, awardedSlot, nominatedSlot, awardsSlot, tierSlots, ownershipSlot, contractSlot, figureSlots, figureGroups, calendarOf, figuresOf, ledgerIn}
 use Rattle.slots.specs.Steps.{Reachable}
 use Rattle.slots.proofs.CellLaws.{shown-is, shows-agree}
 use Rattle.slots.proofs.Reachable.{figures-shown}
 use Rattle.migrate.specs.declared.transfers.Transfer.{Transfer}
-use Rattle.migrate.specs.Columns.{Transferred}
+use Rattle.migrate.specs.Columns.{ColumnTransfer}
 use Rattle.migrate.specs.Transfers.{loadColumn, shareColumn, slotMoves, movesAt, columnWhere, loadAt}
 use Rattle.migrate.specs.Lines.{transferOf}
 use Rattle.migrate.proofs.WhereLaws.{where-off}
@@ -68,11 +68,11 @@ module _ (o f : List ℕ) (m : List Bool) (e : List Entry) (r : Reachable o f m 
       number = omega arith
 
   -- a record of a path, which no load shares its slot with
-  right-moves : (p slot h : ℕ) (v : ℕ → ℕ) (t : Bool) → h < 8 → priorSlot ≤ slot → slotMoves term slot ≡ t → column p slot v h ≡ cond (endsAt O sink p && t) (columnAfter O L term sink lines v h) (v h)
+  right-moves : (p slot h : ℕ) (v : ℕ → ℕ) (t : Bool) → h < 8 → priorAllocatedSlot ≤ slot → slotMoves term slot ≡ t → column p slot v h ≡ cond (hasBase O sink p && t) (columnAfter O L term sink lines v h) (v h)
   unfolding columnWhere movesAt
   right-moves p slot h v t l low is =
       (λ i. columnWhere (movesAt O term sink) (shareColumn x) p slot (λ n. where-off (loadColumn x) (loadAt term sink) p slot v n (no-load term sink p slot few low) i) h)
-      ∙ (λ i. cond (endsAt O sink p && is i) (column-after o f m e r term sink froms tos classes customers watts same facts v h l i) (v h))
+      ∙ (λ i. cond (hasBase O sink p && is i) (column-after o f m e r term sink froms tos classes customers watts same facts v h l i) (v h))
 
   -- any other
   stays : (p slot h : ℕ) (v : ℕ → ℕ) → nominatedSlot ≤ slot → column p slot v h ≡ v h
@@ -98,13 +98,13 @@ module _ (o f : List ℕ) (m : List Bool) (e : List Entry) (r : Reachable o f m 
   each-moves h p l = (
     λ j k. load-moves p j h (λ i. L .loads .kw i p (j + 0)) l k,
     (
-      λ j k. right-moves p (priorSlot + j) h (λ i. L .priors .allocated i p) (eqb term 0) l (omega arith) (prior-moves term j few k),
+      λ j k. right-moves p (priorAllocatedSlot + j) h (λ i. L .priors .allocated i p) (eqb term 0) l (omega arith) (prior-moves term j few k),
       (
         λ j k. right-moves p (priorRemainingSlot + j) h (λ i. L .priors .remaining i p) (eqb term 0) l (omega arith) (remaining-moves term j few k),
         (
           λ j k. right-moves p (carriedSlot + j) h (λ i. L .rights .carried i p (j + 1)) (hasMonth term (j + 1)) l (omega arith) (carried-moves term j few k),
           (
-            λ j k. right-moves p (awardedSlot + j) h (λ i. L .rights .awarded i p (j + 1)) (hasMonth term (j + 1) && not (eqb term 0)) l (omega arith) (awarded-moves term j few k) ∙ ap (λ t. cond t (columnAfter O L term sink lines (λ i. L .rights .awarded i p (j + 1)) h) (L .rights .awarded h p (j + 1))) (sym (and-assoc (endsAt O sink p) (hasMonth term (j + 1)) (not (eqb term 0)))),
+            λ j k. right-moves p (awardedSlot + j) h (λ i. L .rights .awarded i p (j + 1)) (hasMonth term (j + 1) && not (eqb term 0)) l (omega arith) (awarded-moves term j few k) ∙ ap (λ t. cond t (columnAfter O L term sink lines (λ i. L .rights .awarded i p (j + 1)) h) (L .rights .awarded h p (j + 1))) (sym (and-assoc (hasBase O sink p) (hasMonth term (j + 1)) (not (eqb term 0)))),
             (
               λ j k. stays p (nominatedSlot + j) h (λ i. L .tiers .nominated i p (L .tiers .currentTier)) (omega arith),
               (
@@ -124,7 +124,7 @@ module _ (o f : List ℕ) (m : List Bool) (e : List Entry) (r : Reachable o f m 
     ),
   )
 
-  pub figures-migrated : (one two : List ℕ) → Transferred (columnWhere (loadAt term sink) (loadColumn x)) f one → Transferred (columnWhere (movesAt O term sink) (shareColumn x)) one two → two ≡ figuresOf next
+  pub figures-migrated : (one two : List ℕ) → ColumnTransfer (columnWhere (loadAt term sink) (loadColumn x)) f one → ColumnTransfer (columnWhere (movesAt O term sink) (shareColumn x)) one two → two ≡ figuresOf next
   unfolding figuresOf figureGroups calendarOf before afterwards slotsOf effect migrated
   figures-migrated one two a b =
       shown-is figureSlots 0 (inSlot 0 (figureGroups next)) two (calendarOf L) (omega arith)

@@ -11,11 +11,11 @@ use lib.Dec.{eqb}
 use borrow.Author.Tests.{eqb-true, eq-eqb, ne-eqb}
 use Rattle.tariff.specs.Sizes.{lastTerm}
 use Rattle.tariff.proofs.Tests.{and-both, and-join, and-left-false, and-right-false, decided}
-use Rattle.ledger.specs.Opening.{Opening, pathBase, endsAt}
+use Rattle.ledger.specs.Opening.{Opening, pathBase, hasBase}
 use Rattle.records.specs.Opening.{openingIn}
-use Rattle.slots.specs.Layout.{priorSlot, nominatedSlot, figureSlots, figureCount}
+use Rattle.slots.specs.Layout.{priorAllocatedSlot, nominatedSlot, figureSlots, figureCount}
 use Rattle.migrate.specs.declared.transfers.Transfer.{Transfer}
-use Rattle.migrate.specs.Columns.{Transferred}
+use Rattle.migrate.specs.Columns.{ColumnTransfer}
 use Rattle.migrate.specs.Transfers.{shareColumn, slotMoves, movesAt, columnWhere, SlotFits, PathFits}
 use Rattle.migrate.proofs.WhereLaws.{where-none, where-same}
 use Rattle.migrate.proofs.MovingLaws.{below, slot-between, none-yet, all-moved, still-fits}
@@ -33,7 +33,7 @@ module _ (term p : ℕ) where
   slotNumber q j = j
 
   module _ (column : (ℕ → ℕ) → ℕ → ℕ) (f : List ℕ) (slot : ℕ) where
-    pub slot-moved : (f′ : List ℕ) → slotMoves term slot ≡ true → Transferred (columnWhere (λ q j. eqb q p && eqb j slot) column) f f′ → Transferred (columnWhere (λ q j. onPath q j && eqb j slot) column) f f′
+    pub slot-moved : (f′ : List ℕ) → slotMoves term slot ≡ true → ColumnTransfer (columnWhere (λ q j. eqb q p && eqb j slot) column) f f′ → ColumnTransfer (columnWhere (λ q j. onPath q j && eqb j slot) column) f f′
     slot-moved f′ on a = where-same column (λ q j. eqb q p && eqb j slot) (λ q j. onPath q j && eqb j slot) f f′ (λ q j k l. go q j (decided (eqb j slot))) a
       where
         go : (q j : ℕ) → (eqb j slot ≡ true) ⊎ (eqb j slot ≡ false) → (eqb q p && eqb j slot) ≡ ((eqb q p && slotMoves term j) && eqb j slot)
@@ -44,7 +44,7 @@ module _ (term p : ℕ) where
             and-true false = refl
         go q j (inr e) = and-right-false (eqb q p) e ∙ sym (and-right-false (eqb q p && slotMoves term j) e)
 
-    pub slot-still : slotMoves term slot ≡ false → Transferred (columnWhere (λ q j. onPath q j && eqb j slot) column) f f
+    pub slot-still : slotMoves term slot ≡ false → ColumnTransfer (columnWhere (λ q j. onPath q j && eqb j slot) column) f f
     slot-still off = where-none column (λ q j. onPath q j && eqb j slot) f (λ q j. go q j (decided (eqb j slot)))
       where
         go : (q j : ℕ) → (eqb j slot ≡ true) ⊎ (eqb j slot ≡ false) → ((eqb q p && slotMoves term j) && eqb j slot) ≡ false
@@ -52,23 +52,23 @@ module _ (term p : ℕ) where
         go q j (inr e) = and-right-false (eqb q p && slotMoves term j) e
 
   module _ (column : (ℕ → ℕ) → ℕ → ℕ) (f : List ℕ) (few : term ≤ lastTerm) where
-    moving : (q j : ℕ) → onPath q j ≡ true → (priorSlot ≤ j) × (j < nominatedSlot)
+    moving : (q j : ℕ) → onPath q j ≡ true → (priorAllocatedSlot ≤ j) × (j < nominatedSlot)
     moving q j on = slot-between term j few (and-both (eqb q p) (slotMoves term j) on .1)
 
     -- the loop over the slots begins at prior's and ends before the nominations'
-    pub first-slot : Transferred (columnWhere (below column onPath slotNumber priorSlot) column) f f
-    first-slot = none-yet column onPath slotNumber priorSlot f (λ q j on. moving q j on .0)
+    pub first-slot : ColumnTransfer (columnWhere (below column onPath slotNumber priorAllocatedSlot) column) f f
+    first-slot = none-yet column onPath slotNumber priorAllocatedSlot f (λ q j on. moving q j on .0)
 
-    last-slot : (f′ : List ℕ) → Transferred (columnWhere (below column onPath slotNumber nominatedSlot) column) f f′ → Transferred (columnWhere onPath column) f f′
+    last-slot : (f′ : List ℕ) → ColumnTransfer (columnWhere (below column onPath slotNumber nominatedSlot) column) f f′ → ColumnTransfer (columnWhere onPath column) f f′
     last-slot f′ a = all-moved column onPath slotNumber nominatedSlot f f′ (λ q j l on. moving q j on .1) a
 
     module _ (o : Opening) (sink base : ℕ) (is : base ≡ pathBase o p) where
       abbrev transfers-slots : ℕ → ℕ → Bool
       transfers-slots = movesAt o term sink
 
-      pub path-moved : (slot : ℕ) (f′ : List ℕ) → base ≡ sink → slot ≤ nominatedSlot → nominatedSlot ≤ slot → Transferred (columnWhere (below column onPath slotNumber slot) column) f f′ → Transferred (columnWhere (λ q j. transfers-slots q j && eqb q p) column) f f′
-      unfolding movesAt endsAt
-      path-moved slot f′ at low high a = where-same column onPath (λ q j. transfers-slots q j && eqb q p) f f′ (λ q j k l. go q j (decided (eqb q p))) (last-slot f′ (let ended : slot ≡ nominatedSlot = omega arith in subst (λ n. Transferred (columnWhere (below column onPath slotNumber n) column) f f′) ended a))
+      pub path-moved : (slot : ℕ) (f′ : List ℕ) → base ≡ sink → slot ≤ nominatedSlot → nominatedSlot ≤ slot → ColumnTransfer (columnWhere (below column onPath slotNumber slot) column) f f′ → ColumnTransfer (columnWhere (λ q j. transfers-slots q j && eqb q p) column) f f′
+      unfolding movesAt hasBase
+      path-moved slot f′ at low high a = where-same column onPath (λ q j. transfers-slots q j && eqb q p) f f′ (λ q j k l. go q j (decided (eqb q p))) (last-slot f′ (let ended : slot ≡ nominatedSlot = omega arith in subst (λ n. ColumnTransfer (columnWhere (below column onPath slotNumber n) column) f f′) ended a))
         where
           here : eqb (pathBase o p) sink ≡ true
           here = eq-eqb (pathBase o p) sink (sym is ∙ at)
@@ -81,8 +81,8 @@ module _ (term p : ℕ) where
               and-true false = refl
           go q j (inr e) = and-left-false (slotMoves term j) e ∙ sym (and-right-false (eqb (pathBase o q) sink && slotMoves term j) e)
 
-      pub path-still : (base ≡ sink → ⊥) → Transferred (columnWhere (λ q j. transfers-slots q j && eqb q p) column) f f
-      unfolding movesAt endsAt
+      pub path-still : (base ≡ sink → ⊥) → ColumnTransfer (columnWhere (λ q j. transfers-slots q j && eqb q p) column) f f
+      unfolding movesAt hasBase
       path-still other = where-none column (λ q j. transfers-slots q j && eqb q p) f (λ q j. go q j (decided (eqb q p)))
         where
           go : (q j : ℕ) → (eqb q p ≡ true) ⊎ (eqb q p ≡ false) → ((eqb (pathBase o q) sink && slotMoves term j) && eqb q p) ≡ false
@@ -90,8 +90,8 @@ module _ (term p : ℕ) where
           go q j (inr e) = and-right-false (eqb (pathBase o q) sink && slotMoves term j) e
 
 -- what the loops ask of the next slot, and of the next path
-pub next-slot-fits : (o f f′ : List ℕ) (term sink p slot base : ℕ) (x : Transfer) → PathFits o f term sink x p → base ≡ pathBase (openingIn o) p → base ≡ sink → slot < nominatedSlot → length f′ ≡ figureCount → Transferred (columnWhere (below (shareColumn x) (onPath term p) (slotNumber term p) slot) (shareColumn x)) f f′ → SlotFits f′ term p slot x
-unfolding movesAt endsAt
+pub next-slot-fits : (o f f′ : List ℕ) (term sink p slot base : ℕ) (x : Transfer) → PathFits o f term sink x p → base ≡ pathBase (openingIn o) p → base ≡ sink → slot < nominatedSlot → length f′ ≡ figureCount → ColumnTransfer (columnWhere (below (shareColumn x) (onPath term p) (slotNumber term p) slot) (shareColumn x)) f f′ → SlotFits f′ term p slot x
+unfolding movesAt hasBase
 next-slot-fits o f f′ term sink p slot base x k is at l long a =
     record {
       column = record { long = long; place = k .place; inRow = omega arith };
@@ -100,7 +100,7 @@ next-slot-fits o f f′ term sink p slot base x k is at l long a =
       fits = λ on. still-fits x (onPath term p) (slotNumber term p) slot f f′ p slot (k .long) (k .covered .few) (k .place) (omega arith) (le-refl slot) a (k .fits slot l (and-join (eq-eqb (pathBase (openingIn o) p) sink (sym is ∙ at)) on));
     }
 
-pub next-path-fits : (o f f′ : List ℕ) (term sink p : ℕ) (x : Transfer) → PathFits o f term sink x p → length f′ ≡ figureCount → Transferred (columnWhere (below (shareColumn x) (movesAt (openingIn o) term sink) pathNumber p) (shareColumn x)) f f′ → PathFits o f′ term sink x p
+pub next-path-fits : (o f f′ : List ℕ) (term sink p : ℕ) (x : Transfer) → PathFits o f term sink x p → length f′ ≡ figureCount → ColumnTransfer (columnWhere (below (shareColumn x) (movesAt (openingIn o) term sink) pathNumber p) (shareColumn x)) f f′ → PathFits o f′ term sink x p
 next-path-fits o f f′ term sink p x k long a =
     record {
       long = long;

@@ -22,8 +22,8 @@ use Rattle.slots.specs.Layout.{figureSlots}
 use Rattle.slots.proofs.CellLaws.{shows-agree}
 use Rattle.migrate.specs.declared.transfers.Transfer.{Transfer}
 use Rattle.netting.proofs.ShareCells.{share-with-nothing}
-use Rattle.migrate.specs.Columns.{HasColumn, inColumn, columnAt, columnStored, Transferred}
-use Rattle.migrate.specs.Transfers.{loadColumn, shareColumn, columnWhere, Covered, ColumnFits}
+use Rattle.migrate.specs.Columns.{HasColumn, inColumn, columnAt, columnStored, ColumnTransfer}
+use Rattle.migrate.specs.Transfers.{loadColumn, shareColumn, columnWhere, LossesWithinLoads, ColumnFits}
 use Rattle.migrate.proofs.ColumnLaws.{column-holder, column-cell, shows-column}
 
 -- with no m goes no share
@@ -70,7 +70,7 @@ pub load-ext : (x : Transfer) (v w : ℕ → ℕ) (h : ℕ) → x .holders ≤ 8
 unfolding loadColumn
 load-ext x v w h few l same = transferred-ext (x .holders) (pairAt (x .m)) (pairAt (x .m)) v w h few l (λ i j a b. refl) (same h l)
 
-module _ (x : Transfer) (ok : Covered x) where
+module _ (x : Transfer) (ok : LossesWithinLoads x) where
   -- an m is at most its loser's load
   m-fits : (i j : ℕ) → i < x .holders → j < x .holders → pairAt (x .m) i j ≤ 8 * maxKw
   m-fits i j li lj =
@@ -137,7 +137,7 @@ module _ (x : Transfer) (ok : Covered x) where
       nothing i j b = share-of-nothing (pairAt (x .m)) (holderAt (x .load)) v i j (none i b)
 
 -- a stored column, as a transfer of that column alone
-pub column-transferred : (f f′ : List ℕ) (p slot : ℕ) (next : List ℕ) (column : (ℕ → ℕ) → ℕ → ℕ) → HasColumn f p slot → ((v w : ℕ → ℕ) (h : ℕ) → h < 8 → ((i : ℕ) → i < 8 → v i ≡ w i) → column v h ≡ column w h) → ((h : ℕ) → h < 8 → holderAt next h ≡ column (inColumn f p slot) h) → f′ ≡ columnStored f p slot next 8 → Transferred (columnWhere (λ q j. eqb q p && eqb j slot) column) f f′
+pub column-transferred : (f f′ : List ℕ) (p slot : ℕ) (next : List ℕ) (column : (ℕ → ℕ) → ℕ → ℕ) → HasColumn f p slot → ((v w : ℕ → ℕ) (h : ℕ) → h < 8 → ((i : ℕ) → i < 8 → v i ≡ w i) → column v h ≡ column w h) → ((h : ℕ) → h < 8 → holderAt next h ≡ column (inColumn f p slot) h) → f′ ≡ columnStored f p slot next 8 → ColumnTransfer (columnWhere (λ q j. eqb q p && eqb j slot) column) f f′
 unfolding columnWhere
 column-transferred f f′ p slot next column there ext is made g rest s =
     rw made
@@ -156,7 +156,7 @@ column-transferred f f′ p slot next column there ext is made g rest s =
         ∙ sym (ap (λ u. cond u (column (λ i. g i q z) h) (g h q z)) t)
 
 -- a column that holds nothing, left as it is
-pub column-left : (f : List ℕ) (p slot : ℕ) (x : Transfer) → HasColumn f p slot → Covered x → ((i : ℕ) → i < 8 → inColumn f p slot i ≡ 0) → Transferred (columnWhere (λ q j. eqb q p && eqb j slot) (shareColumn x)) f f
+pub column-left : (f : List ℕ) (p slot : ℕ) (x : Transfer) → HasColumn f p slot → LossesWithinLoads x → ((i : ℕ) → i < 8 → inColumn f p slot i ≡ 0) → ColumnTransfer (columnWhere (λ q j. eqb q p && eqb j slot) (shareColumn x)) f f
 unfolding columnWhere
 column-left f p slot x there ok none g rest s =
     shows-agree figureSlots 0 g (λ h q z. cond (eqb q p && eqb z slot) (shareColumn x (λ i. g i q z) h) (g h q z)) f rest s (λ h q z c. go h q z (c .holder) (decided (eqb q p && eqb z slot)))

@@ -8,7 +8,7 @@ use lib.ListN.{length}
 use Rattle.tariff.proofs.Tests.{decided}
 use Rattle.slots.specs.Layout.{figureSlots, figureCount}
 use Rattle.slots.proofs.CellLaws.{shows-agree}
-use Rattle.migrate.specs.Columns.{Transferred}
+use Rattle.migrate.specs.Columns.{ColumnTransfer}
 use Rattle.migrate.specs.Transfers.{columnWhere}
 use Rattle.migrate.proofs.ColumnLaws.{transferred-long, transferred-then}
 
@@ -21,22 +21,22 @@ module _ (column : (ℕ → ℕ) → ℕ → ℕ) where
   unfolding columnWhere
   where-off test p slot v h e = ap (λ t. cond t (column v h) (v h)) e
 
-  pub where-long : (test : ℕ → ℕ → Bool) (f f′ : List ℕ) → length f ≡ figureCount → Transferred (columnWhere test column) f f′ → length f′ ≡ figureCount
+  pub where-long : (test : ℕ → ℕ → Bool) (f f′ : List ℕ) → length f ≡ figureCount → ColumnTransfer (columnWhere test column) f f′ → length f′ ≡ figureCount
   where-long test f f′ long a = transferred-long (columnWhere test column) f f′ long a
 
   -- nothing is transferred
-  pub where-none : (test : ℕ → ℕ → Bool) (f : List ℕ) → ((p slot : ℕ) → test p slot ≡ false) → Transferred (columnWhere test column) f f
+  pub where-none : (test : ℕ → ℕ → Bool) (f : List ℕ) → ((p slot : ℕ) → test p slot ≡ false) → ColumnTransfer (columnWhere test column) f f
   where-none test f off g rest s = shows-agree figureSlots 0 g (λ h p slot. columnWhere test column p slot (λ i. g i p slot) h) f rest s (λ h p slot c. sym (where-off test p slot (λ i. g i p slot) h (off p slot)))
 
   -- the same test, said otherwise
-  pub where-same : (s t : ℕ → ℕ → Bool) (f f′ : List ℕ) → ((p slot : ℕ) → p < 16 → slot < figureSlots → s p slot ≡ t p slot) → Transferred (columnWhere s column) f f′ → Transferred (columnWhere t column) f f′
+  pub where-same : (s t : ℕ → ℕ → Bool) (f f′ : List ℕ) → ((p slot : ℕ) → p < 16 → slot < figureSlots → s p slot ≡ t p slot) → ColumnTransfer (columnWhere s column) f f′ → ColumnTransfer (columnWhere t column) f f′
   unfolding columnWhere
   where-same s t f f′ same a g rest shown =
       shows-agree figureSlots 0 _ (λ h p slot. columnWhere t column p slot (λ i. g i p slot) h) f′ rest (a g rest shown)
       (λ h p slot c. ap (λ u. cond u (column (λ i. g i p slot) h) (g h p slot)) (same p slot (c .place) (c .inRow)))
 
   -- here and then there: no column twice
-  pub where-then : (s t u : ℕ → ℕ → Bool) (f one two : List ℕ) → ((p slot : ℕ) → t p slot ≡ true → s p slot ≡ false) → ((p slot : ℕ) → (s p slot || t p slot) ≡ u p slot) → Transferred (columnWhere s column) f one → Transferred (columnWhere t column) one two → Transferred (columnWhere u column) f two
+  pub where-then : (s t u : ℕ → ℕ → Bool) (f one two : List ℕ) → ((p slot : ℕ) → t p slot ≡ true → s p slot ≡ false) → ((p slot : ℕ) → (s p slot || t p slot) ≡ u p slot) → ColumnTransfer (columnWhere s column) f one → ColumnTransfer (columnWhere t column) one two → ColumnTransfer (columnWhere u column) f two
   unfolding columnWhere
   where-then s t u f one two once both a b = transferred-then (columnWhere s column) (columnWhere t column) (columnWhere u column) f one two (λ p slot h v c. go p slot h v (decided (t p slot))) a b
     where

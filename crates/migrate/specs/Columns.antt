@@ -26,5 +26,5 @@ columnStored f p slot column zero = f
 columnStored f p slot column (suc n) = storedAt figureSlots (columnStored f p slot column n) n p slot (holderAt column n)
 
 -- each column of the figures is put through a function of its place and slot, and the numbers after the figures stay
-abbrev pub Transferred : (ℕ → ℕ → (ℕ → ℕ) → ℕ → ℕ) → List ℕ → List ℕ → Type 0
-Transferred column f f′ = (g : ℕ → ℕ → ℕ → ℕ) (rest : List ℕ) → Shows figureSlots 0 f g rest → Shows figureSlots 0 f′ (λ h p slot. column p slot (λ i. g i p slot) h) rest
+abbrev pub ColumnTransfer : (ℕ → ℕ → (ℕ → ℕ) → ℕ → ℕ) → List ℕ → List ℕ → Type 0
+ColumnTransfer column f f′ = (g : ℕ → ℕ → ℕ → ℕ) (rest : List ℕ) → Shows figureSlots 0 f g rest → Shows figureSlots 0 f′ (λ h p slot. column p slot (λ i. g i p slot) h) rest

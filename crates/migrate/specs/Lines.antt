@@ -26,8 +26,8 @@ unfoldable pub outOfRangeAt : List ℕ → List ℕ → List ℕ → ℕ → Boo
 outOfRangeAt classes customers watts k = classFieldsOutOfRange (getD classes k 0) (getD customers k 0) (getD watts k 0)
 
 -- a line from a holder to itself, or one that names an OBAALSE
-unfoldable pub notBetweenAt : Opening → List ℕ → List ℕ → ℕ → Bool
-notBetweenAt o froms tos k = eqb (getD froms k 0) (getD tos k 0) || eqb (holderKind o (getD froms k 0)) obaalse || eqb (holderKind o (getD tos k 0)) obaalse
+unfoldable pub notBetweenLsesAt : Opening → List ℕ → List ℕ → ℕ → Bool
+notBetweenLsesAt o froms tos k = eqb (getD froms k 0) (getD tos k 0) || eqb (holderKind o (getD froms k 0)) obaalse || eqb (holderKind o (getD tos k 0)) obaalse
 
 -- what a migration transfers: the m of each pair, and the loads at the sink and term before it
 unfoldable pub transferOf : List ℕ → List ℕ → ℕ → ℕ → List ℕ → List ℕ → List ℕ → List ℕ → List ℕ → Transfer

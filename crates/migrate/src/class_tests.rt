@@ -11,7 +11,7 @@ ghost use Rattle.tariff.specs.Sum.{anyBelow};
 ghost use Rattle.ledger.specs.Opening.{obaalse, holderKind};
 ghost use Rattle.ledger.specs.Ranges.{unknownHolder};
 ghost use Rattle.records.specs.Opening.{openingOf};
-ghost use Rattle.migrate.specs.Lines.{unknownAt, outOfRangeAt, notBetweenAt};
+ghost use Rattle.migrate.specs.Lines.{unknownAt, outOfRangeAt, notBetweenLsesAt};
 
 // A line that names a holder who is not in the book.
 fn names_unknown(o: &[u64], from: u64, to: u64) -> bool
@@ -51,7 +51,7 @@ pub fn any_out_of_range(classes: &[u64], customers: &[u64], watts: &[u64]) -> bo
 }
 
 // A line from a holder to itself, or one that names an OBAALSE.
-fn not_between(o: &[u64], from: u64, to: u64) -> bool
+fn not_between_lses(o: &[u64], from: u64, to: u64) -> bool
     ensures { λ r. ⌜ r ≡ (eqb from to || eqb (holderKind (openingOf (o .entry)) from) obaalse || eqb (holderKind (openingOf (o .entry)) to) obaalse) ⌝ }
 {
     let from_kind = holder_kind(o, from);
@@ -60,13 +60,13 @@ fn not_between(o: &[u64], from: u64, to: u64) -> bool
 }
 
 // Whether some line is not between two different LSEs.
-pub fn any_not_between(o: &[u64], froms: &[u64], tos: &[u64]) -> bool
+pub fn any_not_between_lses(o: &[u64], froms: &[u64], tos: &[u64]) -> bool
     requires { ⌜ length (now tos) ≡ length (now froms) ⌝ }
-    ensures { λ r. ⌜ r ≡ anyBelow (length (now (froms .entry))) (notBetweenAt (openingOf (o .entry)) (now (froms .entry)) (now (tos .entry))) ⌝ }
+    ensures { λ r. ⌜ r ≡ anyBelow (length (now (froms .entry))) (notBetweenLsesAt (openingOf (o .entry)) (now (froms .entry)) (now (tos .entry))) ⌝ }
 {
     let mut k = 0;
     while k < froms.len() {
-        if not_between(o, froms[k], tos[k]) {
+        if not_between_lses(o, froms[k], tos[k]) {
             return true;
         }
         k += 1;

@@ -1,5 +1,5 @@
 // Migrate: class lines netted, and the loads and rights that go with them (01, Migration).
-use crate::class_tests::any_not_between;
+use crate::class_tests::any_not_between_lses;
 use crate::class_tests::any_out_of_range;
 use crate::class_tests::any_unknown;
 use crate::transfers::Transfer;
@@ -23,7 +23,7 @@ use records::setup::holders;
 use records::setup::unknown_sink;
 use slots::calendar::current_tier;
 use slots::calendar::last_closed;
-use slots::layout::LOAD;
+use slots::layout::LOAD_SLOT;
 use tariff::sizes::MAX_CLASS_LINES;
 ghost use mathlib.Core.Path.{_≡_};
 ghost use Prim.Native.Nat.{ℕ, _+_, _^_, _<_, _≤_};
@@ -41,7 +41,7 @@ ghost use Rattle.migrate.specs.Lines.{earlyCauses, transferOf};
 ghost use Rattle.migrate.specs.Columns.{HasColumn};
 
 // Whether some holder gives more in all than its load.
-fn loses_too_much(x: Transfer) -> bool
+fn loss_exceeds_load(x: Transfer) -> bool
     requires { ⌜ (x .holders ≤ maxHolders) × ((i : ℕ) → i < maxHolders → sumTo (x .holders) (λ j. pairAt (x .m) i j) < 2 ^ 64) ⌝ }
     ensures { λ r. ⌜ r ≡ anyBelow (x .holders) (λ i. ltb (holderAt (x .load) i) (sumTo (x .holders) (λ j. pairAt (x .m) i j))) ⌝ }
 {
@@ -78,9 +78,9 @@ fn early_refusal(
     let fields = term_out_of_range(term) | (MAX_CLASS_LINES < froms.len());
     let range = fields | any_out_of_range(classes, customers, watts);
     let late = !migration_in_time(term, last_closed(f), current_tier(f));
-    let apart = any_not_between(o, froms, tos);
-    let from_apart = refuse(NOT_BETWEEN_LSES, apart, 0);
-    let from_time = refuse(NOT_AT_THIS_TIME, late, from_apart);
+    let not_between = any_not_between_lses(o, froms, tos);
+    let from_between = refuse(NOT_BETWEEN_LSES, not_between, 0);
+    let from_time = refuse(NOT_AT_THIS_TIME, late, from_between);
     let from_range = refuse(OUT_OF_RANGE, range, from_time);
     refuse(NOT_IN_BOOK, unknown, from_range)
 }
@@ -102,7 +102,7 @@ fn transfer_of(
 {
     let netting = net_lines(froms, tos, classes, customers, watts);
     let m = netting.m;
-    let load = column_at(f, sink, LOAD + term);
+    let load = column_at(f, sink, LOAD_SLOT + term);
     Transfer {
         m,
         load,
@@ -133,7 +133,7 @@ pub fn migrate(
         return Answer::Refused(number);
     }
     let x = transfer_of(o, f, term, sink, froms, tos, classes, customers, watts);
-    if loses_too_much(x) {
+    if loss_exceeds_load(x) {
         return Answer::Refused(LOSS_ABOVE_LOAD);
     }
     transfer_load(f, term, sink, x);

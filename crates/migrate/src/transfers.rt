@@ -4,14 +4,14 @@ use netting::shares::transferred_column;
 use records::setup::path_base;
 use slots::cells::read;
 use slots::cells::store;
-use slots::layout::AWARDED;
-use slots::layout::CARRIED;
-use slots::layout::LOAD;
-use slots::layout::NOMINATED;
-use slots::layout::PRIOR;
+use slots::layout::AWARDED_SLOT;
+use slots::layout::CARRIED_SLOT;
+use slots::layout::LOAD_SLOT;
+use slots::layout::NOMINATED_SLOT;
+use slots::layout::PRIOR_ALLOCATED_SLOT;
+use tariff::sizes::HOLDER_PAIRS;
 use tariff::sizes::MAX_HOLDERS;
 use tariff::sizes::MAX_PLACES;
-use tariff::sizes::PAIRS;
 ghost use mathlib.Core.Path.{_≡_};
 ghost use mathlib.Core.Bool.{_&&_};
 ghost use Prim.Native.Nat.{_+_, _≤_};
@@ -21,13 +21,13 @@ ghost use lib.Dec.{eqb};
 ghost use Rattle.netting.specs.Netting.{holderAt};
 ghost use Rattle.records.specs.Opening.{openingOf};
 ghost use Rattle.slots.specs.Layout.{loadSlot};
-ghost use Rattle.migrate.specs.Columns.{HasColumn, inColumn, columnAt, columnStored, Transferred};
-ghost use Rattle.migrate.specs.Transfers.{loadColumn, shareColumn, slotMoves, movesAt, columnWhere, loadAt, Covered, ColumnFits, SlotFits, PathFits, RightsFit};
+ghost use Rattle.migrate.specs.Columns.{HasColumn, inColumn, columnAt, columnStored, ColumnTransfer};
+ghost use Rattle.migrate.specs.Transfers.{loadColumn, shareColumn, slotMoves, movesAt, columnWhere, loadAt, LossesWithinLoads, ColumnFits, SlotFits, PathFits, RightsFit};
 
 // What a migration transfers: the kW from holder i to holder j at i * 8 + j, each holder's load at the sink and term before it,
 // and how many holders there are.
 pub struct Transfer {
-    pub m: [u64; PAIRS],
+    pub m: [u64; HOLDER_PAIRS],
     pub load: [u64; MAX_HOLDERS],
     pub holders: u64,
 }
@@ -74,8 +74,8 @@ fn is_empty(column: [u64; MAX_HOLDERS]) -> bool
 
 // Transfers the shares of one column of records. A column that holds nothing is left as it is.
 fn transfer_column(f: &mut [u64], p: u64, slot: u64, x: Transfer)
-    requires { ⌜ HasColumn (now f) p slot × Covered x × ColumnFits x (inColumn (now f) p slot) ⌝ }
-    ensures { λ r. ⌜ Transferred (columnWhere (λ q j. eqb q p && eqb j slot) (shareColumn x)) (now (f .entry)) (now (f .exit)) ⌝ }
+    requires { ⌜ HasColumn (now f) p slot × LossesWithinLoads x × ColumnFits x (inColumn (now f) p slot) ⌝ }
+    ensures { λ r. ⌜ ColumnTransfer (columnWhere (λ q j. eqb q p && eqb j slot) (shareColumn x)) (now (f .entry)) (now (f .exit)) ⌝ }
 {
     let column = column_at(f, p, slot);
     if is_empty(column) {
@@ -94,15 +94,15 @@ fn slot_moves(term: u64, slot: u64) -> bool
     ensures { λ r. ⌜ r ≡ slotMoves term slot ⌝ }
 {
     if term == 0 {
-        return (PRIOR <= slot) & (slot < AWARDED);
+        return (PRIOR_ALLOCATED_SLOT <= slot) & (slot < AWARDED_SLOT);
     }
-    (slot == CARRIED + term - 1) | (slot == AWARDED + term - 1)
+    (slot == CARRIED_SLOT + term - 1) | (slot == AWARDED_SLOT + term - 1)
 }
 
 // Transfers the shares of one slot of a path, if it is one that moves.
 fn transfer_slot(f: &mut [u64], term: u64, p: u64, slot: u64, x: Transfer)
     requires { ⌜ SlotFits (now f) term p slot x ⌝ }
-    ensures { λ r. ⌜ Transferred (columnWhere (λ q j. (eqb q p && slotMoves term j) && eqb j slot) (shareColumn x)) (now (f .entry)) (now (f .exit)) ⌝ }
+    ensures { λ r. ⌜ ColumnTransfer (columnWhere (λ q j. (eqb q p && slotMoves term j) && eqb j slot) (shareColumn x)) (now (f .entry)) (now (f .exit)) ⌝ }
 {
     if !slot_moves(term, slot) {
         return;
@@ -113,13 +113,13 @@ fn transfer_slot(f: &mut [u64], term: u64, p: u64, slot: u64, x: Transfer)
 // Transfers the shares of a path's slots, if its sink has this base. The slots that can move stand side by side: prior's, carried and awarded holdings.
 fn transfer_path(f: &mut [u64], o: &[u64], term: u64, sink: u64, p: u64, x: Transfer)
     requires { ⌜ PathFits (now o) (now f) term sink x p ⌝ }
-    ensures { λ r. ⌜ Transferred (columnWhere (λ q j. movesAt (openingOf (o .entry)) term sink q j && eqb q p) (shareColumn x)) (now (f .entry)) (now (f .exit)) ⌝ }
+    ensures { λ r. ⌜ ColumnTransfer (columnWhere (λ q j. movesAt (openingOf (o .entry)) term sink q j && eqb q p) (shareColumn x)) (now (f .entry)) (now (f .exit)) ⌝ }
 {
     if path_base(o, p) != sink {
         return;
     }
-    let mut slot = PRIOR;
-    while slot < NOMINATED {
+    let mut slot = PRIOR_ALLOCATED_SLOT;
+    while slot < NOMINATED_SLOT {
         transfer_slot(f, term, p, slot, x);
         slot += 1;
     }
@@ -128,7 +128,7 @@ fn transfer_path(f: &mut [u64], o: &[u64], term: u64, sink: u64, p: u64, x: Tran
 // Transfers the shares of every slot that moves, path by path.
 pub fn transfer_rights(f: &mut [u64], o: &[u64], term: u64, sink: u64, x: Transfer)
     requires { ⌜ RightsFit (now o) (now f) term sink x ⌝ }
-    ensures { λ r. ⌜ Transferred (columnWhere (movesAt (openingOf (o .entry)) term sink) (shareColumn x)) (now (f .entry)) (now (f .exit)) ⌝ }
+    ensures { λ r. ⌜ ColumnTransfer (columnWhere (movesAt (openingOf (o .entry)) term sink) (shareColumn x)) (now (f .entry)) (now (f .exit)) ⌝ }
 {
     let mut p: u64 = 0;
     while p < MAX_PLACES as u64 {
@@ -139,11 +139,11 @@ pub fn transfer_rights(f: &mut [u64], o: &[u64], term: u64, sink: u64, x: Transf
 
 // Transfers the load m of each pair at the sink and term.
 pub fn transfer_load(f: &mut [u64], term: u64, sink: u64, x: Transfer)
-    requires { ⌜ HasColumn (now f) sink (loadSlot + term) × Covered x × (x .load ≡ columnAt (now f) sink (loadSlot + term)) ⌝ }
-    ensures { λ r. ⌜ Transferred (columnWhere (loadAt term sink) (loadColumn x)) (now (f .entry)) (now (f .exit)) ⌝ }
+    requires { ⌜ HasColumn (now f) sink (loadSlot + term) × LossesWithinLoads x × (x .load ≡ columnAt (now f) sink (loadSlot + term)) ⌝ }
+    ensures { λ r. ⌜ ColumnTransfer (columnWhere (loadAt term sink) (loadColumn x)) (now (f .entry)) (now (f .exit)) ⌝ }
 {
     let load = x.load;
     let m = x.m;
     let next = transferred_column(load, &m, x.holders as usize);
-    store_column(f, sink, LOAD + term, next);
+    store_column(f, sink, LOAD_SLOT + term, next);
 }

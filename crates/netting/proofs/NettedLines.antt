@@ -12,7 +12,7 @@ use Rattle.tariff.specs.Sum.{whenTrue, anyOf}
 use Rattle.netting.specs.Migration.{wattsOneWay, netted}
 use Rattle.tariff.specs.Ranges.{within}
 use Rattle.netting.specs.ClassRanges.{classLineOutOfRange, classFieldsOutOfRange}
-use Rattle.netting.specs.Netting.{sameCounts, pairAt, pairCells, Summable, classLineAt, classLinesOf, unfitLine, linesFit, wattsTo, nettingOf}
+use Rattle.netting.specs.Netting.{sameCounts, pairAt, pairCells, SummableLines, classLineAt, classLinesOf, unfitLine, linesFit, wattsTo, nettingOf}
 use Rattle.tariff.proofs.Tests.{or-unmet, and-both, none-below}
 use Rattle.tariff.proofs.Lists.{sum-tabulate, list-is}
 use Rattle.netting.proofs.FitLines.{unfitAt, any-unfit, lengthTests, same-lengths}
@@ -30,7 +30,7 @@ line-facts l e =
 
 module _ (froms tos classes customers watts : List ℕ) where
   -- lines that are fit can be summed
-  pub summable : linesFit froms tos classes customers watts ≡ true → Summable froms tos customers watts
+  pub summable : linesFit froms tos classes customers watts ≡ true → SummableLines froms tos customers watts
   unfolding linesFit
   summable e =
       let both = and-both (lengthTests froms tos classes customers watts) (not (anyOf (classLinesOf froms tos classes customers watts) unfitLine)) e in

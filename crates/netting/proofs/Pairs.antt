@@ -12,7 +12,7 @@ use lib.Seq.{getD-set-same, getD-set-other}
 use lib.Dec.{eqb}
 use borrow.Author.Tests.{eqb-true, eq-eqb}
 use Rattle.tariff.specs.Sum.{whenTrue, sumTo, tabulate}
-use Rattle.netting.specs.Netting.{pairAt, pairCells, Summable, wattsTo}
+use Rattle.netting.specs.Netting.{pairAt, pairCells, SummableLines, wattsTo}
 use Rattle.tariff.proofs.Sums.{when-is-true, when-is-false, when-le, sum-bound}
 use Rattle.tariff.proofs.Tests.{and-both, and-join, decided}
 use Rattle.netting.proofs.Products.{line-product}
@@ -72,13 +72,13 @@ more-watts froms tos customers watts k cells len la lb old i j l m =
     ∙ ap (λ n. wattsTo froms tos customers watts n i j) (sym (add-one k))
 
 -- and they stay far below 2 ^ 64
-pub watts-bound : (froms tos customers watts : List ℕ) → Summable froms tos customers watts → (k i j : ℕ) → k ≤ length froms → wattsTo froms tos customers watts k i j ≤ k * (9999999 * 9999999)
+pub watts-bound : (froms tos customers watts : List ℕ) → SummableLines froms tos customers watts → (k i j : ℕ) → k ≤ length froms → wattsTo froms tos customers watts k i j ≤ k * (9999999 * 9999999)
 unfolding wattsTo
 watts-bound froms tos customers watts s k i j h =
     sum-bound (9999999 * 9999999) k (λ q l. le-trans (when-le (eqb (getD froms q 0) i && eqb (getD tos q 0) j) (getD customers q 0 * getD watts q 0)) (mul-le-mul (s .sizes q (omega arith) .0) (s .sizes q (omega arith) .1)))
 
 -- so there is room for the next line's
-pub watts-room : (froms tos customers watts : List ℕ) → Summable froms tos customers watts → (k : ℕ) (cells : List ℕ) → k < length froms → HoldsWatts froms tos customers watts k cells → (line : ℕ) → line ≡ getD customers k 0 * getD watts k 0 → pairAt cells (getD froms k 0) (getD tos k 0) + line < 2 ^ 64
+pub watts-room : (froms tos customers watts : List ℕ) → SummableLines froms tos customers watts → (k : ℕ) (cells : List ℕ) → k < length froms → HoldsWatts froms tos customers watts k cells → (line : ℕ) → line ≡ getD customers k 0 * getD watts k 0 → pairAt cells (getD froms k 0) (getD tos k 0) + line < 2 ^ 64
 watts-room froms tos customers watts s k cells l old line e =
     let held = old (getD froms k 0) (getD tos k 0) (s .holders k l .0) (s .holders k l .1) in
     let before = watts-bound froms tos customers watts s k (getD froms k 0) (getD tos k 0) (omega arith) in
@@ -87,7 +87,7 @@ watts-room froms tos customers watts s k cells l old line e =
     omega arith
 
 -- the cells after a turn of the loop, and after the last
-pub next-watts : (froms tos customers watts : List ℕ) (k : ℕ) (cells next : List ℕ) (line : ℕ) → Summable froms tos customers watts → k < length froms → length cells ≡ 64 → line ≡ getD customers k 0 * getD watts k 0 → next ≡ set cells (getD froms k 0 * 8 + getD tos k 0) (pairAt cells (getD froms k 0) (getD tos k 0) + line) → HoldsWatts froms tos customers watts k cells → HoldsWatts froms tos customers watts (k + 1) next
+pub next-watts : (froms tos customers watts : List ℕ) (k : ℕ) (cells next : List ℕ) (line : ℕ) → SummableLines froms tos customers watts → k < length froms → length cells ≡ 64 → line ≡ getD customers k 0 * getD watts k 0 → next ≡ set cells (getD froms k 0 * 8 + getD tos k 0) (pairAt cells (getD froms k 0) (getD tos k 0) + line) → HoldsWatts froms tos customers watts k cells → HoldsWatts froms tos customers watts (k + 1) next
 next-watts froms tos customers watts k cells next line s l len e stored old i j li lj =
     ap (λ x. pairAt x i j) (stored ∙ ap (λ v. set cells (getD froms k 0 * 8 + getD tos k 0) (pairAt cells (getD froms k 0) (getD tos k 0) + v)) e)
     ∙ more-watts froms tos customers watts k cells len (s .holders k l .0) (s .holders k l .1) old i j li lj

@@ -7,7 +7,7 @@ use lib.ListN.{length, getD}
 use lib.Dec.{leb, ltb, eqb}
 use Rattle.netting.specs.declared.netting.ClassLine.{ClassLine}
 use Rattle.netting.specs.declared.netting.Netting.{Netting}
-use Rattle.tariff.specs.Sizes.{maxHolders, pairs, maxClassLines, maxCustomers, maxWatts}
+use Rattle.tariff.specs.Sizes.{maxHolders, holderPairs, maxClassLines, maxCustomers, maxWatts}
 use Rattle.tariff.specs.Sum.{whenTrue, sumTo, anyOf, tabulate}
 use Rattle.netting.specs.Migration.{netted, shares, transferred}
 use Rattle.netting.specs.ClassRanges.{classLineOutOfRange}
@@ -21,7 +21,7 @@ holderAt column i = getD column i 0
 
 -- the cells of all pairs of eight holders, and a column of eight
 unfoldable pub pairCells : (ℕ → ℕ → ℕ) → List ℕ
-pairCells f = tabulate pairs (λ k. f (k / maxHolders) (k % maxHolders))
+pairCells f = tabulate holderPairs (λ k. f (k / maxHolders) (k % maxHolders))
 
 unfoldable pub columnCells : (ℕ → ℕ) → List ℕ
 columnCells f = tabulate maxHolders f
@@ -59,7 +59,7 @@ linesFit froms tos classes customers watts =
     && not (anyOf (classLinesOf froms tos classes customers watts) unfitLine)
 
 -- lines whose products can be summed: what is known of lines that are fit
-pub record Summable (froms tos customers watts : List ℕ) : Type 0 where
+pub record SummableLines (froms tos customers watts : List ℕ) : Type 0 where
   pub few : length froms ≤ maxClassLines
   pub ofTos : length tos ≡ length froms
   pub ofCustomers : length customers ≡ length froms

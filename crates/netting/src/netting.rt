@@ -1,11 +1,11 @@
 // Class lines, and their netting by pair of holders (01, Migration).
 use tariff::limit::saturating_sub;
+use tariff::sizes::HOLDER_PAIRS;
 use tariff::sizes::LAST_CLASS;
 use tariff::sizes::MAX_CLASS_LINES;
 use tariff::sizes::MAX_CUSTOMERS;
 use tariff::sizes::MAX_HOLDERS;
 use tariff::sizes::MAX_WATTS;
-use tariff::sizes::PAIRS;
 use tariff::sizes::WATTS_PER_KW;
 ghost use mathlib.Core.Path.{_≡_};
 ghost use mathlib.Core.Bool.{not};
@@ -14,7 +14,7 @@ ghost use lib.ListN.{length};
 ghost use Rattle.tariff.specs.Sizes.{maxHolders, maxCustomers, maxWatts, wattsPerKw};
 ghost use Rattle.tariff.specs.Sum.{anyOf};
 ghost use Rattle.netting.specs.ClassRanges.{classFieldsOutOfRange};
-ghost use Rattle.netting.specs.Netting.{SameLengths, sameCounts, Summable, pairAt, pairCells, nettingOf, classLinesOf, unfitLine, linesFit, wattsTo};
+ghost use Rattle.netting.specs.Netting.{SameLengths, sameCounts, SummableLines, pairAt, pairCells, nettingOf, classLinesOf, unfitLine, linesFit, wattsTo};
 
 // One line of a migration: customers of a class who left one LSE for another, and their average watts.
 pub struct ClassLine {
@@ -28,7 +28,7 @@ pub struct ClassLine {
 // Whether class lines are fit to be netted, and the kW from holder i to holder j at i * 8 + j: all 0 where they are not.
 pub struct Netting {
     pub fit: bool,
-    pub m: [u64; PAIRS],
+    pub m: [u64; HOLDER_PAIRS],
 }
 
 // A line with a field outside its range: class 1 to 8, customers and average watts up to 9,999,999.
@@ -46,7 +46,7 @@ fn line_fits(from: u64, to: u64, class: u64, customers: u64, watts: u64) -> bool
     holders & !class_fields_out_of_range(class, customers, watts)
 }
 
-// Whether every one of n lines can be netted.
+// Whether every line can be netted.
 fn all_fit(froms: &[u64], tos: &[u64], classes: &[u64], customers: &[u64], watts: &[u64]) -> bool
     requires { ⌜ SameLengths (now froms) (now tos) (now classes) (now customers) (now watts) ⌝ }
     ensures { λ r. ⌜ r ≡ not (anyOf (classLinesOf (now (froms .entry)) (now (tos .entry)) (now (classes .entry)) (now (customers .entry)) (now (watts .entry))) unfitLine) ⌝ }
@@ -95,11 +95,16 @@ fn line_watts(customers: u64, watts: u64) -> u64
 }
 
 // The watts of the lines, summed one way for each pair of holders.
-fn watts_of_pairs(froms: &[u64], tos: &[u64], customers: &[u64], watts: &[u64]) -> [u64; PAIRS]
-    requires { ⌜ Summable (now froms) (now tos) (now customers) (now watts) ⌝ }
+fn watts_of_pairs(
+    froms: &[u64],
+    tos: &[u64],
+    customers: &[u64],
+    watts: &[u64],
+) -> [u64; HOLDER_PAIRS]
+    requires { ⌜ SummableLines (now froms) (now tos) (now customers) (now watts) ⌝ }
     ensures { λ r. ⌜ ((i j : ℕ) → i < maxHolders → j < maxHolders → pairAt r i j ≡ wattsTo (now (froms .entry)) (now (tos .entry)) (now (customers .entry)) (now (watts .entry)) (length (now (froms .entry))) i j) ⌝ }
 {
-    let mut cells = [0u64; PAIRS];
+    let mut cells = [0u64; HOLDER_PAIRS];
     let mut k = 0;
     while k < froms.len() {
         let line = line_watts(customers[k], watts[k]);
@@ -111,12 +116,12 @@ fn watts_of_pairs(froms: &[u64], tos: &[u64], customers: &[u64], watts: &[u64]) 
 }
 
 // The m of each pair: what the way there has more than the way back, in kW rounded down.
-fn netted_pairs(watts: [u64; PAIRS]) -> [u64; PAIRS]
+fn netted_pairs(watts: [u64; HOLDER_PAIRS]) -> [u64; HOLDER_PAIRS]
     ensures { λ r. ⌜ r ≡ pairCells (λ i j. (pairAt watts i j - pairAt watts j i) / wattsPerKw) ⌝ }
 {
-    let mut m = [0u64; PAIRS];
+    let mut m = [0u64; HOLDER_PAIRS];
     let mut k = 0;
-    while k < PAIRS {
+    while k < HOLDER_PAIRS {
         let back = k % MAX_HOLDERS * MAX_HOLDERS + k / MAX_HOLDERS;
         m[k] = saturating_sub(watts[k], watts[back]) / WATTS_PER_KW;
         k += 1;
@@ -141,6 +146,6 @@ pub fn net_lines(
     }
     Netting {
         fit: false,
-        m: [0u64; PAIRS],
+        m: [0u64; HOLDER_PAIRS],
     }
 }

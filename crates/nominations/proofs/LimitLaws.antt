@@ -28,7 +28,7 @@ use Rattle.ledger.proofs.Unmet.{unmet}
 use Rattle.records.specs.declared.answers.Answer.the-variants.{Value}
 use Rattle.records.specs.Opening.{openingIn}
 use Rattle.slots.specs.Cells.{HasCell, readAt}
-use Rattle.slots.specs.Layout.{loadSlot, priorSlot, carriedSlot, awardsSlot, tierSlots, figureSlots, figureCount, currentTierIn, ledgerIn}
+use Rattle.slots.specs.Layout.{loadSlot, priorAllocatedSlot, carriedSlot, awardsSlot, tierSlots, figureSlots, figureCount, currentTierIn, ledgerIn}
 use Rattle.slots.specs.Sums.{onPath}
 use Rattle.slots.specs.Steps.{Reachable, ReachableFigures, InFigures, queryAnswer}
 use Rattle.slots.proofs.Reachable.{counts, sound, figures-long}
@@ -97,7 +97,7 @@ module _ (o f : List ℕ) (tier h base month last : ℕ) (rule : TierRule) (inpu
     -- a sum over all paths, by the ledger's figure
     at-base : (slot : ℕ) (v : ℕ → ℕ) → ((p : ℕ) → p < 16 → onPath f h slot p ≡ v p) → slotTo O f h base slot (O .paths) ≡ sumAtBase O base v
     unfolding slotTo sumAtBase
-    at-base slot v e = sum-ext (O .paths) (λ p l. ap (whenTrue (opening.endsAt O base p)) (e p (le-trans l (counts o f m x r .3))))
+    at-base slot v e = sum-ext (O .paths) (λ p l. ap (whenTrue (opening.hasBase O base p)) (e p (le-trans l (counts o f m x r .3))))
 
     holder : h < 8
     holder = le-trans (inputs .holder) few
@@ -116,7 +116,7 @@ module _ (o f : List ℕ) (tier h base month last : ℕ) (rule : TierRule) (inpu
         record {
           load = (ofLoad ∙ from-zero f loadSlot terms h base (rule .term) holder (inputs .place) term-fits ∙ ap (L .loads .kw h base) term-is) i;
           carried = (at-base (carriedSlot + (month - 1)) _ (λ p k. by-number f carriedSlot lastMonth h p month holder k 1 (months .0) (omega arith)) ∙ ap (longTermAt O L h base) (ofTerm ∙ ap carriedMonth term-is)) i;
-          prior = at-base priorSlot _ (λ p k. from-zero f priorSlot 1 h p 0 holder k (omega arith)) i;
+          prior = at-base priorAllocatedSlot _ (λ p k. from-zero f priorAllocatedSlot 1 h p 0 holder k (omega arith)) i;
           tier1 = awards-at 1 (omega arith) i;
           tier2 = awards-at 2 (omega arith) i;
           tier3 = awards-at 3 (omega arith) i;

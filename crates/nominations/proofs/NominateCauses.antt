@@ -13,7 +13,7 @@ use Rattle.tariff.specs.Ranges.{kwOutOfRange}
 use Rattle.tariff.specs.Sum.{whenTrue}
 use Rattle.tariff.proofs.Sums.{sum-ext}
 use Rattle.tariff.proofs.Tests.{or-unmet}
-use Rattle.ledger.specs.Opening.{Opening, pathSink, pathBase, endsAt}
+use Rattle.ledger.specs.Opening.{Opening, pathSink, pathBase, hasBase}
 use Rattle.ledger.specs.Ledger.{Ledger}
 use Rattle.ledger.specs.Ranges.{unknownHolder, unknownPath}
 use Rattle.ledger.specs.Limits.{sumAtBase, nominatedAt, tierLimit}
@@ -76,7 +76,7 @@ module _ (o f : List ℕ) (m : List Bool) (x : List Entry) (h p : ℕ) where
     -- what the holder nominates at a base
     nominated-at : (base : ℕ) → sumAtBase O base (onPath f h nominatedSlot) ≡ nominatedAt O L h base (L .tiers .currentTier)
     unfolding sumAtBase nominatedAt
-    nominated-at base = sum-ext (O .paths) (λ q l. ap (whenTrue (endsAt O base q)) (nominated-now f m x h q holder (le-trans l (counts o f m x r .3))))
+    nominated-at base = sum-ext (O .paths) (λ q l. ap (whenTrue (hasBase O base q)) (nominated-now f m x h q holder (le-trans l (counts o f m x r .3))))
 
     pub base-room : (base v : ℕ) → v ≡ sumAtBase O base (onPath f h nominatedSlot) → v + kw < 2 ^ 64
     base-room base v e =

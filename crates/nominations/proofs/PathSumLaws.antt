@@ -10,12 +10,12 @@ use borrow.Author.Tests.{not-true, not-false}
 use Rattle.tariff.specs.declared.limit.Sums.{Sums}
 use Rattle.tariff.specs.Sum.{whenTrue, sumTo}
 use Rattle.tariff.proofs.Sums.{when-is-true, when-is-false, when-le, sum-more}
-use Rattle.ledger.specs.Opening.{Opening, pathBase, endsAt}
+use Rattle.ledger.specs.Opening.{Opening, pathBase, hasBase}
 use Rattle.ledger.proofs.Bounds.{paths-fit}
 use Rattle.records.specs.Opening.{openingIn}
-use Rattle.slots.specs.Layout.{priorSlot, awardsSlot, figureSlots}
+use Rattle.slots.specs.Layout.{priorAllocatedSlot, awardsSlot, figureSlots}
 use Rattle.slots.specs.Sums.{onPath, maxFigure}
-use Rattle.nominations.specs.PathSums.{withPath, slotTo, sumsTo, PathsSummable, SumsFit, PathFits}
+use Rattle.nominations.specs.PathSums.{withPath, slotTo, sumsTo, PathsSummable, SumsFit, PathSummable}
 
 module _ (f : List ℕ) (h p carried before : ℕ) (s : Sums) where
   -- a path that does not count leaves the sums
@@ -27,7 +27,7 @@ module _ (f : List ℕ) (h p carried before : ℕ) (s : Sums) where
       record {
         load = s .load;
         carried = same (s .carried) (onPath f h carried p) none i;
-        prior = same (s .prior) (onPath f h priorSlot p) none i;
+        prior = same (s .prior) (onPath f h priorAllocatedSlot p) none i;
         tier1 = same (s .tier1) (onPath f h (awardsSlot + 1) p) none i;
         tier2 = same (s .tier2) (onPath f h (awardsSlot + 2) p) none i;
         tier3 = same (s .tier3) (onPath f h (awardsSlot + 3) p) none i;
@@ -38,14 +38,14 @@ module _ (f : List ℕ) (h p carried before : ℕ) (s : Sums) where
       same sum v none = let zero = when-is-false v none in omega arith
 
   -- one that counts adds its figures
-  pub added : (counts : Bool) (a b c d e g : ℕ) → not counts ≡ false → a ≡ onPath f h carried p → b ≡ onPath f h priorSlot p → c ≡ onPath f h (awardsSlot + 1) p → d ≡ onPath f h (awardsSlot + 2) p → e ≡ onPath f h (awardsSlot + 3) p → g ≡ onPath f h before p → _≡_ {A = Sums} (record { load = s .load; carried = s .carried + a; prior = s .prior + b; tier1 = s .tier1 + c; tier2 = s .tier2 + d; tier3 = s .tier3 + e; before = s .before + g }) (withPath f h p carried before counts s)
+  pub added : (counts : Bool) (a b c d e g : ℕ) → not counts ≡ false → a ≡ onPath f h carried p → b ≡ onPath f h priorAllocatedSlot p → c ≡ onPath f h (awardsSlot + 1) p → d ≡ onPath f h (awardsSlot + 2) p → e ≡ onPath f h (awardsSlot + 3) p → g ≡ onPath f h before p → _≡_ {A = Sums} (record { load = s .load; carried = s .carried + a; prior = s .prior + b; tier1 = s .tier1 + c; tier2 = s .tier2 + d; tier3 = s .tier3 + e; before = s .before + g }) (withPath f h p carried before counts s)
   unfolding withPath
   added counts a b c d e g some ea eb ec ed ee eg =
       λ i.
       record {
         load = s .load;
         carried = more (s .carried) a (onPath f h carried p) ea i;
-        prior = more (s .prior) b (onPath f h priorSlot p) eb i;
+        prior = more (s .prior) b (onPath f h priorAllocatedSlot p) eb i;
         tier1 = more (s .tier1) c (onPath f h (awardsSlot + 1) p) ec i;
         tier2 = more (s .tier2) d (onPath f h (awardsSlot + 2) p) ed i;
         tier3 = more (s .tier3) e (onPath f h (awardsSlot + 3) p) ee i;
@@ -65,18 +65,18 @@ module _ (O : Opening) (f : List ℕ) (h base load carried before : ℕ) where
   unfolding sumsTo slotTo sumTo
   sums-none = refl
 
-  slot-more : (slot p : ℕ) → slotTo O f h base slot p + whenTrue (endsAt O base p) (onPath f h slot p) ≡ slotTo O f h base slot (p + 1)
+  slot-more : (slot p : ℕ) → slotTo O f h base slot p + whenTrue (hasBase O base p) (onPath f h slot p) ≡ slotTo O f h base slot (p + 1)
   unfolding slotTo
-  slot-more slot p = sum-more (λ p. whenTrue (endsAt O base p) (onPath f h slot p)) p _ _ refl refl
+  slot-more slot p = sum-more (λ p. whenTrue (hasBase O base p) (onPath f h slot p)) p _ _ refl refl
 
-  one-more : (p : ℕ) → withPath f h p carried before (endsAt O base p) (sumsTo O f h base load carried before p) ≡ sumsTo O f h base load carried before (p + 1)
+  one-more : (p : ℕ) → withPath f h p carried before (hasBase O base p) (sumsTo O f h base load carried before p) ≡ sumsTo O f h base load carried before (p + 1)
   unfolding withPath sumsTo
   one-more p =
       λ i.
       record {
         load = load;
         carried = slot-more carried p i;
-        prior = slot-more priorSlot p i;
+        prior = slot-more priorAllocatedSlot p i;
         tier1 = slot-more (awardsSlot + 1) p i;
         tier2 = slot-more (awardsSlot + 2) p i;
         tier3 = slot-more (awardsSlot + 3) p i;
@@ -84,7 +84,7 @@ module _ (O : Opening) (f : List ℕ) (h base load carried before : ℕ) where
       }
 
   pub sums-more : (p there : ℕ) (sums next : Sums) → next ≡ withPath f h p carried before (eqb there base) sums → there ≡ pathBase O p → sums ≡ sumsTo O f h base load carried before p → next ≡ sumsTo O f h base load carried before (p + 1)
-  unfolding endsAt
+  unfolding hasBase
   sums-more p there sums next e t s = e ∙ (λ i. withPath f h p carried before (eqb (t i) base) (s i)) ∙ one-more p
 
   pub sums-whole : (p n : ℕ) (sums : Sums) → p ≤ n → n ≤ p → sums ≡ sumsTo O f h base load carried before p → sums ≡ sumsTo O f h base load carried before n
@@ -98,14 +98,14 @@ module _ (o f : List ℕ) (h base load carried before : ℕ) (all : PathsSummabl
   unfolding slotTo
   slot-fits slot n l k =
       let s = all .slots slot l in
-      paths-fit (λ p. whenTrue (endsAt O base p) (onPath f h slot p)) n maxFigure (le-trans k (s .few)) (λ p i. le-trans (when-le (endsAt O base p) (onPath f h slot p)) (s .each p (le-trans i k)))
+      paths-fit (λ p. whenTrue (hasBase O base p) (onPath f h slot p)) n maxFigure (le-trans k (s .few)) (λ p i. le-trans (when-le (hasBase O base p) (onPath f h slot p)) (s .each p (le-trans i k)))
 
   sums-fit : (n : ℕ) → n ≤ O .paths → SumsFit (sumsTo O f h base load carried before n)
   unfolding sumsTo
   sums-fit n k =
       record {
         carried = slot-fits carried n (all .carriedInRow) k;
-        prior = slot-fits priorSlot n (omega arith) k;
+        prior = slot-fits priorAllocatedSlot n (omega arith) k;
         tier1 = slot-fits (awardsSlot + 1) n (omega arith) k;
         tier2 = slot-fits (awardsSlot + 2) n (omega arith) k;
         tier3 = slot-fits (awardsSlot + 3) n (omega arith) k;
@@ -113,7 +113,7 @@ module _ (o f : List ℕ) (h base load carried before : ℕ) (all : PathsSummabl
       }
 
   -- the next path's figures can be added
-  pub path-fits : (p n : ℕ) (sums : Sums) → n ≡ O .paths → p < n → sums ≡ sumsTo O f h base load carried before p → PathFits f h p carried before sums
+  pub path-fits : (p n : ℕ) (sums : Sums) → n ≡ O .paths → p < n → sums ≡ sumsTo O f h base load carried before p → PathSummable f h p carried before sums
   path-fits p n sums e l is =
       let s = all .slots 0 (omega arith) in
       let there : p < O .paths = omega arith in

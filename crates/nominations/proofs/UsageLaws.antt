@@ -12,7 +12,7 @@ use Rattle.tariff.specs.declared.evidence.Entry.{Entry}
 use Rattle.tariff.specs.Sum.{whenTrue, sumTo}
 use Rattle.tariff.specs.Terms.{termOf}
 use Rattle.tariff.proofs.Sums.{when-is-true, when-is-false, when-le, sum-ext, sum-bound, sum-part-le}
-use Rattle.ledger.specs.Opening.{Opening, comesFrom}
+use Rattle.ledger.specs.Opening.{Opening, hasSource}
 use Rattle.ledger.specs.Ledger.{Ledger}
 use Rattle.ledger.specs.Verification.{sumFromSource, usesSameEvidence, usedBefore, sourceUsage}
 use Rattle.records.specs.Opening.{openingIn}
@@ -50,7 +50,7 @@ module _ (o f : List ℕ) (m : List Bool) (x : List Entry) (r : Reachable o f m 
   -- a sum from the source, by the ledger's figure
   from-source : (slot : ℕ) (v : ℕ → ℕ) → ((p : ℕ) → p < 16 → onPath f h slot p ≡ v p) → sumFromSource O s (onPath f h slot) ≡ sumFromSource O s v
   unfolding sumFromSource
-  from-source slot v e = sum-ext (O .paths) (λ p k. ap (whenTrue (comesFrom O s p)) (e p (le-trans k (counts o f m x r .3))))
+  from-source slot v e = sum-ext (O .paths) (λ p k. ap (whenTrue (hasSource O s p)) (e p (le-trans k (counts o f m x r .3))))
 
   awards-from : (n : ℕ) → n ≤ lastTier → sumFromSource O s (onPath f h (awardsSlot + n)) ≡ sumFromSource O s (λ p. L .tiers .awards h p n)
   unfolding ledgerIn

@@ -7,25 +7,25 @@ use Rattle.records.specs.Opening.{openingIn}
 use Rattle.slots.specs.Cells.{maxPlaces}
 use Rattle.slots.specs.Steps.{ReachableFigures}
 
--- the limit of a tier, or of none, of a holder in the book at a place of a sink
+-- for a limit: tier 0 to 9, a holder in the book, a base below 16
 pub record LimitInputs (o f : List ℕ) (tier h base : ℕ) : Type 0 where
   pub figures : ReachableFigures o f
   pub last : tier ≤ lastTier
   pub holder : h < openingIn o .holders
   pub place : base < maxPlaces
 
--- what a holder in the book has verified at a place of a source
+-- for verified kW: a holder in the book, a source below 16
 pub record SourceInputs (o f : List ℕ) (h s : ℕ) : Type 0 where
   pub figures : ReachableFigures o f
   pub holder : h < openingIn o .holders
   pub place : s < maxPlaces
 
--- what it uses of that, in the open tier ..
+-- for usage in the open tier: a holder in the book
 pub record HolderInputs (o f : List ℕ) (h : ℕ) : Type 0 where
   pub figures : ReachableFigures o f
   pub holder : h < openingIn o .holders
 
--- .. and in a tier, or in none
+-- for usage in tier 0 to 9: a holder in the book
 pub record UsageInputs (o f : List ℕ) (h tier : ℕ) : Type 0 where
   pub figures : ReachableFigures o f
   pub holder : h < openingIn o .holders

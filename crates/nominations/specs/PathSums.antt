@@ -6,9 +6,9 @@ use mathlib.Core.List.{List}
 use lib.ListN.{length}
 use Rattle.tariff.specs.declared.limit.Sums.{Sums}
 use Rattle.tariff.specs.Sum.{whenTrue, sumTo}
-use Rattle.ledger.specs.Opening.{Opening, endsAt}
+use Rattle.ledger.specs.Opening.{Opening, hasBase}
 use Rattle.slots.specs.Cells.{maxHolders, maxPlaces}
-use Rattle.slots.specs.Layout.{figureSlots, figureCount, priorSlot, awardsSlot}
+use Rattle.slots.specs.Layout.{figureSlots, figureCount, priorAllocatedSlot, awardsSlot}
 use Rattle.slots.specs.Sums.{onPath, maxFigure, Summable}
 
 -- Last year's allocation and the awards of tiers 1 to 3 have the same slots in every tier. Two more depend on the tier: that of the carried holding, by
@@ -20,7 +20,7 @@ withPath f h p carried before counts s =
     record {
       load = s .load;
       carried = s .carried + whenTrue counts (onPath f h carried p);
-      prior = s .prior + whenTrue counts (onPath f h priorSlot p);
+      prior = s .prior + whenTrue counts (onPath f h priorAllocatedSlot p);
       tier1 = s .tier1 + whenTrue counts (onPath f h (awardsSlot + 1) p);
       tier2 = s .tier2 + whenTrue counts (onPath f h (awardsSlot + 2) p);
       tier3 = s .tier3 + whenTrue counts (onPath f h (awardsSlot + 3) p);
@@ -29,7 +29,7 @@ withPath f h p carried before counts s =
 
 -- what a holder has in a slot on the first n paths, of those whose sink has this base
 unfoldable pub slotTo : Opening → List ℕ → (h base slot n : ℕ) → ℕ
-slotTo O f h base slot n = sumTo n (λ p. whenTrue (endsAt O base p) (onPath f h slot p))
+slotTo O f h base slot n = sumTo n (λ p. whenTrue (hasBase O base p) (onPath f h slot p))
 
 -- the sums after n paths
 unfoldable pub sumsTo : Opening → List ℕ → (h base load carried before n : ℕ) → Sums
@@ -37,7 +37,7 @@ sumsTo O f h base load carried before n =
     record {
       load = load;
       carried = slotTo O f h base carried n;
-      prior = slotTo O f h base priorSlot n;
+      prior = slotTo O f h base priorAllocatedSlot n;
       tier1 = slotTo O f h base (awardsSlot + 1) n;
       tier2 = slotTo O f h base (awardsSlot + 2) n;
       tier3 = slotTo O f h base (awardsSlot + 3) n;
@@ -60,7 +60,7 @@ pub record SumsFit (s : Sums) : Type 0 where
   pub before : s .before ≤ maxPlaces * maxFigure
 
 -- a path's figures are there and small, and so are the sums that they are added to
-pub record PathFits (f : List ℕ) (h p carried before : ℕ) (s : Sums) : Type 0 where
+pub record PathSummable (f : List ℕ) (h p carried before : ℕ) (s : Sums) : Type 0 where
   pub long : length f ≡ figureCount
   pub holder : h < maxHolders
   pub place : p < maxPlaces

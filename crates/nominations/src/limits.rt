@@ -1,6 +1,6 @@
 // The limit of a tier: the sums that it is made of, added up in one pass over the paths, and the limit itself (01, Limits).
 use records::answers::Answer;
-use records::calendar::is_open;
+use records::calendar::tier_is_open;
 use records::numbers::NOT_AT_THIS_TIME;
 use records::numbers::NOT_IN_BOOK;
 use records::refusals::refuse;
@@ -11,10 +11,10 @@ use records::setup::unknown_holder;
 use records::setup::unknown_sink;
 use slots::calendar::current_tier;
 use slots::cells::read;
-use slots::layout::AWARDS;
-use slots::layout::CARRIED;
-use slots::layout::LOAD;
-use slots::layout::PRIOR;
+use slots::layout::AWARDS_SLOT;
+use slots::layout::CARRIED_SLOT;
+use slots::layout::LOAD_SLOT;
+use slots::layout::PRIOR_ALLOCATED_SLOT;
 use tariff::limit::Sums;
 use tariff::limit::saturating_sub;
 use tariff::limit::tier_rule;
@@ -26,12 +26,12 @@ ghost use Rattle.ledger.specs.Limits.{limitSums, tierLimit};
 ghost use Rattle.records.specs.Opening.{openingOf};
 ghost use Rattle.slots.specs.Steps.{ReachableFigures, InFigures, queryAnswer};
 ghost use Rattle.nominations.specs.Inputs.{LimitInputs};
-ghost use Rattle.nominations.specs.PathSums.{withPath, sumsTo, PathFits, PathsSummable};
+ghost use Rattle.nominations.specs.PathSums.{withPath, sumsTo, PathSummable, PathsSummable};
 
 // The sums with the figures of one path more, where it counts. `carried` is the slot of the month's carried holding, `before` that of the awards of
 // the tier before.
 fn with_path(f: &[u64], h: u64, p: u64, carried: u64, before: u64, counts: bool, sums: Sums) -> Sums
-    requires { ⌜ PathFits (now f) h p carried before sums ⌝ }
+    requires { ⌜ PathSummable (now f) h p carried before sums ⌝ }
     ensures { λ r. ⌜ r ≡ withPath (now (f .entry)) h p carried before counts sums ⌝ }
 {
     if !counts {
@@ -40,10 +40,10 @@ fn with_path(f: &[u64], h: u64, p: u64, carried: u64, before: u64, counts: bool,
     Sums {
         load: sums.load,
         carried: sums.carried + read(f, h, p, carried),
-        prior: sums.prior + read(f, h, p, PRIOR),
-        tier1: sums.tier1 + read(f, h, p, AWARDS + 1),
-        tier2: sums.tier2 + read(f, h, p, AWARDS + 2),
-        tier3: sums.tier3 + read(f, h, p, AWARDS + 3),
+        prior: sums.prior + read(f, h, p, PRIOR_ALLOCATED_SLOT),
+        tier1: sums.tier1 + read(f, h, p, AWARDS_SLOT + 1),
+        tier2: sums.tier2 + read(f, h, p, AWARDS_SLOT + 2),
+        tier3: sums.tier3 + read(f, h, p, AWARDS_SLOT + 3),
         before: sums.before + read(f, h, p, before),
     }
 }
@@ -79,8 +79,16 @@ fn limit_sums(o: &[u64], f: &[u64], tier: u64, h: u64, base: u64) -> Sums
     let term = rule.term;
     let month = carried_month(term);
     let last = saturating_sub(tier, 1);
-    let load = read(f, h, base, LOAD + term);
-    sum_paths(o, f, h, base, load, CARRIED + (month - 1), AWARDS + last)
+    let load = read(f, h, base, LOAD_SLOT + term);
+    sum_paths(
+        o,
+        f,
+        h,
+        base,
+        load,
+        CARRIED_SLOT + (month - 1),
+        AWARDS_SLOT + last,
+    )
 }
 
 // The limit on what a holder nominates at a base in a tier.
@@ -97,7 +105,7 @@ fn limit_refusal(o: &[u64], f: &[u64], h: u64, s: u64) -> u64
     ensures { λ r. ⌜ InFigures (now (o .entry)) (now (f .entry)) (λ O L. r ≡ queryRefusal O L (limitOf h s)) ⌝ }
 {
     let unknown = unknown_holder(o, h) | unknown_sink(o, s);
-    let idle = !is_open(current_tier(f));
+    let idle = !tier_is_open(current_tier(f));
     refuse(NOT_IN_BOOK, unknown, refuse(NOT_AT_THIS_TIME, idle, 0))
 }
 

@@ -3,7 +3,7 @@ use crate::limits::tier_limit;
 use crate::source_usage::source_usage;
 use crate::source_usage::verified_kw;
 use records::answers::Answer;
-use records::calendar::is_open;
+use records::calendar::tier_is_open;
 use records::kinds::OBAALSE;
 use records::numbers::ABOVE_LIMIT;
 use records::numbers::ABOVE_PRIOR;
@@ -25,8 +25,8 @@ use records::setup::unknown_path;
 use slots::calendar::current_tier;
 use slots::cells::add;
 use slots::cells::read;
-use slots::layout::NOMINATED;
-use slots::layout::PRIOR_REMAINING;
+use slots::layout::NOMINATED_SLOT;
+use slots::layout::PRIOR_REMAINING_SLOT;
 use slots::sums::sum_at_base;
 ghost use mathlib.Core.Path.{_≡_};
 ghost use mathlib.Core.Bool.{_||_, _&&_};
@@ -68,8 +68,8 @@ fn exceeds_prior(o: &[u64], f: &[u64], h: u64, p: u64, kw: u64) -> bool
     requires { ⌜ NominationInputs (now o) (now f) h p kw ⌝ }
     ensures { λ r. ⌜ InFigures (now (o .entry)) (now (f .entry)) (λ O L. r ≡ exceedsPrior L (L .tiers .currentTier) h p kw) ⌝ }
 {
-    let remaining = read(f, h, p, PRIOR_REMAINING);
-    let wanted = read(f, h, p, NOMINATED) + kw;
+    let remaining = read(f, h, p, PRIOR_REMAINING_SLOT);
+    let wanted = read(f, h, p, NOMINATED_SLOT) + kw;
     (current_tier(f) == 1) & (remaining < wanted)
 }
 
@@ -80,7 +80,7 @@ fn exceeds_limit(o: &[u64], f: &[u64], h: u64, p: u64, kw: u64) -> bool
 {
     let base = path_base(o, p);
     let limit = tier_limit(o, f, current_tier(f), h, base);
-    let wanted = sum_at_base(o, f, h, NOMINATED, base) + kw;
+    let wanted = sum_at_base(o, f, h, NOMINATED_SLOT, base) + kw;
     limit < wanted
 }
 
@@ -114,7 +114,7 @@ fn nominate_refusal(o: &[u64], f: &[u64], h: u64, p: u64, kw: u64) -> u64
     if kw_out_of_range(kw) {
         return OUT_OF_RANGE;
     }
-    if !is_open(current_tier(f)) {
+    if !tier_is_open(current_tier(f)) {
         return NOT_AT_THIS_TIME;
     }
     refusal_in_tier(o, f, h, p, kw)
@@ -129,6 +129,6 @@ pub fn nominate(o: &[u64], f: &mut [u64], h: u64, p: u64, kw: u64) -> Answer
     if number != 0 {
         return Answer::Refused(number);
     }
-    add(f, h, p, NOMINATED, kw);
+    add(f, h, p, NOMINATED_SLOT, kw);
     Answer::Done
 }

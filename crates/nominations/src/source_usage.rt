@@ -1,9 +1,9 @@
 // What a holder has verified of a source, and what it uses of it (01, Tiers, Nominate; cause 11).
 use slots::calendar::current_tier;
 use slots::cells::read;
-use slots::layout::AWARDS;
-use slots::layout::NOMINATED;
-use slots::layout::VERIFIED;
+use slots::layout::AWARDS_SLOT;
+use slots::layout::NOMINATED_SLOT;
+use slots::layout::VERIFIED_SLOT;
 use slots::sums::sum_from_source;
 use tariff::sizes::LAST_SEASON_TIER;
 use tariff::sizes::TERMS;
@@ -20,7 +20,7 @@ pub fn verified_kw(o: &[u64], f: &[u64], h: u64, s: u64) -> u64
     requires { ⌜ SourceInputs (now o) (now f) h s ⌝ }
     ensures { λ r. ⌜ InFigures (now (o .entry)) (now (f .entry)) (λ O L. r ≡ verifiedKw L h s (termOf (L .tiers .currentTier))) ⌝ }
 {
-    let ownership = VERIFIED + term_of(current_tier(f));
+    let ownership = VERIFIED_SLOT + term_of(current_tier(f));
     let contract = ownership + TERMS;
     read(f, h, s, ownership) + read(f, h, s, contract)
 }
@@ -40,7 +40,7 @@ fn awards_used(o: &[u64], f: &[u64], h: u64, s: u64, tier: u64, n: u64) -> u64
     if !uses_same_evidence(tier, n) {
         return 0;
     }
-    sum_from_source(o, f, h, AWARDS + n, s)
+    sum_from_source(o, f, h, AWARDS_SLOT + n, s)
 }
 
 // What a holder's awards of the tiers before use of its evidence for a source in a tier.
@@ -61,5 +61,5 @@ pub fn source_usage(o: &[u64], f: &[u64], h: u64, s: u64) -> u64
     ensures { λ r. ⌜ InFigures (now (o .entry)) (now (f .entry)) (λ O L. r ≡ sourceUsage O L (L .tiers .currentTier) h s) ⌝ }
 {
     let before = used_before(o, f, h, s, current_tier(f));
-    sum_from_source(o, f, h, NOMINATED, s) + before
+    sum_from_source(o, f, h, NOMINATED_SLOT, s) + before
 }

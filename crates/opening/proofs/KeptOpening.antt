@@ -14,7 +14,7 @@ use Rattle.ledger.specs.Opening.{Opening, countsFit, listsFit, holderLegal, sin
 use Rattle.records.specs.declared.answers.Answer.the-variants.{Done, Refused}
 use Rattle.records.specs.Opening.{openingCount, basesAt, openingIn, openingLists, pathBases, openingArray, emptyOpening}
 use Rattle.records.proofs.OpeningLaws.{counts-small, legal-fits, opening-before, opening-by-lists}
-use Rattle.opening.specs.Opened.{openedAnswer, openedOpening}
+use Rattle.opening.specs.Opened.{openingAnswer, resultingOpening}
 use Rattle.opening.proofs.KeptArray.{empty-kept}
 
 -- an opening whose counts or lists do not fit is not legal
@@ -76,14 +76,14 @@ module _ (o : Opening) (kept : List ℕ) (keeps : take basesAt kept ≡ openingL
         legal-by-lists-kept : legal o ≡ true → openingIn kept ≡ o
         legal-by-lists-kept ok = let fits = legal-fits o ok in opening-by-lists o kept keeps (fits .0) (fits .1)
 
-    pub opened-done : (left : List ℕ) → (lists && lines) ≡ true → left ≡ take basesAt kept ++ pathBases (openingIn kept) → (Done ≡ openedAnswer o) × (left ≡ openingArray (openedOpening o))
-    unfolding openedAnswer openedOpening
+    pub opened-done : (left : List ℕ) → (lists && lines) ≡ true → left ≡ take basesAt kept ++ pathBases (openingIn kept) → (Done ≡ openingAnswer o) × (left ≡ openingArray (resultingOpening o))
+    unfolding openingAnswer resultingOpening
     opened-done left e bases =
         let t = tested e in
         (sym (ap (λ t. cond t Done (Refused (openingRefusal o))) t), with-bases left t bases ∙ sym (ap (λ t. openingArray (cond t o emptyOpening)) t))
 
-    pub opened-refused : (left : List ℕ) → (lists && lines) ≡ false → left ≡ tabulate openingCount (λ k. 0) → (Refused 16 ≡ openedAnswer o) × (left ≡ openingArray (openedOpening o))
-    unfolding openedAnswer openedOpening openingRefusal
+    pub opened-refused : (left : List ℕ) → (lists && lines) ≡ false → left ≡ tabulate openingCount (λ k. 0) → (Refused 16 ≡ openingAnswer o) × (left ≡ openingArray (resultingOpening o))
+    unfolding openingAnswer resultingOpening openingRefusal
     opened-refused left e cleared =
         let t = tested e in
         (sym (ap (λ t. cond t Done (Refused (cond t 0 16))) t), cleared ∙ empty-kept ∙ sym (ap (λ t. openingArray (cond t o emptyOpening)) t))

@@ -6,9 +6,9 @@ use Rattle.records.specs.declared.answers.Answer.the-variants.{Done, Refused}
 use Rattle.records.specs.Opening.{emptyOpening}
 
 -- a legal opening is done, any other refused
-unfoldable pub openedAnswer : Opening → Answer
-openedAnswer o = cond (legal o) Done (Refused (openingRefusal o))
+unfoldable pub openingAnswer : Opening → Answer
+openingAnswer o = cond (legal o) Done (Refused (openingRefusal o))
 
 -- a refused one leaves an opening with nothing in it, so that every book returned is one that opening and calls lead to
-unfoldable pub openedOpening : Opening → Opening
-openedOpening o = cond (legal o) o emptyOpening
+unfoldable pub resultingOpening : Opening → Opening
+resultingOpening o = cond (legal o) o emptyOpening

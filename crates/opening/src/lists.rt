@@ -1,11 +1,11 @@
 // The counts and lists that a book is opened with, kept in an array (01, The book).
-use records::setup::BASES;
-use records::setup::HOLDER_KINDS;
-use records::setup::OPENING;
-use records::setup::PATH_SINKS;
-use records::setup::PATH_SOURCES;
-use records::setup::SINK_KINDS;
-use records::setup::SINK_PARENTS;
+use records::setup::BASES_AT;
+use records::setup::HOLDER_KINDS_AT;
+use records::setup::OPENING_COUNT;
+use records::setup::PATH_SINKS_AT;
+use records::setup::PATH_SOURCES_AT;
+use records::setup::SINK_KINDS_AT;
+use records::setup::SINK_PARENTS_AT;
 use records::setup::base_by_sink;
 use tariff::sizes::MAX_PLACES;
 ghost use mathlib.Core.Path.{_≡_};
@@ -47,11 +47,11 @@ pub fn keep_opening(
     o[1] = sources;
     o[2] = sinks;
     o[3] = paths;
-    copy_into(&mut o[HOLDER_KINDS..SINK_KINDS], holder_kinds);
-    copy_into(&mut o[SINK_KINDS..SINK_PARENTS], sink_kinds);
-    copy_into(&mut o[SINK_PARENTS..PATH_SOURCES], sink_parents);
-    copy_into(&mut o[PATH_SOURCES..PATH_SINKS], path_sources);
-    copy_into(&mut o[PATH_SINKS..BASES], path_sinks);
+    copy_into(&mut o[HOLDER_KINDS_AT..SINK_KINDS_AT], holder_kinds);
+    copy_into(&mut o[SINK_KINDS_AT..SINK_PARENTS_AT], sink_kinds);
+    copy_into(&mut o[SINK_PARENTS_AT..PATH_SOURCES_AT], sink_parents);
+    copy_into(&mut o[PATH_SOURCES_AT..PATH_SINKS_AT], path_sources);
+    copy_into(&mut o[PATH_SINKS_AT..BASES_AT], path_sinks);
 }
 
 // The base of each path of the opening that an array keeps.
@@ -73,7 +73,7 @@ pub fn keep_bases(o: &mut [u64])
     ensures { λ r. ⌜ now (o .exit) ≡ take basesAt (now (o .entry)) ++ pathBases (openingOf (o .entry)) ⌝ }
 {
     let bases = path_bases(o);
-    copy_into(&mut o[BASES..OPENING], &bases);
+    copy_into(&mut o[BASES_AT..OPENING_COUNT], &bases);
 }
 
 // Each list has as many entries as are counted.

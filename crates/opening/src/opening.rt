@@ -9,7 +9,7 @@ use records::numbers::BREAKS_RULES;
 ghost use mathlib.Core.Path.{_≡_};
 ghost use lib.ListN.{length};
 ghost use Rattle.records.specs.Opening.{openingCount, openingArray, openingFrom};
-ghost use Rattle.opening.specs.Opened.{openedAnswer, openedOpening};
+ghost use Rattle.opening.specs.Opened.{openingAnswer, resultingOpening};
 
 // Opens a book, for any counts and slices. A refused one leaves an opening with nothing in it, so that what is left is always a book.
 pub fn open(
@@ -25,8 +25,8 @@ pub fn open(
     path_sinks: &[u64],
 ) -> Answer
     requires { ⌜ length (now o) ≡ openingCount ⌝ }
-    ensures answered { λ r. ⌜ r ≡ openedAnswer (openingFrom holders sources sinks paths (now («holder_kinds» .entry)) (now («sink_kinds» .entry)) (now («sink_parents» .entry)) (now («path_sources» .entry)) (now («path_sinks» .entry))) ⌝ }
-    ensures kept { λ r. ⌜ now (o .exit) ≡ openingArray (openedOpening (openingFrom holders sources sinks paths (now («holder_kinds» .entry)) (now («sink_kinds» .entry)) (now («sink_parents» .entry)) (now («path_sources» .entry)) (now («path_sinks» .entry)))) ⌝ }
+    ensures answered { λ r. ⌜ r ≡ openingAnswer (openingFrom holders sources sinks paths (now («holder_kinds» .entry)) (now («sink_kinds» .entry)) (now («sink_parents» .entry)) (now («path_sources» .entry)) (now («path_sinks» .entry))) ⌝ }
+    ensures kept { λ r. ⌜ now (o .exit) ≡ openingArray (resultingOpening (openingFrom holders sources sinks paths (now («holder_kinds» .entry)) (now («sink_kinds» .entry)) (now («sink_parents» .entry)) (now («path_sources» .entry)) (now («path_sinks» .entry)))) ⌝ }
 {
     keep_opening(
         o,

@@ -8,7 +8,7 @@ use lib.Dec.{leb, ltb}
 use borrow.Author.Tests.{ltb-true, ltb-false, leb-true, leb-false, lt-ltb, le-ltb, le-leb, lt-leb}
 use Rattle.tariff.proofs.Tests.{and-join, and-left-false, and-right-false, decided}
 use Rattle.slots.specs.Cells.{lookAt}
-use Rattle.slots.specs.Layout.{postedSlots, postedIn}
+use Rattle.slots.specs.Layout.{postedSlots, isPostedIn}
 use Rattle.slots.proofs.PostedLaws.{posted-number, posted-nowhere}
 use Rattle.postings.specs.PostedSlot.{postedSlot}
 
@@ -27,10 +27,10 @@ module _ (from count low k : ℕ) where
   slot-there above below = sym (ap (λ t. cond t (from + (k - low)) postedSlots) (and-join (le-leb low k above) (lt-ltb k (low + count) below)))
 
   -- what stands in the slot
-  pub posted-there : (m : List Bool) (h p slot : ℕ) → from + count ≤ postedSlots → slot ≡ postedSlot from count low k → lookAt postedSlots false m h p slot ≡ postedIn m from count low h p k
+  pub posted-there : (m : List Bool) (h p slot : ℕ) → from + count ≤ postedSlots → slot ≡ postedSlot from count low k → lookAt postedSlots false m h p slot ≡ isPostedIn m from count low h p k
   posted-there m h p slot fits is = ap (lookAt postedSlots false m h p) is ∙ go (decided (leb low k)) (decided (ltb k (low + count)))
     where
-      go : (leb low k ≡ true) ⊎ (leb low k ≡ false) → (ltb k (low + count) ≡ true) ⊎ (ltb k (low + count) ≡ false) → lookAt postedSlots false m h p (postedSlot from count low k) ≡ postedIn m from count low h p k
+      go : (leb low k ≡ true) ⊎ (leb low k ≡ false) → (ltb k (low + count) ≡ true) ⊎ (ltb k (low + count) ≡ false) → lookAt postedSlots false m h p (postedSlot from count low k) ≡ isPostedIn m from count low h p k
       go (inl a) (inl b) =
           let above = leb-true low k a in
           let below = ltb-true k (low + count) b in

@@ -86,15 +86,15 @@ module _ (O : Opening) (L : Ledger) (h s term contract n : ℕ) (firsts hours kw
           unmet-first notInBook _ _ (r2 .0) (unmet-first outOfRange _ _ (r3 .0) (unmet-first notAtThisTime _ _ (r4 .0) (unmet-first postedBefore _ _ (r5 .0) later)))
 
   -- what is known past causes 2 to 5: the tests of cause 10, and what the function that finds the kW gave
-  pub record Passed (early : ℕ) (notFor subLap : Bool) (given : Metering) : Type 0 where
+  pub record Passed (early : ℕ) (ineligible subLap : Bool) (given : Metering) : Type 0 where
     pub even : sameLengths firsts hours kws ≡ true
     pub found : early ≡ firstMet (take 4 (causes (kwBlocks kws)))
     pub none : early ≡ 0
-    pub ofSink : notFor ≡ kindIneligible O h s
+    pub ofSink : ineligible ≡ kindIneligible O h s
     pub ofSubLap : subLap ≡ isSubLap O s
     pub metered : given ≡ loadOrCause firsts hours kws n contract
 
-  module _ {early : ℕ} {notFor subLap : Bool} {given : Metering} (w : Passed early notFor subLap given) where
+  module _ {early : ℕ} {ineligible subLap : Bool} {given : Metering} (w : Passed early ineligible subLap given) where
     metered-is : {m : Metering} → given ≡ m → m ≡ unlessRefused n blocks (loadPosted contract blocks)
     unfolding loadOrCause meteringBy
     metered-is same = sym same ∙ w .metered ∙ ap (λ t. cond t (unlessRefused n blocks (loadPosted contract blocks)) (meteringBy unreadable 0)) (w .even)
@@ -121,16 +121,16 @@ module _ (O : Opening) (L : Ledger) (h s term contract n : ℕ) (firsts hours kw
 
     module _ (kw : ℕ) (same : given ≡ MeteredKw kw) where
       -- the tests of cause 10
-      sink-test : {t : Bool} → (notFor || subLap) ≡ t → (kindIneligible O h s || isSubLap O s) ≡ t
+      sink-test : {t : Bool} → (ineligible || subLap) ≡ t → (kindIneligible O h s || isSubLap O s) ≡ t
       sink-test e = ap₂ (λ x y. x || y) (sym (w .ofSink)) (sym (w .ofSubLap)) ∙ e
 
-      pub sink-stops : (notFor || subLap) ≡ true → Refused sinkIneligible ≡ postingOf O L h s term contract n firsts hours kws
+      pub sink-stops : (ineligible || subLap) ≡ true → Refused sinkIneligible ≡ postingOf O L h s term contract n firsts hours kws
       unfolding loadCauses
       sink-stops e =
           let t = when-kw n blocks (loadPosted contract blocks) kw (metered-is same) in
           late-stops sinkIneligible (unmet-first brokenBlocks _ _ (t .0) (unmet-first hoursMissing _ _ (t .1) (met-first sinkIneligible _ _ (sink-test e)))) (λ z. omega (arith, z))
 
-      pub kw-posts : (notFor || subLap) ≡ false → Kw kw ≡ postingOf O L h s term contract n firsts hours kws
+      pub kw-posts : (ineligible || subLap) ≡ false → Kw kw ≡ postingOf O L h s term contract n firsts hours kws
       unfolding loadCauses
       kw-posts e =
           let t = when-kw n blocks (loadPosted contract blocks) kw (metered-is same) in

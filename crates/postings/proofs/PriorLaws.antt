@@ -17,7 +17,7 @@ use Rattle.records.specs.declared.answers.Answer.the-variants.{Done}
 use Rattle.records.specs.Opening.{openingIn}
 use Rattle.slots.specs.Cells.{HasCell, storedAt, addedAt}
 use Rattle.slots.specs.Groups.{slotsOf}
-use Rattle.slots.specs.Layout.{figureSlots, postedSlots, postedCount, figureGroups, postedGroups, evidenceGroups, calendarOf, figuresOf, postedOf, evidenceOf, ledgerIn, priorSlot, priorRemainingSlot, carriedSlot, priorPostedSlot}
+use Rattle.slots.specs.Layout.{figureSlots, postedSlots, postedCount, figureGroups, postedGroups, evidenceGroups, calendarOf, figuresOf, postedOf, evidenceOf, ledgerIn, priorAllocatedSlot, priorRemainingSlot, carriedSlot, priorPostedSlot}
 use Rattle.slots.specs.Months.{HasRoom}
 use Rattle.slots.specs.Steps.{Reachable, Steps}
 use Rattle.slots.proofs.CellLaws.{shown-is}
@@ -51,7 +51,7 @@ module _ (o f : List ℕ) (m : List Bool) (x : List Entry) (h p a l number : ℕ
   prior-part = facts .part
 
   -- the two slots are there, and have room for a
-  pub prior-room : HasRoom f h p priorSlot carriedSlot a
+  pub prior-room : HasRoom f h p priorAllocatedSlot carriedSlot a
   prior-room =
       record {
         long = figures-long o f m x r;
@@ -62,20 +62,20 @@ module _ (o f : List ℕ) (m : List Bool) (x : List Entry) (h p a l number : ℕ
       }
 
   -- and so has the second one once a was added in the first
-  pub remaining-room : (f′ : List ℕ) → f′ ≡ addedAt figureSlots f h p priorSlot a → HasRoom f′ h p priorRemainingSlot carriedSlot a
-  remaining-room f′ e = room-next f f′ h p priorSlot carriedSlot a a priorRemainingSlot prior-room (omega arith) (omega arith) e
+  pub remaining-room : (f′ : List ℕ) → f′ ≡ addedAt figureSlots f h p priorAllocatedSlot a → HasRoom f′ h p priorRemainingSlot carriedSlot a
+  remaining-room f′ e = room-next f f′ h p priorAllocatedSlot carriedSlot a a priorRemainingSlot prior-room (omega arith) (omega arith) e
 
   pub prior-cell : HasCell postedSlots h p priorPostedSlot × (length m ≡ postedCount)
   prior-cell = (record { holder = holder; place = path; inRow = omega arith }, posted-long o f m x r)
 
   -- last year's allocation, what remains of it and the note of the posting are new, and nothing else
-  allocated : (f₁ f₂ : List ℕ) → f₁ ≡ addedAt figureSlots f h p priorSlot a → f₂ ≡ addedAt figureSlots f₁ h p priorRemainingSlot (a - l) → f₂ ≡ figuresOf (effect O L call)
+  allocated : (f₁ f₂ : List ℕ) → f₁ ≡ addedAt figureSlots f h p priorAllocatedSlot a → f₂ ≡ addedAt figureSlots f₁ h p priorRemainingSlot (a - l) → f₂ ≡ figuresOf (effect O L call)
   unfolding figuresOf figureGroups calendarOf slotsOf effect withPriors afterPrior
   allocated f₁ f₂ e d =
       d ∙ ap (λ z. addedAt figureSlots z h p priorRemainingSlot (a - l)) e
-      ∙ shown-is figureSlots 0 _ (addedAt figureSlots (addedAt figureSlots f h p priorSlot a) h p priorRemainingSlot (a - l)) (calendarOf L) (omega arith)
+      ∙ shown-is figureSlots 0 _ (addedAt figureSlots (addedAt figureSlots f h p priorAllocatedSlot a) h p priorRemainingSlot (a - l)) (calendarOf L) (omega arith)
       (slot-added figureSlots priorRemainingSlot 1 0 (take 2 (figureGroups (effect O L call))) (drop 3 (figureGroups L)) refl (omega arith) (λ i j n. L .priors .remaining i j) (λ i j n. plusAt2 h p (a - l) (L .priors .remaining) i j) _ (calendarOf L) h p 0 (a - l) holder path (omega arith) (single-added h p (a - l) (L .priors .remaining))
-      (slot-added figureSlots priorSlot 1 0 (take 1 (figureGroups L)) (drop 2 (figureGroups L)) refl (omega arith) (λ i j n. L .priors .allocated i j) (λ i j n. plusAt2 h p a (L .priors .allocated) i j) f (calendarOf L) h p 0 a holder path (omega arith) (single-added h p a (L .priors .allocated)) (figures-shown o f m x r)))
+      (slot-added figureSlots priorAllocatedSlot 1 0 (take 1 (figureGroups L)) (drop 2 (figureGroups L)) refl (omega arith) (λ i j n. L .priors .allocated i j) (λ i j n. plusAt2 h p a (L .priors .allocated) i j) f (calendarOf L) h p 0 a holder path (omega arith) (single-added h p a (L .priors .allocated)) (figures-shown o f m x r)))
 
   noted : (m′ : List Bool) → m′ ≡ storedAt postedSlots m h p priorPostedSlot true → m′ ≡ postedOf (effect O L call)
   unfolding postedOf postedGroups slotsOf effect withPriors afterPrior
@@ -87,5 +87,5 @@ module _ (o f : List ℕ) (m : List Bool) (x : List Entry) (h p a l number : ℕ
   unfolding evidenceOf evidenceGroups effect withPriors
   filed = evidence-known o f m x r
 
-  pub prior-steps : (f₁ f₂ : List ℕ) (m′ : List Bool) → f₁ ≡ addedAt figureSlots f h p priorSlot a → f₂ ≡ addedAt figureSlots f₁ h p priorRemainingSlot (a - l) → m′ ≡ storedAt postedSlots m h p priorPostedSlot true → Steps O L call Done f₂ m′ x
+  pub prior-steps : (f₁ f₂ : List ℕ) (m′ : List Bool) → f₁ ≡ addedAt figureSlots f h p priorAllocatedSlot a → f₂ ≡ addedAt figureSlots f₁ h p priorRemainingSlot (a - l) → m′ ≡ storedAt postedSlots m h p priorPostedSlot true → Steps O L call Done f₂ m′ x
   prior-steps f₁ f₂ m′ first second ofPosted = steps-accepted O L call number found f₂ m′ x zero (allocated f₁ f₂ first second) (noted m′ ofPosted) filed

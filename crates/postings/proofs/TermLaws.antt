@@ -11,7 +11,7 @@ use Rattle.tariff.specs.Sizes.{terms}
 use Rattle.tariff.specs.Evidence.{entryKw}
 use Rattle.ledger.specs.Effects.{same2, same3}
 use Rattle.slots.specs.Cells.{storedAt, Shows}
-use Rattle.slots.specs.Groups.{Group, group, slotsOf, inSlot}
+use Rattle.slots.specs.Groups.{SlotGroup, slotGroup, slotsOf, inSlot}
 use Rattle.slots.specs.Layout.{figureSlots}
 use Rattle.slots.proofs.StoreLaws.{slot-stored}
 use Rattle.postings.specs.VerifiedKw.{storedByTerm}
@@ -35,18 +35,18 @@ by-term true v old (suc (suc zero)) l = refl
 by-term true v old (suc (suc (suc zero))) l = refl
 by-term true v old (suc (suc (suc (suc t)))) l = absurd (omega arith)
 
-module _ (before after : List (Group ℕ)) (from : ℕ) (old : ℕ → ℕ → ℕ → ℕ) (f rest : List ℕ) (h s : ℕ) (entry : Entry) (at : slotsOf before ≡ from) (fits : from + terms ≤ figureSlots) (a : h < 8) (b : s < 16) where
+module _ (before after : List (SlotGroup ℕ)) (from : ℕ) (old : ℕ → ℕ → ℕ → ℕ) (f rest : List ℕ) (h s : ℕ) (entry : Entry) (at : slotsOf before ≡ from) (fits : from + terms ≤ figureSlots) (a : h < 8) (b : s < 16) where
   -- one term's value stored
   abbrev one : ℕ → (ℕ → ℕ → ℕ → ℕ) → ℕ → ℕ → ℕ → ℕ
   one term g x y t = cond (same3 h s term x y t) (entryKw term entry) (g x y t)
 
   -- a group by term shows the entry's kW where it was stored
-  pub terms-stored : Shows figureSlots 0 f (inSlot 0 (before ++ (group terms 0 old ∷ after))) rest → Shows figureSlots 0 (storedByTerm f h s from entry) (inSlot 0 (before ++ (group terms 0 (λ x y t. cond (same2 h s x y) (entryKw t entry) (old x y t)) ∷ after))) rest
+  pub terms-stored : Shows figureSlots 0 f (inSlot 0 (before ++ (slotGroup terms 0 old ∷ after))) rest → Shows figureSlots 0 (storedByTerm f h s from entry) (inSlot 0 (before ++ (slotGroup terms 0 (λ x y t. cond (same2 h s x y) (entryKw t entry) (old x y t)) ∷ after))) rest
   unfolding storedByTerm same2 same3
   terms-stored shown =
       slot-stored 0 figureSlots from terms 0 before after at fits (one 2 (one 1 (one 0 old))) _ _ rest h s 3 (entryKw 3 entry) a b (omega arith)
       (λ x y t low high. by-term (eqb x h && eqb y s) (λ n. entryKw n entry) (old x y t) t (omega arith))
       (slot-stored 0 figureSlots from terms 0 before after at fits (one 1 (one 0 old)) (one 2 (one 1 (one 0 old))) _ rest h s 2 (entryKw 2 entry) a b (omega arith) (λ x y t low high. refl)
       (slot-stored 0 figureSlots from terms 0 before after at fits (one 0 old) (one 1 (one 0 old)) _ rest h s 1 (entryKw 1 entry) a b (omega arith) (λ x y t low high. refl)
-      (subst (λ k. Shows figureSlots 0 (storedAt figureSlots f h s k (entryKw 0 entry)) (inSlot 0 (before ++ (group terms 0 (one 0 old) ∷ after))) rest) (add-zero from)
+      (subst (λ k. Shows figureSlots 0 (storedAt figureSlots f h s k (entryKw 0 entry)) (inSlot 0 (before ++ (slotGroup terms 0 (one 0 old) ∷ after))) rest) (add-zero from)
       (slot-stored 0 figureSlots from terms 0 before after at fits old (one 0 old) f rest h s 0 (entryKw 0 entry) a b (omega arith) (λ x y t low high. refl) shown))))

@@ -13,7 +13,7 @@ use Rattle.tariff.specs.declared.evidence.Entry.{Entry}
 use Rattle.tariff.specs.declared.evidence.Filing.{Filing}
 use Rattle.tariff.specs.declared.evidence.Filing.the-variants.{OutOfRange, Valid}
 use Rattle.tariff.specs.Sizes.{terms, ownership, contract, evidenceKinds}
-use Rattle.tariff.specs.Evidence.{noEntry, entryOf, entryKw}
+use Rattle.tariff.specs.Evidence.{emptyEntry, entryOf, entryKw}
 use Rattle.tariff.specs.Filing.{filingOf, filingBy}
 use Rattle.tariff.specs.Ranges.{evidenceOutOfRange}
 use Rattle.tariff.proofs.Tests.{decided, and-right-false}
@@ -31,7 +31,7 @@ use Rattle.ledger.proofs.PostingFacts.{VerifyFacts, verify-facts}
 use Rattle.records.specs.declared.answers.Answer.the-variants.{Done}
 use Rattle.records.specs.Opening.{openingIn}
 use Rattle.slots.specs.Cells.{HasCell, storedAt, Shows}
-use Rattle.slots.specs.Groups.{group, slotsOf, inSlot}
+use Rattle.slots.specs.Groups.{slotGroup, slotsOf, inSlot}
 use Rattle.slots.specs.Layout.{figureSlots, postedSlots, postedCount, evidenceSlots, figureGroups, postedGroups, evidenceGroups, calendarOf, figuresOf, postedOf, evidenceOf, ledgerIn, ownershipSlot, contractSlot, evidencePostedSlot}
 use Rattle.slots.specs.Steps.{Reachable, Steps}
 use Rattle.slots.proofs.CellLaws.{array-shows, shown-is}
@@ -43,7 +43,7 @@ use Rattle.postings.proofs.TermLaws.{terms-stored}
 
 -- the entry of a filing, none where the evidence is out of range
 unfoldable pub entry-in : Filing → Entry
-entry-in OutOfRange = noEntry
+entry-in OutOfRange = emptyEntry
 entry-in (Valid e) = e
 
 -- evidence in range is filed
@@ -129,7 +129,7 @@ module _ (o f : List ℕ) (m : List Bool) (x : List Entry) (h s kind capacity ri
           let from : ownershipSlot + terms * (kind - 1) ≡ ownershipSlot = omega arith in
           ap (λ n. storedByTerm f h s n filed) from
           ∙ shown-is figureSlots 0 _ (storedByTerm f h s ownershipSlot filed) (calendarOf L) (omega arith)
-          (subst (λ g. Shows figureSlots 0 (storedByTerm f h s ownershipSlot filed) (inSlot 0 g) (calendarOf L)) (λ i. take 7 (figureGroups L) ++ (group terms 0 (λ u v n. this-kind h s kind filed entries ownership u v n (sym one) i) ∷ group terms 0 (λ u v n. other-kind h s kind filed entries contract u v n (λ q. omega (arith, q)) i) ∷ []))
+          (subst (λ g. Shows figureSlots 0 (storedByTerm f h s ownershipSlot filed) (inSlot 0 g) (calendarOf L)) (λ i. take 7 (figureGroups L) ++ (slotGroup terms 0 (λ u v n. this-kind h s kind filed entries ownership u v n (sym one) i) ∷ slotGroup terms 0 (λ u v n. other-kind h s kind filed entries contract u v n (λ q. omega (arith, q)) i) ∷ []))
           (terms-stored (take 7 (figureGroups L)) (drop 8 (figureGroups L)) ownershipSlot (λ u v n. entryKw n (entries u v ownership)) f (calendarOf L) h s filed refl (omega arith) holder source (figures-shown o f m x r)))
       go (inr t) =
           let other = eqb-false kind ownership t in
@@ -138,7 +138,7 @@ module _ (o f : List ℕ) (m : List Bool) (x : List Entry) (h s kind capacity ri
           let from : ownershipSlot + terms * (kind - 1) ≡ contractSlot = omega arith in
           ap (λ n. storedByTerm f h s n filed) from
           ∙ shown-is figureSlots 0 _ (storedByTerm f h s contractSlot filed) (calendarOf L) (omega arith)
-          (subst (λ g. Shows figureSlots 0 (storedByTerm f h s contractSlot filed) (inSlot 0 g) (calendarOf L)) (λ i. take 7 (figureGroups L) ++ (group terms 0 (λ u v n. other-kind h s kind filed entries ownership u v n (λ q. other (sym q)) i) ∷ group terms 0 (λ u v n. this-kind h s kind filed entries contract u v n two i) ∷ []))
+          (subst (λ g. Shows figureSlots 0 (storedByTerm f h s contractSlot filed) (inSlot 0 g) (calendarOf L)) (λ i. take 7 (figureGroups L) ++ (slotGroup terms 0 (λ u v n. other-kind h s kind filed entries ownership u v n (λ q. other (sym q)) i) ∷ slotGroup terms 0 (λ u v n. this-kind h s kind filed entries contract u v n two i) ∷ []))
           (terms-stored (take 8 (figureGroups L)) (drop 9 (figureGroups L)) contractSlot (λ u v n. entryKw n (entries u v contract)) f (calendarOf L) h s filed refl (omega arith) holder source (figures-shown o f m x r)))
 
   -- the kind's number, from its slot
@@ -153,16 +153,16 @@ module _ (o f : List ℕ) (m : List Bool) (x : List Entry) (h s kind capacity ri
       (subst (λ n. StoredIn evidenceKinds 1 h s n true (L .evidence .posted) (λ i j k. same3 h s kind i j k || L .evidence .posted i j k)) (sym kind-back) (number-posted evidenceKinds 1 h s kind (L .evidence .posted)))
       (posted-shown o f m x r))
 
-  evidence-shown : Shows evidenceSlots noEntry x (inSlot noEntry (evidenceGroups L)) []
+  evidence-shown : Shows evidenceSlots emptyEntry x (inSlot emptyEntry (evidenceGroups L)) []
   unfolding evidenceOf
-  evidence-shown = subst (λ z. Shows evidenceSlots noEntry z (inSlot noEntry (evidenceGroups L)) []) (sym (evidence-known o f m x r)) (array-shows evidenceSlots noEntry (inSlot noEntry (evidenceGroups L)) [])
+  evidence-shown = subst (λ z. Shows evidenceSlots emptyEntry z (inSlot emptyEntry (evidenceGroups L)) []) (sym (evidence-known o f m x r)) (array-shows evidenceSlots emptyEntry (inSlot emptyEntry (evidenceGroups L)) [])
 
   entered : (x′ : List Entry) → x′ ≡ storedAt evidenceSlots x h s (kind - 1) filed → x′ ≡ evidenceOf (effect O L call)
   unfolding evidenceOf evidenceGroups slotsOf effect withEvidence afterVerify
   entered x′ e =
       e ∙ ap (λ n. storedAt evidenceSlots x h s n filed) (let same : kind - 1 ≡ 0 + (kind - 1) = omega arith in same)
-      ∙ shown-is evidenceSlots noEntry _ (storedAt evidenceSlots x h s (0 + (kind - 1)) filed) [] (omega arith)
-      (slot-stored noEntry evidenceSlots 0 evidenceKinds 1 [] [] refl (omega arith) (L .evidence .entry) (λ i j k. cond (same3 h s kind i j k) filed (L .evidence .entry i j k)) x [] h s (kind - 1) filed holder source (let range = verify-kinds in omega arith)
+      ∙ shown-is evidenceSlots emptyEntry _ (storedAt evidenceSlots x h s (0 + (kind - 1)) filed) [] (omega arith)
+      (slot-stored emptyEntry evidenceSlots 0 evidenceKinds 1 [] [] refl (omega arith) (L .evidence .entry) (λ i j k. cond (same3 h s kind i j k) filed (L .evidence .entry i j k)) x [] h s (kind - 1) filed holder source (let range = verify-kinds in omega arith)
       (λ i j k low high. ap (λ n. cond (same3 h s n i j k) filed (L .evidence .entry i j k)) (sym kind-back))
       evidence-shown)
 

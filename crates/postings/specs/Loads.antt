@@ -23,7 +23,7 @@ earlyCauses = 4
 unfoldable pub exceedsMaxKw : List ℕ → ℕ → Bool
 exceedsMaxKw kws k = ltb maxKw (getD kws k 0)
 
--- blocks by their kW alone: no first hour and no length of a block is out of range (01: their faults are 6, never 3), so any others do here
+-- blocks with these kW and arbitrary first hours and lengths: of a block only the kW can be out of range (01: the others' faults are 6, never 3)
 unfoldable pub kwBlocks : List ℕ → List Block
 kwBlocks kws = blocksOf kws kws kws
 

@@ -16,8 +16,8 @@ use slots::calendar::current_tier;
 use slots::calendar::last_closed;
 use slots::cells::is_posted;
 use slots::cells::set_posted;
-use slots::layout::CARRIED;
-use slots::layout::CARRY_POSTED;
+use slots::layout::CARRIED_SLOT;
+use slots::layout::CARRY_POSTED_SLOT;
 use slots::months::add_in_term;
 ghost use mathlib.Core.Path.{_≡_};
 ghost use Rattle.ledger.specs.Call.{carry};
@@ -32,7 +32,7 @@ fn carry_refusal(o: &[u64], f: &[u64], m: &[bool], h: u64, p: u64, kw: u64) -> u
     let unknown = unknown_holder(o, h) | unknown_path(o, p);
     let range = kw_out_of_range(kw);
     let late = !before_tier(1, last_closed(f), current_tier(f));
-    let posted = is_posted(m, h, p, CARRY_POSTED);
+    let posted = is_posted(m, h, p, CARRY_POSTED_SLOT);
     let sink = kind_ineligible(o, h, path_sink(o, p));
     let from_sink = refuse(SINK_INELIGIBLE, sink, 0);
     let from_posted = refuse(POSTED_BEFORE, posted, from_sink);
@@ -50,7 +50,7 @@ pub fn carry(o: &[u64], f: &mut [u64], m: &mut [bool], h: u64, p: u64, kw: u64) 
     if number != 0 {
         return Answer::Refused(number);
     }
-    add_in_term(f, h, p, CARRIED, 0, kw);
-    set_posted(m, h, p, CARRY_POSTED);
+    add_in_term(f, h, p, CARRIED_SLOT, 0, kw);
+    set_posted(m, h, p, CARRY_POSTED_SLOT);
     Answer::Done
 }

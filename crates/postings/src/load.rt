@@ -1,7 +1,7 @@
 // Load: the metered hours of a holder at a sink, in blocks, and the load that is posted of them (01, Posting, Load).
 use crate::posted_slot::posted_slot;
 use records::answers::Answer;
-use records::calendar::before_term;
+use records::calendar::load_in_time;
 use records::numbers::BROKEN_BLOCKS;
 use records::numbers::HOURS_MISSING;
 use records::numbers::NOT_AT_THIS_TIME;
@@ -21,8 +21,8 @@ use slots::calendar::last_closed;
 use slots::cells::add;
 use slots::cells::is_posted;
 use slots::cells::set_posted;
-use slots::layout::LOAD;
-use slots::layout::LOAD_POSTED;
+use slots::layout::LOAD_POSTED_SLOT;
+use slots::layout::LOAD_SLOT;
 use tariff::load::Metering;
 use tariff::load::load_posted;
 use tariff::load::same_lengths;
@@ -85,8 +85,8 @@ fn load_refusal_early(
 {
     let unknown = unknown_holder(o, h) | unknown_sink(o, s);
     let range = load_out_of_range(term, contract, n, kws);
-    let late = !before_term(term, last_closed(f), current_tier(f));
-    let posted = is_posted(m, h, s, posted_slot(LOAD_POSTED, TERMS, 0, term));
+    let late = !load_in_time(term, last_closed(f), current_tier(f));
+    let posted = is_posted(m, h, s, posted_slot(LOAD_POSTED_SLOT, TERMS, 0, term));
     let from_posted = refuse(POSTED_BEFORE, posted, 0);
     let from_time = refuse(NOT_AT_THIS_TIME, late, from_posted);
     let from_range = refuse(OUT_OF_RANGE, range, from_time);
@@ -117,14 +117,14 @@ fn load_posting(
     if number != 0 {
         return Posting::Refused(number);
     }
-    let not_for = kind_ineligible(o, h, s);
+    let ineligible = kind_ineligible(o, h, s);
     let sub_lap = is_sub_lap(o, s);
     match load_posted(firsts, hours, kws, n, contract) {
         Metering::Unequal => Posting::Refused(UNREADABLE),
         Metering::Broken => Posting::Refused(BROKEN_BLOCKS),
         Metering::Missing => Posting::Refused(HOURS_MISSING),
         Metering::Kw(kw) => {
-            if not_for | sub_lap {
+            if ineligible | sub_lap {
                 return Posting::Refused(SINK_INELIGIBLE);
             }
             Posting::Kw(kw)
@@ -152,8 +152,8 @@ pub fn load(
     match load_posting(o, f, m, h, s, term, contract, n, firsts, hours, kws) {
         Posting::Refused(number) => Answer::Refused(number),
         Posting::Kw(kw) => {
-            add(f, h, s, LOAD + term, kw);
-            set_posted(m, h, s, LOAD_POSTED + term);
+            add(f, h, s, LOAD_SLOT + term, kw);
+            set_posted(m, h, s, LOAD_POSTED_SLOT + term);
             Answer::Done
         }
     }

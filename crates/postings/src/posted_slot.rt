@@ -5,7 +5,7 @@ ghost use Prim.Native.Nat.{_+_, _≤_};
 ghost use Rattle.slots.specs.Layout.{postedSlots};
 ghost use Rattle.postings.specs.PostedSlot.{postedSlot};
 
-// The slot of a number in a group of slots that begin at `from`; a slot past the last for a number that the group has none for.
+// The slot of term or kind k among `count` slots that begin at `from` with `low`; past the last slot where k is out of range.
 pub fn posted_slot(from: u64, count: u64, low: u64, k: u64) -> u64
     requires { ⌜ (from + count ≤ postedSlots) × (low + count ≤ postedSlots) ⌝ }
     ensures { λ r. ⌜ r ≡ postedSlot from count low k ⌝ }

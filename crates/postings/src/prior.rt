@@ -17,9 +17,9 @@ use slots::calendar::last_closed;
 use slots::cells::add;
 use slots::cells::is_posted;
 use slots::cells::set_posted;
-use slots::layout::PRIOR;
-use slots::layout::PRIOR_POSTED;
-use slots::layout::PRIOR_REMAINING;
+use slots::layout::PRIOR_ALLOCATED_SLOT;
+use slots::layout::PRIOR_POSTED_SLOT;
+use slots::layout::PRIOR_REMAINING_SLOT;
 ghost use mathlib.Core.Path.{_≡_};
 ghost use Rattle.ledger.specs.Call.{prior};
 ghost use Rattle.ledger.specs.Causes.{refusal};
@@ -33,7 +33,7 @@ fn prior_refusal(o: &[u64], f: &[u64], m: &[bool], h: u64, p: u64, a: u64, l: u6
     let unknown = unknown_holder(o, h) | unknown_path(o, p);
     let range = prior_out_of_range(a, l);
     let late = !before_tier(1, last_closed(f), current_tier(f));
-    let posted = is_posted(m, h, p, PRIOR_POSTED);
+    let posted = is_posted(m, h, p, PRIOR_POSTED_SLOT);
     let sink = kind_ineligible(o, h, path_sink(o, p));
     let from_sink = refuse(SINK_INELIGIBLE, sink, 0);
     let from_posted = refuse(POSTED_BEFORE, posted, from_sink);
@@ -51,9 +51,9 @@ pub fn prior(o: &[u64], f: &mut [u64], m: &mut [bool], h: u64, p: u64, a: u64, l
     if number != 0 {
         return Answer::Refused(number);
     }
-    add(f, h, p, PRIOR, a);
+    add(f, h, p, PRIOR_ALLOCATED_SLOT, a);
     let remaining = a - l;
-    add(f, h, p, PRIOR_REMAINING, remaining);
-    set_posted(m, h, p, PRIOR_POSTED);
+    add(f, h, p, PRIOR_REMAINING_SLOT, remaining);
+    set_posted(m, h, p, PRIOR_POSTED_SLOT);
     Answer::Done
 }

@@ -1,7 +1,7 @@
 // Verify: evidence for a source (01, Posting, Verify).
 use crate::posted_slot::posted_slot;
 use records::answers::Answer;
-use records::calendar::is_open;
+use records::calendar::tier_is_open;
 use records::numbers::NOT_AT_THIS_TIME;
 use records::numbers::NOT_IN_BOOK;
 use records::numbers::OUT_OF_RANGE;
@@ -14,10 +14,10 @@ use slots::cells::cell;
 use slots::cells::is_posted;
 use slots::cells::set_posted;
 use slots::cells::store;
-use slots::layout::EVIDENCE;
-use slots::layout::EVIDENCE_POSTED;
+use slots::layout::EVIDENCE_COUNT;
+use slots::layout::EVIDENCE_POSTED_SLOT;
 use slots::layout::EVIDENCE_SLOTS;
-use slots::layout::VERIFIED;
+use slots::layout::VERIFIED_SLOT;
 use tariff::evidence::Entry;
 use tariff::evidence::Evidence;
 use tariff::evidence::Filing;
@@ -43,7 +43,7 @@ ghost use Rattle.postings.specs.VerifiedKw.{storedByTerm, HasTerms};
 // An answer beside the book's evidence after it.
 pub struct VerifyOutcome {
     pub answer: Answer,
-    pub evidence: [Entry; EVIDENCE],
+    pub evidence: [Entry; EVIDENCE_COUNT],
 }
 
 // The first cause that evidence meets, 0 for none.
@@ -64,12 +64,12 @@ fn verify_refusal(
 {
     let unknown = unknown_holder(o, h) | unknown_source(o, s);
     let range = !evidence_in_range(kind, capacity, right, first, last);
-    let open = is_open(current_tier(f));
+    let open = tier_is_open(current_tier(f));
     let posted = is_posted(
         m,
         h,
         s,
-        posted_slot(EVIDENCE_POSTED, EVIDENCE_KINDS, OWNERSHIP, kind),
+        posted_slot(EVIDENCE_POSTED_SLOT, EVIDENCE_KINDS, OWNERSHIP, kind),
     );
     let from_posted = refuse(POSTED_BEFORE, posted, 0);
     let from_time = refuse(NOT_AT_THIS_TIME, open, from_posted);
@@ -104,7 +104,13 @@ fn store_by_term(f: &mut [u64], h: u64, s: u64, from: u64, entry: Entry)
 }
 
 // An entry put in the cell of a holder, a source and a slot.
-fn file(old: [Entry; EVIDENCE], h: u64, s: u64, slot: u64, entry: Entry) -> [Entry; EVIDENCE]
+fn file(
+    old: [Entry; EVIDENCE_COUNT],
+    h: u64,
+    s: u64,
+    slot: u64,
+    entry: Entry,
+) -> [Entry; EVIDENCE_COUNT]
     requires { ⌜ HasCell evidenceSlots h s slot ⌝ }
     ensures { λ r. ⌜ r ≡ storedAt evidenceSlots old h s slot entry ⌝ }
 {
@@ -136,8 +142,8 @@ pub fn verify(
     }
     let entry = entry_in_range(kind, capacity, right, first, last);
     let slot = kind - 1;
-    store_by_term(f, h, s, VERIFIED + TERMS * slot, entry);
-    set_posted(m, h, s, EVIDENCE_POSTED + slot);
+    store_by_term(f, h, s, VERIFIED_SLOT + TERMS * slot, entry);
+    set_posted(m, h, s, EVIDENCE_POSTED_SLOT + slot);
     Answer::Done
 }
 
@@ -146,7 +152,7 @@ fn with_filed(
     o: &[u64],
     f: &[u64],
     m: &[bool],
-    evidence: [Entry; EVIDENCE],
+    evidence: [Entry; EVIDENCE_COUNT],
     h: u64,
     s: u64,
     kind: u64,
@@ -154,7 +160,7 @@ fn with_filed(
     right: u64,
     first: u64,
     last: u64,
-) -> [Entry; EVIDENCE]
+) -> [Entry; EVIDENCE_COUNT]
     requires { ⌜ Reachable (now o) (now f) (now m) evidence ⌝ }
     ensures { λ r. ⌜ r ≡ evidenceOf (step (openingOf (o .entry)) (ledgerIn (now (f .entry)) (now (m .entry)) evidence) (verify h s kind capacity right first last)) ⌝ }
 {
@@ -170,7 +176,7 @@ pub fn verify_and_file(
     o: &[u64],
     f: &mut [u64],
     m: &mut [bool],
-    evidence: [Entry; EVIDENCE],
+    evidence: [Entry; EVIDENCE_COUNT],
     h: u64,
     s: u64,
     kind: u64,

@@ -8,7 +8,7 @@ ghost use Rattle.tariff.specs.Sizes.{lastSeasonTier};
 ghost use Rattle.tariff.specs.Terms.{firstTierOf};
 
 // A tier is open.
-pub fn is_open(current_tier: u64) -> bool
+pub fn tier_is_open(current_tier: u64) -> bool
     ensures { λ r. ⌜ r ≡ not (eqb «current_tier» 0) ⌝ }
 {
     !(current_tier == 0)
@@ -18,25 +18,25 @@ pub fn is_open(current_tier: u64) -> bool
 pub fn before_tier(tier: u64, last_closed: u64, current_tier: u64) -> bool
     ensures { λ r. ⌜ r ≡ (not (not (eqb «current_tier» 0)) && ltb «last_closed» tier) ⌝ }
 {
-    !is_open(current_tier) & (last_closed < tier)
+    !tier_is_open(current_tier) & (last_closed < tier)
 }
 
 // The postings for a term have not ended: no tier is open, and tier 1, or for month k tier 2k + 2, has never been.
 // Half of the tier last closed is compared with the month, as twice a caller's number may not fit.
-pub fn before_term(term: u64, last_closed: u64, current_tier: u64) -> bool
+pub fn load_in_time(term: u64, last_closed: u64, current_tier: u64) -> bool
     ensures { λ r. ⌜ r ≡ (not (not (eqb «current_tier» 0)) && ltb «last_closed» (firstTierOf term)) ⌝ }
 {
     if term == 0 {
         return before_tier(1, last_closed, current_tier);
     }
-    !is_open(current_tier) & (last_closed / 2 <= term)
+    !tier_is_open(current_tier) & (last_closed / 2 <= term)
 }
 
 // A migration comes at its time: as a posting for its term, and for a month after tier 3.
 pub fn migration_in_time(term: u64, last_closed: u64, current_tier: u64) -> bool
     ensures { λ r. ⌜ r ≡ ((not (not (eqb «current_tier» 0)) && ltb «last_closed» (firstTierOf term)) && (eqb term 0 || leb lastSeasonTier «last_closed»)) ⌝ }
 {
-    let early = before_term(term, last_closed, current_tier);
+    let early = load_in_time(term, last_closed, current_tier);
     early & ((term == 0) | (LAST_SEASON_TIER <= last_closed))
 }
 
@@ -54,5 +54,5 @@ pub fn follows(tier: u64, last_closed: u64) -> bool
 pub fn is_next_tier(tier: u64, last_closed: u64, current_tier: u64) -> bool
     ensures { λ r. ⌜ r ≡ (not (not (eqb «current_tier» 0)) && eqb tier (suc «last_closed»)) ⌝ }
 {
-    !is_open(current_tier) & follows(tier, last_closed)
+    !tier_is_open(current_tier) & follows(tier, last_closed)
 }

@@ -17,7 +17,7 @@ pub fn number_at(numbers: &[u64], i: usize) -> u64
 }
 
 // The entry of a list of `count` numbers that stands from a place on, with room for `room` of them; 0 past its end.
-pub fn listed(numbers: &[u64], from: usize, room: u64, count: u64, i: u64) -> u64
+pub fn list_entry(numbers: &[u64], from: usize, room: u64, count: u64, i: u64) -> u64
     requires { ⌜ (from ≤ openingCount) × (room ≤ maxPlaces) ⌝ }
     ensures { λ r. ⌜ r ≡ getD (take count (take room (drop from (now (numbers .entry))))) i 0 ⌝ }
 {

@@ -28,6 +28,6 @@ pub const ABOVE_LIMIT: u64 = 13;
 
 pub const ABOVE_NOMINATED: u64 = 14;
 
-pub const BUFFER_TOO_SHORT: u64 = 15;
+pub const OUTPUT_TOO_SHORT: u64 = 15;
 
 pub const BREAKS_RULES: u64 = 16;

@@ -2,7 +2,7 @@
 use crate::kinds::LSE;
 use crate::kinds::SCHEDULING_POINT;
 use crate::kinds::SUB_LAP;
-use crate::lists::listed;
+use crate::lists::list_entry;
 use crate::lists::number_at;
 use tariff::sizes::MAX_HOLDERS;
 use tariff::sizes::MAX_PLACES;
@@ -15,21 +15,21 @@ ghost use Rattle.ledger.specs.Causes.{kindIneligible, isSubLap};
 ghost use Rattle.records.specs.Opening.{openingOf, KeepsBases};
 
 // Where the lists stand after the four counts, each with room for as many as a book can have.
-pub const HOLDER_KINDS: usize = 4;
+pub const HOLDER_KINDS_AT: usize = 4;
 
-pub const SINK_KINDS: usize = 12;
+pub const SINK_KINDS_AT: usize = 12;
 
-pub const SINK_PARENTS: usize = 28;
+pub const SINK_PARENTS_AT: usize = 28;
 
-pub const PATH_SOURCES: usize = 44;
+pub const PATH_SOURCES_AT: usize = 44;
 
-pub const PATH_SINKS: usize = 60;
+pub const PATH_SINKS_AT: usize = 60;
 
 // Where the base of each path stands, after the lists.
-pub const BASES: usize = 76;
+pub const BASES_AT: usize = 76;
 
 // How many numbers keep an opening.
-pub const OPENING: usize = 92;
+pub const OPENING_COUNT: usize = 92;
 
 pub fn holders(o: &[u64]) -> u64
     ensures { λ r. ⌜ r ≡ openingOf (o .entry) .holders ⌝ }
@@ -82,31 +82,31 @@ pub fn unknown_path(o: &[u64], p: u64) -> bool
 pub fn holder_kind(o: &[u64], h: u64) -> u64
     ensures { λ r. ⌜ r ≡ holderKind (openingOf (o .entry)) h ⌝ }
 {
-    listed(o, HOLDER_KINDS, MAX_HOLDERS as u64, holders(o), h)
+    list_entry(o, HOLDER_KINDS_AT, MAX_HOLDERS as u64, holders(o), h)
 }
 
 pub fn sink_kind(o: &[u64], s: u64) -> u64
     ensures { λ r. ⌜ r ≡ sinkKind (openingOf (o .entry)) s ⌝ }
 {
-    listed(o, SINK_KINDS, MAX_PLACES as u64, sinks(o), s)
+    list_entry(o, SINK_KINDS_AT, MAX_PLACES as u64, sinks(o), s)
 }
 
 pub fn sink_base(o: &[u64], s: u64) -> u64
     ensures { λ r. ⌜ r ≡ base (openingOf (o .entry)) s ⌝ }
 {
-    listed(o, SINK_PARENTS, MAX_PLACES as u64, sinks(o), s)
+    list_entry(o, SINK_PARENTS_AT, MAX_PLACES as u64, sinks(o), s)
 }
 
 pub fn path_source(o: &[u64], p: u64) -> u64
     ensures { λ r. ⌜ r ≡ pathSource (openingOf (o .entry)) p ⌝ }
 {
-    listed(o, PATH_SOURCES, MAX_PLACES as u64, paths(o), p)
+    list_entry(o, PATH_SOURCES_AT, MAX_PLACES as u64, paths(o), p)
 }
 
 pub fn path_sink(o: &[u64], p: u64) -> u64
     ensures { λ r. ⌜ r ≡ pathSink (openingOf (o .entry)) p ⌝ }
 {
-    listed(o, PATH_SINKS, MAX_PLACES as u64, paths(o), p)
+    list_entry(o, PATH_SINKS_AT, MAX_PLACES as u64, paths(o), p)
 }
 
 // The base of a path's sink, looked up by way of the sink.
@@ -122,7 +122,7 @@ pub fn path_base(o: &[u64], p: u64) -> u64
     requires { ⌜ KeepsBases (now o) × (p < maxPlaces) ⌝ }
     ensures { λ r. ⌜ r ≡ pathBase (openingOf (o .entry)) p ⌝ }
 {
-    o[BASES + p as usize]
+    o[BASES_AT + p as usize]
 }
 
 // Cause 10 by kinds: a scheduling point is not for an LSE, and nothing else is for an OBAALSE.

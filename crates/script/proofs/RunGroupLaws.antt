@@ -26,7 +26,7 @@ use Rattle.lines.specs.Counted.{bytesOfLines, rowsCounted}
 use Rattle.lines.specs.Writing.{writtenAt}
 use Rattle.lines.proofs.RowSteps.{first-row, consumed-some, consumed-within}
 use Rattle.lines.proofs.LineBytes.{bytes-within, rows-after}
-use Rattle.lines.proofs.FieldLaws.{rest-whole}
+use Rattle.lines.proofs.FieldLaws.{rest-all}
 use Rattle.lines.proofs.WritingLaws.{written-length, written-again}
 use Rattle.groups.specs.Groups.{Group, unreadableGroup, request, linesCounted, requestOf, groupsFrom, groupsOf}
 use Rattle.script.specs.Answers.{textOf, textsOf}
@@ -158,15 +158,15 @@ module _ (script : List ℕ) (first : Book) (from start : ℕ) (out₀ out : Lis
     part = take (length script - at) (drop at script)
 
     pub part-few : length (rowsOf part) ≤ maxLines
-    part-few = let same = ap (λ s. length (rowsOf s)) (rest-whole script at) in let few = f .few in omega arith
+    part-few = let same = ap (λ s. length (rowsOf s)) (rest-all script at) in let few = f .few in omega arith
 
     -- what the group is answered, the book that it leads to, and where the next one begins
     module _ (a : Answer) (next : Book) (consumed : ℕ) (answered : Answers b (firstGroup part) a next) (taken : consumed ≡ groupBytes part) where
       as-group : _≡_ {A = Outcome} (record { answer = a; book = next }) (outcomeOfGroup b (firstGroup rest))
-      as-group = answered ∙ ap (λ s. outcomeOfGroup b (firstGroup s)) (rest-whole script at)
+      as-group = answered ∙ ap (λ s. outcomeOfGroup b (firstGroup s)) (rest-all script at)
 
       consumed-is : consumed ≡ groupBytes rest
-      consumed-is = taken ∙ ap groupBytes (rest-whole script at)
+      consumed-is = taken ∙ ap groupBytes (rest-all script at)
 
       pub turn-some : 1 ≤ consumed
       unfolding groupBytes

@@ -15,7 +15,7 @@ use Rattle.ledger.specs.Season as ledger
 use Rattle.ledger.specs.Season.{after, afterFrom}
 use Rattle.records.specs.declared.answers.Answer.the-variants.{Done, Refused}
 use Rattle.records.specs.Answers.{answerIn}
-use Rattle.opening.specs.Opened.{openedAnswer}
+use Rattle.opening.specs.Opened.{openingAnswer}
 use Rattle.book.specs.Reading.{bookOf}
 use Rattle.book.specs.Opened.{openingOutcome}
 use Rattle.book.proofs.SeasonAnswers.{opened-at}
@@ -39,7 +39,7 @@ unfolding after afterFrom
 groups-text o e rows = ap (λ b. textsOf (map answerIn (answersOf b (groupsOf rows)))) (opened-at o e) ∙ ap textsOf (groups-answered o e [] (groupsOf rows))
 
 opened-answer : (o : Opening) → legal o ≡ true → answerIn (openingOutcome o .answer) ≡ ledger.done
-unfolding openingOutcome openedAnswer answerIn
+unfolding openingOutcome openingAnswer answerIn
 opened-answer o e = ap (λ t. answerIn (cond t Done (Refused (openingRefusal o)))) e
 
 after-text : (o : Opening) → legal o ≡ true → (rows : List Row) → textsOf (answersAfter o rows) ≡ textOf (answerIn (openingOutcome o .answer)) ++ textsOf (map answerIn (answersOf (openingOutcome o .book) (groupsOf rows)))
@@ -51,7 +51,7 @@ after-text o e rows =
 module _ (head : Row) (rows : List Row) (consumed : ℕ) where
   -- a book group that ends the run is answered by itself
   stops : bookGroupWith head rows consumed .«is_open» ≡ false → textsOf (scriptAnswers (head ∷ rows)) ≡ textOf (answerIn (bookGroupWith head rows consumed .answer))
-  unfolding bookGroupWith scriptAnswers answersAfter textsOf openedAnswer answerIn
+  unfolding bookGroupWith scriptAnswers answersAfter textsOf openingAnswer answerIn
   stops e = go (bookReadable head rows) (legal (openingOfRows head rows)) e
     where
       go : (readable isLegal : Bool) → (readable && isLegal) ≡ false → textsOf (cond readable (cond isLegal (ledger.done ∷ answersTo (openingOfRows head rows) emptyLedger (groupsOf (callRows head rows))) (ledger.refused (openingRefusal (openingOfRows head rows)) ∷ [])) (ledger.refused 1 ∷ [])) ≡ textOf (answerIn (cond readable (cond isLegal Done (Refused (openingRefusal (openingOfRows head rows)))) (Refused 1)))

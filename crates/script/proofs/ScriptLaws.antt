@@ -10,7 +10,7 @@ use Rattle.records.specs.Answers.{answerIn}
 use Rattle.ledger.specs.Opening.{legal, openingRefusal}
 use Rattle.ledger.specs.Ledger.{emptyLedger}
 use Rattle.records.specs.declared.answers.Answer.the-variants.{Done, Refused}
-use Rattle.opening.specs.Opened.{openedAnswer}
+use Rattle.opening.specs.Opened.{openingAnswer}
 use Rattle.lines.specs.declared.rows.Row.{Row}
 use Rattle.book.specs.Reading.{bookOf}
 use Rattle.book.specs.Reachable.{Reachable}
@@ -19,7 +19,7 @@ use Rattle.lines.specs.Reading.{nextRow}
 use Rattle.lines.specs.Writing.{writtenAt}
 use Rattle.lines.proofs.RowSteps.{first-row}
 use Rattle.lines.proofs.WritingLaws.{written-length, written-again}
-use Rattle.groups.specs.declared.opened.BookGroup.{BookGroup}
+use Rattle.groups.specs.declared.book_group.BookGroup.{BookGroup}
 use Rattle.groups.specs.Groups.{bookReadable, openingOfRows, callRows}
 use Rattle.script.specs.Answers.{textOf}
 use Rattle.script.specs.GroupTexts.{textFrom}
@@ -35,7 +35,7 @@ use Rattle.lines.specs.Text.{maxLines}
 
 -- what the book group is answered fits its line
 group-writable : (script : List ℕ) → Writable (answerIn (bookGroupOf script .answer))
-unfolding bookGroupOf bookGroupWith openedAnswer answerIn
+unfolding bookGroupOf bookGroupWith openingAnswer answerIn
 group-writable script = go (bookReadable first left) (legal (openingOfRows first left)) (openingRefusal (openingOfRows first left)) (opening-refusal-small (openingOfRows first left))
   where
     first : Row

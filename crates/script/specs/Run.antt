@@ -26,12 +26,12 @@ unfoldable pub written : List ℕ → List ℕ → List ℕ
 written script out = cond (tooLong script) [] (cond (tooShort script out) [] (answersText script))
 
 -- the number of a buffer that is too short (01, Refusals by cause)
-abbrev pub bufferTooShort : ℕ
-bufferTooShort = 15
+abbrev pub outputTooShort : ℕ
+outputTooShort = 15
 
 -- the refusal of a whole script, 0 for a run
 unfoldable pub runRefusal : List ℕ → List ℕ → ℕ
-runRefusal script out = cond (tooLong script) unreadable (cond (tooShort script out) bufferTooShort 0)
+runRefusal script out = cond (tooLong script) unreadable (cond (tooShort script out) outputTooShort 0)
 
 -- the refusal is given in units of 1,000,000, so that the written length fits below
 abbrev pub refusalUnit : ℕ

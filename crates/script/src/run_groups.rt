@@ -1,8 +1,8 @@
 // The groups of a script, answered one after another (01, Script and host).
 use crate::answers::write_answer;
 use groups::groups::run_group;
-use slots::layout::FIGURES;
-use slots::layout::POSTED;
+use slots::layout::FIGURE_COUNT;
+use slots::layout::POSTED_COUNT;
 ghost use mathlib.Core.Path.{_≡_};
 ghost use Prim.Native.Nat.{_+_, _*_, _≤_};
 ghost use lib.ListN.{length, drop};
@@ -26,8 +26,8 @@ pub fn run_groups(script: &[u8], from: usize, o: &[u64], out: &mut [u8], start: 
     ensures written { λ _. ⌜ now (out .exit) ≡ writtenAt (now (out .entry)) start (textFrom (bookOf (now (o .entry)) emptyLedger) (drop from (now (script .entry)))) ⌝ }
     ensures within { λ r. ⌜ r ≤ length (now (out .entry)) ⌝ }
 {
-    let mut f = [0u64; FIGURES];
-    let mut m = [false; POSTED];
+    let mut f = [0u64; FIGURE_COUNT];
+    let mut m = [false; POSTED_COUNT];
     let mut at = from;
     let mut written = start;
     while at < script.len() {

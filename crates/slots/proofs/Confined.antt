@@ -8,9 +8,9 @@ use native.Mathlib.Omega.{arith}
 use lib.Dec.{eqb}
 use Rattle.tariff.specs.Load.{loadPosted}
 use Rattle.tariff.specs.Terms.{termOf, hasMonth}
-use Rattle.tariff.specs.Evidence.{noEntry, entryOf}
+use Rattle.tariff.specs.Evidence.{emptyEntry, entryOf}
 use Rattle.tariff.specs.Sizes.{lastMonth, terms, evidenceKinds}
-use Rattle.ledger.specs.Opening.{Opening, legal, endsAt}
+use Rattle.ledger.specs.Opening.{Opening, legal, hasBase}
 use Rattle.ledger.specs.Ledger.{Ledger, Loads, Rights, Priors, EvidenceRecord, Tiers, emptyLedger, withLoads, withRights, withPriors, withEvidence, withTiers}
 use Rattle.ledger.specs.Call.{Call, load, carry, prior, verify, migrate, openTier, nominate, award, closeTier}
 use Rattle.ledger.specs.Migration.{transferredWhere, loadsAfter, rightsAfter, priorsAfter, migrated}
@@ -42,7 +42,7 @@ pub record PriorsInside (x : Priors) : Type 0 where
   pub posted : Inside2 false (x .posted)
 
 pub record EvidenceInside (x : EvidenceRecord) : Type 0 where
-  pub entry : Inside evidenceKinds 1 noEntry (x .entry)
+  pub entry : Inside evidenceKinds 1 emptyEntry (x .entry)
   pub posted : Inside evidenceKinds 1 false (x .posted)
 
 pub record TiersInside (x : Tiers) : Type 0 where
@@ -95,8 +95,8 @@ module _ (o : Opening) (ok : legal o ≡ true) (L : Ledger) (k : Confined L) whe
   in-rights (migrate term sink lines) e =
       let f = migrate-facts o L term sink lines e in
       record {
-        carried = λ h p m. column-inside o L term sink lines (counts .0) f lastMonth 1 p m (endsAt o sink p && hasMonth term m) (λ i. L .rights .carried i p m) (λ j. k .rights .carried j p m) h;
-        awarded = λ h p m. column-inside o L term sink lines (counts .0) f lastMonth 1 p m (endsAt o sink p && hasMonth term m && not (eqb term 0)) (λ i. L .rights .awarded i p m) (λ j. k .rights .awarded j p m) h;
+        carried = λ h p m. column-inside o L term sink lines (counts .0) f lastMonth 1 p m (hasBase o sink p && hasMonth term m) (λ i. L .rights .carried i p m) (λ j. k .rights .carried j p m) h;
+        awarded = λ h p m. column-inside o L term sink lines (counts .0) f lastMonth 1 p m (hasBase o sink p && hasMonth term m && not (eqb term 0)) (λ i. L .rights .awarded i p m) (λ j. k .rights .awarded j p m) h;
         posted = k .rights .posted;
       }
   in-rights (openTier tier) e = k .rights
@@ -126,8 +126,8 @@ module _ (o : Opening) (ok : legal o ≡ true) (L : Ledger) (k : Confined L) whe
   in-priors (migrate term sink lines) e =
       let f = migrate-facts o L term sink lines e in
       record {
-        allocated = λ h p. column-inside o L term sink lines (counts .0) f 1 0 p 0 (endsAt o sink p && eqb term 0) (λ i. L .priors .allocated i p) (λ j. k .priors .allocated j p) h;
-        remaining = λ h p. column-inside o L term sink lines (counts .0) f 1 0 p 0 (endsAt o sink p && eqb term 0) (λ i. L .priors .remaining i p) (λ j. k .priors .remaining j p) h;
+        allocated = λ h p. column-inside o L term sink lines (counts .0) f 1 0 p 0 (hasBase o sink p && eqb term 0) (λ i. L .priors .allocated i p) (λ j. k .priors .allocated j p) h;
+        remaining = λ h p. column-inside o L term sink lines (counts .0) f 1 0 p 0 (hasBase o sink p && eqb term 0) (λ i. L .priors .remaining i p) (λ j. k .priors .remaining j p) h;
         posted = k .priors .posted;
       }
   in-priors (openTier tier) e = k .priors

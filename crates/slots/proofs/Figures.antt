@@ -17,7 +17,7 @@ use Rattle.tariff.specs.Evidence.{entryKw}
 use Rattle.tariff.proofs.Sums.{when-is-true, term-le-sum}
 use Rattle.tariff.proofs.Tests.{decided}
 use Rattle.tariff.proofs.EvidenceBounds.{entry-le}
-use Rattle.ledger.specs.Opening.{Opening, pathBase, endsAt}
+use Rattle.ledger.specs.Opening.{Opening, pathBase, hasBase}
 use Rattle.ledger.specs.Ledger.{Ledger}
 use Rattle.ledger.specs.Limits.{sumAtBase, nominatedAt}
 use Rattle.ledger.proofs.Conserved.{carriedSum, awardedSum, loadSum}
@@ -25,7 +25,7 @@ use Rattle.ledger.proofs.TierBounds.{nominatedSum}
 use Rattle.ledger.proofs.Bounds.{maxTogether, one-fits}
 use Rattle.records.specs.Opening.{openingIn}
 use Rattle.slots.specs.Cells.{readAt}
-use Rattle.slots.specs.Groups.{Group, group, slotsOf, inSlot, figureFrom}
+use Rattle.slots.specs.Groups.{SlotGroup, slotGroup, slotsOf, inSlot, figureFrom}
 use Rattle.slots.specs.Layout.{figureSlots, figureGroups, calendarOf, figureIn, ledgerIn, ownershipSlot, contractSlot}
 use Rattle.slots.specs.Sums.{maxFigure, Summable}
 use Rattle.slots.specs.Steps.{Reachable}
@@ -34,15 +34,15 @@ use Rattle.slots.proofs.StoreLaws.{slot-shown}
 use Rattle.slots.proofs.Reachable.{bases-known, counts, fits, figures-shown, figures-long}
 
 -- every figure of groups at a holder and a place is within a bound ..
-abbrev pub EachWithin : ℕ → List (Group ℕ) → (h p : ℕ) → Type 0
+abbrev pub EachWithin : ℕ → List (SlotGroup ℕ) → (h p : ℕ) → Type 0
 EachWithin most [] h p = Unit {0}
-EachWithin most (group count low figure ∷ later) h p = ((j : ℕ) → j < count → figure h p (j + low) ≤ most) × EachWithin most later h p
+EachWithin most (slotGroup count low figure ∷ later) h p = ((j : ℕ) → j < count → figure h p (j + low) ≤ most) × EachWithin most later h p
 
 -- .. and so is what stands in any slot
-within-slot : (most : ℕ) (gs : List (Group ℕ)) (h p slot : ℕ) → EachWithin most gs h p → inSlot 0 gs h p slot ≤ most
+within-slot : (most : ℕ) (gs : List (SlotGroup ℕ)) (h p slot : ℕ) → EachWithin most gs h p → inSlot 0 gs h p slot ≤ most
 unfolding inSlot
 within-slot most [] h p slot w = zero-le
-within-slot most (group count low figure ∷ later) h p slot w = go (decided (ltb slot count)) (within-slot most later h p (slot - count) (w .1))
+within-slot most (slotGroup count low figure ∷ later) h p slot w = go (decided (ltb slot count)) (within-slot most later h p (slot - count) (w .1))
   where
     go : (ltb slot count ≡ true) ⊎ (ltb slot count ≡ false) → inSlot 0 later h p (slot - count) ≤ most → cond (ltb slot count) (figure h p (slot + low)) (inSlot 0 later h p (slot - count)) ≤ most
     go (inl t) ih = le-trans (le-of-eq (ap (λ u. cond u (figure h p (slot + low)) (inSlot 0 later h p (slot - count))) t)) (w .0 slot (ltb-true slot count t))
@@ -54,7 +54,7 @@ room-for-more x kw a b = omega arith
 
 -- a nomination on a path is among those at its base
 nominated-at-base : (o : Opening) (L : Ledger) (h p t : ℕ) → p < o .paths → L .tiers .nominated h p t ≤ nominatedAt o L h (pathBase o p) t
-unfolding nominatedAt sumAtBase endsAt
+unfolding nominatedAt sumAtBase hasBase
 nominated-at-base o L h p t l =
     let here = when-is-true (L .tiers .nominated h p t) (eq-eqb (pathBase o p) (pathBase o p) refl) in
     let part = term-le-sum (λ q. whenTrue (eqb (pathBase o q) (pathBase o p)) (L .tiers .nominated h q t)) (o .paths) p l in
@@ -77,7 +77,7 @@ module _ (o f : List ℕ) (m : List Bool) (x : List Entry) (r : Reachable o f m 
   O = openingIn o
 
   -- group i of the figures, by its slots
-  shown : (i from count low : ℕ) (figure : ℕ → ℕ → ℕ → ℕ) → slotsOf (take i (figureGroups L)) ≡ from → from + count ≤ figureSlots → take i (figureGroups L) ++ (group count low figure ∷ drop (suc i) (figureGroups L)) ≡ figureGroups L → (h p j : ℕ) → h < 8 → p < 16 → j < count → readAt figureSlots 0 f h p (from + j) ≡ figure h p (j + low)
+  shown : (i from count low : ℕ) (figure : ℕ → ℕ → ℕ → ℕ) → slotsOf (take i (figureGroups L)) ≡ from → from + count ≤ figureSlots → take i (figureGroups L) ++ (slotGroup count low figure ∷ drop (suc i) (figureGroups L)) ≡ figureGroups L → (h p j : ℕ) → h < 8 → p < 16 → j < count → readAt figureSlots 0 f h p (from + j) ≡ figure h p (j + low)
   shown i from count low figure at fits same h p j a b l =
       slot-shown 0 figureSlots from count low (take i (figureGroups L)) (drop (suc i) (figureGroups L)) at fits figure f (calendarOf L) h p j a b l (rw same (figures-shown o f m x r))
 

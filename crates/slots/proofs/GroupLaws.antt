@@ -9,7 +9,7 @@ use lib.Dec.{leb, ltb, eqb}
 use borrow.Author.Tests.{ltb-true, ltb-false, leb-true, lt-ltb, le-leb, le-ltb, ne-eqb, eq-eqb, eqb-true, eqb-false}
 use Rattle.tariff.proofs.Tests.{and-both, and-join, and-right-false, decided}
 use Rattle.ledger.specs.Effects.{same3}
-use Rattle.slots.specs.Groups.{Group, group, slotsOf, inSlot, inGroup}
+use Rattle.slots.specs.Groups.{SlotGroup, slotGroup, slotsOf, inSlot, inGroup}
 
 -- what the numbers of a group's slot are
 pub group-facts : (count low h p k : ℕ) → inGroup count low h p k ≡ true → (h < 8) × (p < 16) × (low ≤ k) × (k < low + count)
@@ -34,19 +34,19 @@ same-test a b c d to back = go (decided (eqb a b))
 
 module _ {A : Type 0} (none : A) where
   -- the slots of a group that stands after others
-  pub group-slot : (before after : List (Group A)) (count low : ℕ) (figure : ℕ → ℕ → ℕ → A) (h p j : ℕ) → j < count → inSlot none (before ++ (group count low figure ∷ after)) h p (slotsOf before + j) ≡ figure h p (j + low)
+  pub group-slot : (before after : List (SlotGroup A)) (count low : ℕ) (figure : ℕ → ℕ → ℕ → A) (h p j : ℕ) → j < count → inSlot none (before ++ (slotGroup count low figure ∷ after)) h p (slotsOf before + j) ≡ figure h p (j + low)
   unfolding inSlot slotsOf
   group-slot [] after count low figure h p j l =
       ap (λ n. cond (ltb n count) (figure h p (n + low)) (inSlot none after h p (n - count))) (let e : 0 + j ≡ j = omega arith in e)
       ∙ ap (λ t. cond t (figure h p (j + low)) (inSlot none after h p (j - count))) (lt-ltb j count l)
-  group-slot (group c l f ∷ before) after count low figure h p j b =
-      ap (λ t. cond t (f h p (c + slotsOf before + j + l)) (inSlot none (before ++ (group count low figure ∷ after)) h p (c + slotsOf before + j - c))) (le-ltb (c + slotsOf before + j) c (omega arith))
-      ∙ ap (inSlot none (before ++ (group count low figure ∷ after)) h p) (let e : c + slotsOf before + j - c ≡ slotsOf before + j = omega arith in e)
+  group-slot (slotGroup c l f ∷ before) after count low figure h p j b =
+      ap (λ t. cond t (f h p (c + slotsOf before + j + l)) (inSlot none (before ++ (slotGroup count low figure ∷ after)) h p (c + slotsOf before + j - c))) (le-ltb (c + slotsOf before + j) c (omega arith))
+      ∙ ap (inSlot none (before ++ (slotGroup count low figure ∷ after)) h p) (let e : c + slotsOf before + j - c ≡ slotsOf before + j = omega arith in e)
       ∙ group-slot before after count low figure h p j b
 
-  module _ (after : List (Group A)) (count low : ℕ) (old new : ℕ → ℕ → ℕ → A) (a b j : ℕ) (v : A) (below : j < count) (same : (h p k : ℕ) → low ≤ k → k < low + count → new h p k ≡ cond (same3 a b (j + low) h p k) v (old h p k)) where
+  module _ (after : List (SlotGroup A)) (count low : ℕ) (old new : ℕ → ℕ → ℕ → A) (a b j : ℕ) (v : A) (below : j < count) (same : (h p k : ℕ) → low ≤ k → k < low + count → new h p k ≡ cond (same3 a b (j + low) h p k) v (old h p k)) where
     -- where one of them has another figure in one slot, so have they all
-    pub group-stored : (before : List (Group A)) (h p slot : ℕ) → cond (same3 a b (slotsOf before + j) h p slot) v (inSlot none (before ++ (group count low old ∷ after)) h p slot) ≡ inSlot none (before ++ (group count low new ∷ after)) h p slot
+    pub group-stored : (before : List (SlotGroup A)) (h p slot : ℕ) → cond (same3 a b (slotsOf before + j) h p slot) v (inSlot none (before ++ (slotGroup count low old ∷ after)) h p slot) ≡ inSlot none (before ++ (slotGroup count low new ∷ after)) h p slot
     unfolding inSlot slotsOf same3
     group-stored [] h p slot = go (decided (ltb slot count))
       where
@@ -65,16 +65,16 @@ module _ {A : Type 0} (none : A) where
             let past = ltb-false slot count t in
             (λ i. cond (and-right-false pair (ne-eqb slot (0 + j) (λ e. omega (arith, e))) i) v (cond (t i) (old h p (slot + low)) (inSlot none after h p (slot - count))))
             ∙ sym (ap (λ u. cond u (new h p (slot + low)) (inSlot none after h p (slot - count))) t)
-    group-stored (group c l f ∷ before) h p slot = go (decided (ltb slot c)) (group-stored before h p (slot - c))
+    group-stored (slotGroup c l f ∷ before) h p slot = go (decided (ltb slot c)) (group-stored before h p (slot - c))
       where
         pair : Bool
         pair = eqb h a && eqb p b
 
         was : A
-        was = inSlot none (before ++ (group count low old ∷ after)) h p (slot - c)
+        was = inSlot none (before ++ (slotGroup count low old ∷ after)) h p (slot - c)
 
         is : A
-        is = inSlot none (before ++ (group count low new ∷ after)) h p (slot - c)
+        is = inSlot none (before ++ (slotGroup count low new ∷ after)) h p (slot - c)
 
         go : (ltb slot c ≡ true) ⊎ (ltb slot c ≡ false) → cond (pair && eqb (slot - c) (slotsOf before + j)) v was ≡ is → cond (pair && eqb slot (c + slotsOf before + j)) v (cond (ltb slot c) (f h p (slot + l)) was) ≡ cond (ltb slot c) (f h p (slot + l)) is
         go (inl t) ih =

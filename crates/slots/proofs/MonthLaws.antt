@@ -15,7 +15,7 @@ use Rattle.tariff.proofs.Sums.{when-is-false, when-le}
 use Rattle.tariff.proofs.Tests.{decided, and-right-false}
 use Rattle.ledger.specs.Effects.{same2, same3, plusAt3, plusInTerm}
 use Rattle.slots.specs.Cells.{addedAt, Shows}
-use Rattle.slots.specs.Groups.{Group, group, slotsOf, inSlot}
+use Rattle.slots.specs.Groups.{SlotGroup, slotGroup, slotsOf, inSlot}
 use Rattle.slots.specs.Layout.{figureSlots}
 use Rattle.slots.specs.Months.{addedInTerm}
 use Rattle.slots.proofs.StoreLaws.{slot-added}
@@ -50,7 +50,7 @@ other-month : (h p m v x y n : ℕ) → (n ≡ m → ⊥) → whenTrue (same3 h 
 unfolding same3
 other-month h p m v x y n ne = when-is-false v (and-right-false (eqb x h && eqb y p) (ne-eqb n m ne))
 
-module _ (before after : List (Group ℕ)) (from : ℕ) (figure : ℕ → ℕ → ℕ → ℕ) (f rest : List ℕ) (h p term kw : ℕ) (at : slotsOf before ≡ from) (fits : from + lastMonth ≤ figureSlots) (a : h < 8) (b : p < 16) where
+module _ (before after : List (SlotGroup ℕ)) (from : ℕ) (figure : ℕ → ℕ → ℕ → ℕ) (f rest : List ℕ) (h p term kw : ℕ) (at : slotsOf before ≡ from) (fits : from + lastMonth ≤ figureSlots) (a : h < 8) (b : p < 16) where
   abbrev amount : ℕ → ℕ
   amount m = whenTrue (hasMonth term m) kw
 
@@ -90,10 +90,10 @@ module _ (before after : List (Group ℕ)) (from : ℕ) (figure : ℕ → ℕ �
           omega arith
 
   -- a group by month shows the figure with kW more in the term's months
-  pub term-added : Shows figureSlots 0 f (inSlot 0 (before ++ (group lastMonth 1 figure ∷ after))) rest → Shows figureSlots 0 (addedInTerm f h p from term kw) (inSlot 0 (before ++ (group lastMonth 1 (plusInTerm term h p kw figure) ∷ after))) rest
+  pub term-added : Shows figureSlots 0 f (inSlot 0 (before ++ (slotGroup lastMonth 1 figure ∷ after))) rest → Shows figureSlots 0 (addedInTerm f h p from term kw) (inSlot 0 (before ++ (slotGroup lastMonth 1 (plusInTerm term h p kw figure) ∷ after))) rest
   unfolding addedInTerm plusAt3
   term-added s =
       slot-added figureSlots from lastMonth 1 before after at fits second (plusInTerm term h p kw figure) _ rest h p 2 (amount 3) a b (omega arith) third
       (slot-added figureSlots from lastMonth 1 before after at fits first second _ rest h p 1 (amount 2) a b (omega arith) (λ x y n l u. refl)
-      (subst (λ k. Shows figureSlots 0 (addedAt figureSlots f h p k (amount 1)) (inSlot 0 (before ++ (group lastMonth 1 first ∷ after))) rest) (add-zero from)
+      (subst (λ k. Shows figureSlots 0 (addedAt figureSlots f h p k (amount 1)) (inSlot 0 (before ++ (slotGroup lastMonth 1 first ∷ after))) rest) (add-zero from)
       (slot-added figureSlots from lastMonth 1 before after at fits figure first f rest h p 0 (amount 1) a b (omega arith) (λ x y n l u. refl) s)))

@@ -9,24 +9,24 @@ use lib.ListN.{take, drop}
 use lib.Dec.{leb, eqb}
 use borrow.Author.Tests.{eqb-true, eqb-false, leb-true, leb-false}
 use Rattle.tariff.proofs.Tests.{decided, both-ways}
-use Rattle.tariff.specs.Evidence.{noEntry}
+use Rattle.tariff.specs.Evidence.{emptyEntry}
 use Rattle.tariff.specs.Sizes.{lastMonth, terms, evidenceKinds}
 use Rattle.ledger.specs.Ledger.{Ledger, Tiers}
 use Rattle.ledger.proofs.TiersSound.{TiersSound}
 use Rattle.slots.specs.Cells.{readAt, arrayOf}
-use Rattle.slots.specs.Groups.{Group, group, slotsOf, inSlot, inGroup, figureFrom}
-use Rattle.slots.specs.Layout.{figureSlots, postedSlots, evidenceSlots, figureGroups, postedGroups, evidenceGroups, calendarOf, figuresOf, postedOf, evidenceOf, lastClosedIn, currentTierIn, figureIn, postedIn, ledgerIn, loadSlot, priorSlot, priorRemainingSlot, carriedSlot, awardedSlot, nominatedSlot, awardsSlot, tierSlots, loadPostedSlot, carryPostedSlot, priorPostedSlot, evidencePostedSlot}
+use Rattle.slots.specs.Groups.{SlotGroup, slotGroup, slotsOf, inSlot, inGroup, figureFrom}
+use Rattle.slots.specs.Layout.{figureSlots, postedSlots, evidenceSlots, figureGroups, postedGroups, evidenceGroups, calendarOf, figuresOf, postedOf, evidenceOf, lastClosedIn, currentTierIn, figureIn, isPostedIn, ledgerIn, loadSlot, priorAllocatedSlot, priorRemainingSlot, carriedSlot, awardedSlot, nominatedSlot, awardsSlot, tierSlots, loadPostedSlot, carryPostedSlot, priorPostedSlot, evidencePostedSlot}
 use Rattle.slots.proofs.CellLaws.{array-shows}
 use Rattle.slots.proofs.GroupLaws.{group-facts, in-group, group-slot}
 use Rattle.slots.proofs.Confined.{Confined}
 
 -- what is read of a group in the array of groups is the group's figure, where that has nothing without a slot
-pub group-back : {A : Type 0} (none : A) (width : ℕ) (rest : List A) (before after : List (Group A)) (from count low : ℕ) (figure : ℕ → ℕ → ℕ → A) → slotsOf before ≡ from → from + count ≤ width → (h p k : ℕ) → (inGroup count low h p k ≡ false → figure h p k ≡ none) → figureFrom width none (arrayOf width (inSlot none (before ++ (group count low figure ∷ after))) rest) from count low h p k ≡ figure h p k
+pub group-back : {A : Type 0} (none : A) (width : ℕ) (rest : List A) (before after : List (SlotGroup A)) (from count low : ℕ) (figure : ℕ → ℕ → ℕ → A) → slotsOf before ≡ from → from + count ≤ width → (h p k : ℕ) → (inGroup count low h p k ≡ false → figure h p k ≡ none) → figureFrom width none (arrayOf width (inSlot none (before ++ (slotGroup count low figure ∷ after))) rest) from count low h p k ≡ figure h p k
 unfolding figureFrom
 group-back {A} none width rest before after from count low figure at fits h p k inside = go (decided (inGroup count low h p k))
   where
-    groups : List (Group A)
-    groups = before ++ (group count low figure ∷ after)
+    groups : List (SlotGroup A)
+    groups = before ++ (slotGroup count low figure ∷ after)
 
     go : (inGroup count low h p k ≡ true) ⊎ (inGroup count low h p k ≡ false) → cond (inGroup count low h p k) (readAt width none (arrayOf width (inSlot none groups) rest) h p (from + (k - low))) none ≡ figure h p k
     go (inl e) =
@@ -51,14 +51,14 @@ settled-even T s h p t ne = go (leb t (T .lastClosed)) refl
 
 module _ (L : Ledger) (k : Confined L) where
   -- group i of the figures, and of what was posted
-  figure-back : (i from count low : ℕ) (figure : ℕ → ℕ → ℕ → ℕ) → slotsOf (take i (figureGroups L)) ≡ from → from + count ≤ figureSlots → figureGroups L ≡ take i (figureGroups L) ++ (group count low figure ∷ drop (suc i) (figureGroups L)) → (h p n : ℕ) → (inGroup count low h p n ≡ false → figure h p n ≡ 0) → figureIn (figuresOf L) from count low h p n ≡ figure h p n
+  figure-back : (i from count low : ℕ) (figure : ℕ → ℕ → ℕ → ℕ) → slotsOf (take i (figureGroups L)) ≡ from → from + count ≤ figureSlots → figureGroups L ≡ take i (figureGroups L) ++ (slotGroup count low figure ∷ drop (suc i) (figureGroups L)) → (h p n : ℕ) → (inGroup count low h p n ≡ false → figure h p n ≡ 0) → figureIn (figuresOf L) from count low h p n ≡ figure h p n
   unfolding figureIn figuresOf
   figure-back i from count low figure at fits e h p n inside =
       ap (λ g. figureFrom figureSlots 0 (arrayOf figureSlots (inSlot 0 g) (calendarOf L)) from count low h p n) e
       ∙ group-back 0 figureSlots (calendarOf L) (take i (figureGroups L)) (drop (suc i) (figureGroups L)) from count low figure at fits h p n inside
 
-  posted-back : (i from count low : ℕ) (figure : ℕ → ℕ → ℕ → Bool) → slotsOf (take i (postedGroups L)) ≡ from → from + count ≤ postedSlots → postedGroups L ≡ take i (postedGroups L) ++ (group count low figure ∷ drop (suc i) (postedGroups L)) → (h p n : ℕ) → (inGroup count low h p n ≡ false → figure h p n ≡ false) → postedIn (postedOf L) from count low h p n ≡ figure h p n
-  unfolding postedIn postedOf
+  posted-back : (i from count low : ℕ) (figure : ℕ → ℕ → ℕ → Bool) → slotsOf (take i (postedGroups L)) ≡ from → from + count ≤ postedSlots → postedGroups L ≡ take i (postedGroups L) ++ (slotGroup count low figure ∷ drop (suc i) (postedGroups L)) → (h p n : ℕ) → (inGroup count low h p n ≡ false → figure h p n ≡ false) → isPostedIn (postedOf L) from count low h p n ≡ figure h p n
+  unfolding isPostedIn postedOf
   posted-back i from count low figure at fits e h p n inside =
       ap (λ g. figureFrom postedSlots false (arrayOf postedSlots (inSlot false g) []) from count low h p n) e
       ∙ group-back false postedSlots [] (take i (postedGroups L)) (drop (suc i) (postedGroups L)) from count low figure at fits h p n inside
@@ -94,7 +94,7 @@ module _ (L : Ledger) (k : Confined L) where
       record {
         loads = record { kw = λ h s t. figure-back 0 loadSlot terms 0 (L .loads .kw) refl (omega arith) refl h s t (k .loads .kw h s t) i; posted = λ h s t. posted-back 0 loadPostedSlot terms 0 (L .loads .posted) refl (omega arith) refl h s t (k .loads .posted h s t) i };
         rights = record { carried = λ h p m. figure-back 3 carriedSlot lastMonth 1 (L .rights .carried) refl (omega arith) refl h p m (k .rights .carried h p m) i; awarded = λ h p m. figure-back 4 awardedSlot lastMonth 1 (L .rights .awarded) refl (omega arith) refl h p m (k .rights .awarded h p m) i; posted = λ h p. posted-back 1 carryPostedSlot 1 0 (λ h p n. L .rights .posted h p) refl (omega arith) refl h p 0 (k .rights .posted h p) i };
-        priors = record { allocated = λ h p. figure-back 1 priorSlot 1 0 (λ h p n. L .priors .allocated h p) refl (omega arith) refl h p 0 (k .priors .allocated h p) i; remaining = λ h p. figure-back 2 priorRemainingSlot 1 0 (λ h p n. L .priors .remaining h p) refl (omega arith) refl h p 0 (k .priors .remaining h p) i; posted = λ h p. posted-back 2 priorPostedSlot 1 0 (λ h p n. L .priors .posted h p) refl (omega arith) refl h p 0 (k .priors .posted h p) i };
-        evidence = record { entry = λ h s n. group-back noEntry evidenceSlots [] [] [] 0 evidenceKinds 1 (L .evidence .entry) refl (omega arith) h s n (k .evidence .entry h s n) i; posted = λ h s n. posted-back 3 evidencePostedSlot evidenceKinds 1 (L .evidence .posted) refl (omega arith) refl h s n (k .evidence .posted h s n) i };
+        priors = record { allocated = λ h p. figure-back 1 priorAllocatedSlot 1 0 (λ h p n. L .priors .allocated h p) refl (omega arith) refl h p 0 (k .priors .allocated h p) i; remaining = λ h p. figure-back 2 priorRemainingSlot 1 0 (λ h p n. L .priors .remaining h p) refl (omega arith) refl h p 0 (k .priors .remaining h p) i; posted = λ h p. posted-back 2 priorPostedSlot 1 0 (λ h p n. L .priors .posted h p) refl (omega arith) refl h p 0 (k .priors .posted h p) i };
+        evidence = record { entry = λ h s n. group-back emptyEntry evidenceSlots [] [] [] 0 evidenceKinds 1 (L .evidence .entry) refl (omega arith) h s n (k .evidence .entry h s n) i; posted = λ h s n. posted-back 3 evidencePostedSlot evidenceKinds 1 (L .evidence .posted) refl (omega arith) refl h s n (k .evidence .posted h s n) i };
         tiers = record { nominated = λ h p t. nominated-back h p t i; awards = λ h p t. figure-back 6 awardsSlot tierSlots 0 (L .tiers .awards) refl (omega arith) refl h p t (k .tiers .awards h p t) i; lastClosed = closed-back i; currentTier = current-back i };
       }

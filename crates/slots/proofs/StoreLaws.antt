@@ -14,7 +14,7 @@ use Rattle.tariff.proofs.Tests.{decided}
 use Rattle.ledger.specs.Effects.{same2, same3, plusAt2}
 use Rattle.ledger.proofs.TiersSound.{same-place}
 use Rattle.slots.specs.Cells.{HasCell, readAt, storedAt, addedAt, Shows}
-use Rattle.slots.specs.Groups.{Group, group, slotsOf, inSlot}
+use Rattle.slots.specs.Groups.{SlotGroup, slotGroup, slotsOf, inSlot}
 use Rattle.slots.proofs.CellLaws.{shows-stored, shows-agree}
 use Rattle.slots.proofs.GroupLaws.{group-slot, group-stored}
 
@@ -22,27 +22,27 @@ use Rattle.slots.proofs.GroupLaws.{group-slot, group-stored}
 abbrev pub StoredIn : {A : Type 0} → (count low h p k : ℕ) → A → (ℕ → ℕ → ℕ → A) → (ℕ → ℕ → ℕ → A) → Type 0
 StoredIn count low h p k v old new = (x y n : ℕ) → low ≤ n → n < low + count → new x y n ≡ cond (same3 h p k x y n) v (old x y n)
 
-module _ {A : Type 0} (none : A) (width from count low : ℕ) (before after : List (Group A)) (at : slotsOf before ≡ from) (fits : from + count ≤ width) where
+module _ {A : Type 0} (none : A) (width from count low : ℕ) (before after : List (SlotGroup A)) (at : slotsOf before ≡ from) (fits : from + count ≤ width) where
   -- the cell of a group's slot
   pub slot-cell : (h p j : ℕ) → h < 8 → p < 16 → j < count → HasCell width h p (from + j)
   slot-cell h p j a b l = record { holder = a; place = b; inRow = omega arith }
 
   -- what stands there
-  pub slot-shown : (figure : ℕ → ℕ → ℕ → A) (xs rest : List A) (h p j : ℕ) → h < 8 → p < 16 → j < count → Shows width none xs (inSlot none (before ++ (group count low figure ∷ after))) rest → readAt width none xs h p (from + j) ≡ figure h p (j + low)
+  pub slot-shown : (figure : ℕ → ℕ → ℕ → A) (xs rest : List A) (h p j : ℕ) → h < 8 → p < 16 → j < count → Shows width none xs (inSlot none (before ++ (slotGroup count low figure ∷ after))) rest → readAt width none xs h p (from + j) ≡ figure h p (j + low)
   slot-shown figure xs rest h p j a b l s =
       s .each h p (from + j) (slot-cell h p j a b l)
-      ∙ ap (λ n. inSlot none (before ++ (group count low figure ∷ after)) h p (n + j)) (sym at)
+      ∙ ap (λ n. inSlot none (before ++ (slotGroup count low figure ∷ after)) h p (n + j)) (sym at)
       ∙ group-slot none before after count low figure h p j l
 
-  pub slot-stored : (old new : ℕ → ℕ → ℕ → A) (xs rest : List A) (h p j : ℕ) (v : A) → h < 8 → p < 16 → j < count → StoredIn count low h p (j + low) v old new → Shows width none xs (inSlot none (before ++ (group count low old ∷ after))) rest → Shows width none (storedAt width xs h p (from + j) v) (inSlot none (before ++ (group count low new ∷ after))) rest
+  pub slot-stored : (old new : ℕ → ℕ → ℕ → A) (xs rest : List A) (h p j : ℕ) (v : A) → h < 8 → p < 16 → j < count → StoredIn count low h p (j + low) v old new → Shows width none xs (inSlot none (before ++ (slotGroup count low old ∷ after))) rest → Shows width none (storedAt width xs h p (from + j) v) (inSlot none (before ++ (slotGroup count low new ∷ after))) rest
   slot-stored old new xs rest h p j v a b l same s =
-      shows-agree width none _ (inSlot none (before ++ (group count low new ∷ after))) (storedAt width xs h p (from + j) v) rest
-      (shows-stored width none v (inSlot none (before ++ (group count low old ∷ after))) xs rest h p (from + j) s (slot-cell h p j a b l))
-      (λ x y slot c. ap (λ n. cond (same3 h p (n + j) x y slot) v (inSlot none (before ++ (group count low old ∷ after)) x y slot)) (sym at) ∙ group-stored none after count low old new h p j v l same before x y slot)
+      shows-agree width none _ (inSlot none (before ++ (slotGroup count low new ∷ after))) (storedAt width xs h p (from + j) v) rest
+      (shows-stored width none v (inSlot none (before ++ (slotGroup count low old ∷ after))) xs rest h p (from + j) s (slot-cell h p j a b l))
+      (λ x y slot c. ap (λ n. cond (same3 h p (n + j) x y slot) v (inSlot none (before ++ (slotGroup count low old ∷ after)) x y slot)) (sym at) ∙ group-stored none after count low old new h p j v l same before x y slot)
 
 -- kW more, and nothing else
-module _ (width from count low : ℕ) (before after : List (Group ℕ)) (at : slotsOf before ≡ from) (fits : from + count ≤ width) where
-  pub slot-added : (old new : ℕ → ℕ → ℕ → ℕ) (xs rest : List ℕ) (h p j kw : ℕ) → h < 8 → p < 16 → j < count → ((x y n : ℕ) → low ≤ n → n < low + count → new x y n ≡ old x y n + whenTrue (same3 h p (j + low) x y n) kw) → Shows width 0 xs (inSlot 0 (before ++ (group count low old ∷ after))) rest → Shows width 0 (addedAt width xs h p (from + j) kw) (inSlot 0 (before ++ (group count low new ∷ after))) rest
+module _ (width from count low : ℕ) (before after : List (SlotGroup ℕ)) (at : slotsOf before ≡ from) (fits : from + count ≤ width) where
+  pub slot-added : (old new : ℕ → ℕ → ℕ → ℕ) (xs rest : List ℕ) (h p j kw : ℕ) → h < 8 → p < 16 → j < count → ((x y n : ℕ) → low ≤ n → n < low + count → new x y n ≡ old x y n + whenTrue (same3 h p (j + low) x y n) kw) → Shows width 0 xs (inSlot 0 (before ++ (slotGroup count low old ∷ after))) rest → Shows width 0 (addedAt width xs h p (from + j) kw) (inSlot 0 (before ++ (slotGroup count low new ∷ after))) rest
   unfolding addedAt
   slot-added old new xs rest h p j kw a b l same s =
       slot-stored 0 width from count low before after at fits old new xs rest h p j (readAt width 0 xs h p (from + j) + kw) a b l (λ x y n u w. same x y n u w ∙ sym (go x y n (decided (same3 h p (j + low) x y n)))) s

@@ -8,7 +8,7 @@ use lib.Dec.{ltb}
 pub use Rattle.tariff.specs.Sizes.{maxHolders, maxPlaces}
 use Rattle.tariff.specs.Sum.{tabulate}
 
--- how many holders and places there are together
+-- how many pairs of a holder and a place there are
 abbrev pub rows : ℕ
 rows = maxHolders * maxPlaces
 

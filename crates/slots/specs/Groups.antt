@@ -6,19 +6,19 @@ use lib.Dec.{leb, ltb}
 use Rattle.slots.specs.Cells.{maxHolders, maxPlaces, readAt}
 
 -- one figure's slots: how many there are, the number that the first one stands for, and the figure by holder, place and number
-pub data Group (A : Type 0) : Type 0 where
-  group : (count low : ℕ) → (ℕ → ℕ → ℕ → A) → Group A
+pub data SlotGroup (A : Type 0) : Type 0 where
+  slotGroup : (count low : ℕ) → (ℕ → ℕ → ℕ → A) → SlotGroup A
 
 module _ {A : Type 0} where
   -- how many slots groups have together
-  unfoldable pub slotsOf : List (Group A) → ℕ
+  unfoldable pub slotsOf : List (SlotGroup A) → ℕ
   slotsOf [] = 0
-  slotsOf (group count low figure ∷ later) = count + slotsOf later
+  slotsOf (slotGroup count low figure ∷ later) = count + slotsOf later
 
   -- what groups have in a slot
-  unfoldable pub inSlot : A → List (Group A) → ℕ → ℕ → ℕ → A
+  unfoldable pub inSlot : A → List (SlotGroup A) → ℕ → ℕ → ℕ → A
   inSlot none [] h p slot = none
-  inSlot none (group count low figure ∷ later) h p slot = cond (ltb slot count) (figure h p (slot + low)) (inSlot none later h p (slot - count))
+  inSlot none (slotGroup count low figure ∷ later) h p slot = cond (ltb slot count) (figure h p (slot + low)) (inSlot none later h p (slot - count))
 
 -- a holder, a place and a number that a group has a slot for
 unfoldable pub inGroup : ℕ → ℕ → ℕ → ℕ → ℕ → Bool

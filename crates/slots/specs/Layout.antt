@@ -6,20 +6,20 @@ use lib.ListN.{getD}
 use lib.Dec.{eqb}
 use Rattle.tariff.specs.Sizes.{terms, lastMonth, lastTier, evidenceKinds, ownership, contract}
 use Rattle.tariff.specs.declared.evidence.Entry.{Entry}
-use Rattle.tariff.specs.Evidence.{noEntry, entryKw}
+use Rattle.tariff.specs.Evidence.{emptyEntry, entryKw}
 use Rattle.ledger.specs.Ledger.{Ledger}
 use Rattle.slots.specs.Cells.{rows, arrayOf}
-use Rattle.slots.specs.Groups.{Group, group, inSlot, figureFrom}
+use Rattle.slots.specs.Groups.{SlotGroup, slotGroup, inSlot, figureFrom}
 
 -- the first slot of each figure, in the order of the list below; by month the slot of month 1 comes first
 abbrev pub loadSlot : ℕ
 loadSlot = 0
 
-abbrev pub priorSlot : ℕ
-priorSlot = loadSlot + terms
+abbrev pub priorAllocatedSlot : ℕ
+priorAllocatedSlot = loadSlot + terms
 
 abbrev pub priorRemainingSlot : ℕ
-priorRemainingSlot = priorSlot + 1
+priorRemainingSlot = priorAllocatedSlot + 1
 
 abbrev pub carriedSlot : ℕ
 carriedSlot = priorRemainingSlot + 1
@@ -87,31 +87,31 @@ module _ (L : Ledger) where
   -- load by term, at a sink; prior's a, and its a − l; carried and awarded holdings by month; what the open tier has nominated, and awards by
   -- tier, all at a path; and at a source what evidence gives for a term, ownership and contract apart.
   -- In a closed tier the nominations are the awards, so they are kept once
-  unfoldable pub figureGroups : List (Group ℕ)
+  unfoldable pub figureGroups : List (SlotGroup ℕ)
   figureGroups =
-      group terms 0 (L .loads .kw)
-      ∷ group 1 0 (λ h p k. L .priors .allocated h p)
-      ∷ group 1 0 (λ h p k. L .priors .remaining h p)
-      ∷ group lastMonth 1 (L .rights .carried)
-      ∷ group lastMonth 1 (L .rights .awarded)
-      ∷ group 1 0 (λ h p k. L .tiers .nominated h p (L .tiers .currentTier))
-      ∷ group tierSlots 0 (L .tiers .awards)
-      ∷ group terms 0 (λ h s term. entryKw term (L .evidence .entry h s ownership))
-      ∷ group terms 0 (λ h s term. entryKw term (L .evidence .entry h s contract))
+      slotGroup terms 0 (L .loads .kw)
+      ∷ slotGroup 1 0 (λ h p k. L .priors .allocated h p)
+      ∷ slotGroup 1 0 (λ h p k. L .priors .remaining h p)
+      ∷ slotGroup lastMonth 1 (L .rights .carried)
+      ∷ slotGroup lastMonth 1 (L .rights .awarded)
+      ∷ slotGroup 1 0 (λ h p k. L .tiers .nominated h p (L .tiers .currentTier))
+      ∷ slotGroup tierSlots 0 (L .tiers .awards)
+      ∷ slotGroup terms 0 (λ h s term. entryKw term (L .evidence .entry h s ownership))
+      ∷ slotGroup terms 0 (λ h s term. entryKw term (L .evidence .entry h s contract))
       ∷ []
 
   -- whether a load was posted, by term; a carry; a prior; evidence, by kind
-  unfoldable pub postedGroups : List (Group Bool)
+  unfoldable pub postedGroups : List (SlotGroup Bool)
   postedGroups =
-      group terms 0 (L .loads .posted)
-      ∷ group 1 0 (λ h p k. L .rights .posted h p)
-      ∷ group 1 0 (λ h p k. L .priors .posted h p)
-      ∷ group evidenceKinds 1 (L .evidence .posted)
+      slotGroup terms 0 (L .loads .posted)
+      ∷ slotGroup 1 0 (λ h p k. L .rights .posted h p)
+      ∷ slotGroup 1 0 (λ h p k. L .priors .posted h p)
+      ∷ slotGroup evidenceKinds 1 (L .evidence .posted)
       ∷ []
 
   -- evidence, by kind
-  unfoldable pub evidenceGroups : List (Group Entry)
-  evidenceGroups = group evidenceKinds 1 (L .evidence .entry) ∷ []
+  unfoldable pub evidenceGroups : List (SlotGroup Entry)
+  evidenceGroups = slotGroup evidenceKinds 1 (L .evidence .entry) ∷ []
 
   -- after the figures stand the tier last closed and the open one, 0 for none
   unfoldable pub calendarOf : List ℕ
@@ -124,7 +124,7 @@ module _ (L : Ledger) where
   postedOf = arrayOf postedSlots (inSlot false postedGroups) []
 
   unfoldable pub evidenceOf : List Entry
-  evidenceOf = arrayOf evidenceSlots (inSlot noEntry evidenceGroups) []
+  evidenceOf = arrayOf evidenceSlots (inSlot emptyEntry evidenceGroups) []
 
 -- the tier last closed and the open one
 unfoldable pub lastClosedIn : List ℕ → ℕ
@@ -137,17 +137,17 @@ currentTierIn f = getD f currentTierAt 0
 unfoldable pub figureIn : List ℕ → (from count low : ℕ) → ℕ → ℕ → ℕ → ℕ
 figureIn f from count low h p k = figureFrom figureSlots 0 f from count low h p k
 
-unfoldable pub postedIn : List Bool → (from count low : ℕ) → ℕ → ℕ → ℕ → Bool
-postedIn m from count low h p k = figureFrom postedSlots false m from count low h p k
+unfoldable pub isPostedIn : List Bool → (from count low : ℕ) → ℕ → ℕ → ℕ → Bool
+isPostedIn m from count low h p k = figureFrom postedSlots false m from count low h p k
 
 -- the ledger that stands in the arrays
 unfoldable pub ledgerIn : List ℕ → List Bool → List Entry → Ledger
 ledgerIn f m x =
     record {
-      loads = record { kw = figureIn f loadSlot terms 0; posted = postedIn m loadPostedSlot terms 0 };
-      rights = record { carried = figureIn f carriedSlot lastMonth 1; awarded = figureIn f awardedSlot lastMonth 1; posted = λ h p. postedIn m carryPostedSlot 1 0 h p 0 };
-      priors = record { allocated = λ h p. figureIn f priorSlot 1 0 h p 0; remaining = λ h p. figureIn f priorRemainingSlot 1 0 h p 0; posted = λ h p. postedIn m priorPostedSlot 1 0 h p 0 };
-      evidence = record { entry = figureFrom evidenceSlots noEntry x 0 evidenceKinds 1; posted = postedIn m evidencePostedSlot evidenceKinds 1 };
+      loads = record { kw = figureIn f loadSlot terms 0; posted = isPostedIn m loadPostedSlot terms 0 };
+      rights = record { carried = figureIn f carriedSlot lastMonth 1; awarded = figureIn f awardedSlot lastMonth 1; posted = λ h p. isPostedIn m carryPostedSlot 1 0 h p 0 };
+      priors = record { allocated = λ h p. figureIn f priorAllocatedSlot 1 0 h p 0; remaining = λ h p. figureIn f priorRemainingSlot 1 0 h p 0; posted = λ h p. isPostedIn m priorPostedSlot 1 0 h p 0 };
+      evidence = record { entry = figureFrom evidenceSlots emptyEntry x 0 evidenceKinds 1; posted = isPostedIn m evidencePostedSlot evidenceKinds 1 };
       tiers =
           record {
             nominated = λ h p t. cond (eqb t (currentTierIn f)) (figureIn f nominatedSlot 1 0 h p 0) (figureIn f awardsSlot tierSlots 0 h p t);

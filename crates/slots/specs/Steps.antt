@@ -56,9 +56,9 @@ pub record Unreadable (L : Ledger) (answer : Answer) (f : List ℕ) (m : List Bo
   pub evidence : x ≡ evidenceOf L
 
 -- a call whose lines stand in slices: slices of unequal length are no lines, and unreadable
-pub record StepsIf (even : Bool) (O : Opening) (L : Ledger) (c : Call) (answer : Answer) (f : List ℕ) (m : List Bool) (x : List Entry) : Type 0 where
-  pub equal : even ≡ true → Steps O L c answer f m x
-  pub unequal : even ≡ false → Unreadable L answer f m x
+pub record StepsIf (sameLengths : Bool) (O : Opening) (L : Ledger) (c : Call) (answer : Answer) (f : List ℕ) (m : List Bool) (x : List Entry) : Type 0 where
+  pub equal : sameLengths ≡ true → Steps O L c answer f m x
+  pub unequal : sameLengths ≡ false → Unreadable L answer f m x
 
 -- a query's answer
 unfoldable pub queryAnswer : Opening → Ledger → Query → Answer
@@ -91,7 +91,7 @@ EvidenceStep o f m c answer f′ m′ = (x : List Entry) → Reachable o f m x �
 
 -- the same of calls whose lines stand in slices
 abbrev pub FiguresStepIf : Bool → (o f : List ℕ) → Call → Answer → List ℕ → Type 0
-FiguresStepIf even o f c answer f′ = (m : List Bool) (x : List Entry) → Reachable o f m x → StepsIf even (openingIn o) (ledgerIn f m x) c answer f′ m x
+FiguresStepIf sameLengths o f c answer f′ = (m : List Bool) (x : List Entry) → Reachable o f m x → StepsIf sameLengths (openingIn o) (ledgerIn f m x) c answer f′ m x
 
 abbrev pub PostingsStepIf : Bool → (o f : List ℕ) (m : List Bool) → Call → Answer → List ℕ → List Bool → Type 0
-PostingsStepIf even o f m c answer f′ m′ = (x : List Entry) → Reachable o f m x → StepsIf even (openingIn o) (ledgerIn f m x) c answer f′ m′ x
+PostingsStepIf sameLengths o f m c answer f′ m′ = (x : List Entry) → Reachable o f m x → StepsIf sameLengths (openingIn o) (ledgerIn f m x) c answer f′ m′ x

@@ -1,6 +1,6 @@
 // The tier last closed and the open one, which stand after a book's figures.
-use crate::layout::CURRENT_TIER;
-use crate::layout::LAST_CLOSED;
+use crate::layout::CURRENT_TIER_AT;
+use crate::layout::LAST_CLOSED_AT;
 use records::lists::number_at;
 ghost use mathlib.Core.Path.{_≡_};
 ghost use Rattle.slots.specs.Layout.{lastClosedIn, currentTierIn};
@@ -9,12 +9,12 @@ ghost use Rattle.slots.specs.Layout.{lastClosedIn, currentTierIn};
 pub fn last_closed(f: &[u64]) -> u64
     ensures { λ r. ⌜ r ≡ lastClosedIn (now (f .entry)) ⌝ }
 {
-    number_at(f, LAST_CLOSED)
+    number_at(f, LAST_CLOSED_AT)
 }
 
 // The open tier, 0 for none.
 pub fn current_tier(f: &[u64]) -> u64
     ensures { λ r. ⌜ r ≡ currentTierIn (now (f .entry)) ⌝ }
 {
-    number_at(f, CURRENT_TIER)
+    number_at(f, CURRENT_TIER_AT)
 }

@@ -10,7 +10,7 @@ use borrow.Author.Tests.{le-leb, lt-leb}
 use Rattle.tariff.specs.declared.load.Level.{Level}
 use Rattle.tariff.specs.Load.{Block, presentHours, hoursAbove, exceedanceHours, withinExceedance, metric}
 use Rattle.tariff.specs.Metering.{blocksOf}
-use Rattle.tariff.specs.Levels.{highestKw, highestBelow, hoursFrom, levelBelow, kwsOf, EachLasts}
+use Rattle.tariff.specs.Levels.{highestKw, highestBelow, hoursAtLeast, levelBelow, kwsOf, EachHasHours}
 use Rattle.tariff.proofs.Blocks.{kws-of}
 use Rattle.tariff.proofs.Lowest.{Among, smallest-passing, among-highest}
 use Rattle.tariff.proofs.Levels.{from-within-above, from-more, none-above-highest, above-next, next-among}
@@ -25,7 +25,7 @@ pub level-kw : {below : Level} (kw : ℕ) (bs : List Block) → below ≡ levelB
 unfolding levelBelow
 level-kw kw bs e = ap (λ l. l .kw) e
 
-pub level-above : {below : Level} (kw : ℕ) (bs : List Block) → below ≡ levelBelow kw bs → below .above ≡ hoursFrom kw bs
+pub level-above : {below : Level} (kw : ℕ) (bs : List Block) → below ≡ levelBelow kw bs → below .above ≡ hoursAtLeast kw bs
 unfolding levelBelow
 level-above kw bs e = ap (λ l. l .above) e
 
@@ -33,30 +33,30 @@ pub exceedance-is : {present : ℕ} (bs : List Block) → presentHours bs ≡ pr
 unfolding exceedanceHours
 exceedance-is bs e = rw e
 
-module _ (bs : List Block) (lasting : EachLasts bs) where
+module _ (bs : List Block) (eachHasHours : EachHasHours bs) where
   -- some block, of an hour or more, is at this kW
-  from-some : (kw : ℕ) → Among kw (kwsOf bs) → 0 < hoursFrom kw bs
-  from-some kw m = let h = from-more (suc kw) kw bs (le-refl (suc kw)) m lasting in omega arith
+  from-some : (kw : ℕ) → Among kw (kwsOf bs) → 0 < hoursAtLeast kw bs
+  from-some kw m = let h = from-more (suc kw) kw bs (le-refl (suc kw)) m eachHasHours in omega arith
 
   -- hours at or above a kW that may be exceeded leave others
-  some-below : (kw : ℕ) → Standing bs kw → hoursFrom kw bs ≤ exceedanceHours bs → hoursFrom kw bs < presentHours bs
+  some-below : (kw : ℕ) → Standing bs kw → hoursAtLeast kw bs ≤ exceedanceHours bs → hoursAtLeast kw bs < presentHours bs
   unfolding exceedanceHours
   some-below kw s h = let some = from-some kw (s .among) in omega arith
 
   -- a step down: the next kW is within the exceedance too, and has more hours at or above it
-  pub step-down : (kw : ℕ) → Standing bs kw → hoursFrom kw bs ≤ exceedanceHours bs → Standing bs (highestBelow kw bs)
+  pub step-down : (kw : ℕ) → Standing bs kw → hoursAtLeast kw bs ≤ exceedanceHours bs → Standing bs (highestBelow kw bs)
   step-down kw s h =
       let next = next-among kw bs (some-below kw s h) in
       let fewer = above-next kw (highestBelow kw bs) bs (le-refl (highestBelow kw bs)) in
       record { among = next .1; metric-allowed = omega arith }
 
-  pub step-adds : (kw : ℕ) → Standing bs kw → hoursFrom kw bs ≤ exceedanceHours bs → hoursFrom kw bs < hoursFrom (highestBelow kw bs) bs
+  pub step-adds : (kw : ℕ) → Standing bs kw → hoursAtLeast kw bs ≤ exceedanceHours bs → hoursAtLeast kw bs < hoursAtLeast (highestBelow kw bs) bs
   step-adds kw s h =
       let next = next-among kw bs (some-below kw s h) in
-      from-more kw (highestBelow kw bs) bs (next .0) (next .1) lasting
+      from-more kw (highestBelow kw bs) bs (next .0) (next .1) eachHasHours
 
 -- where too many hours are at or above a kW, every lower one is exceeded too often
-pub metric-found : (bs : List Block) (kw : ℕ) → Standing bs kw → exceedanceHours bs < hoursFrom kw bs → metric bs ≡ kw
+pub metric-found : (bs : List Block) (kw : ℕ) → Standing bs kw → exceedanceHours bs < hoursAtLeast kw bs → metric bs ≡ kw
 unfolding metric withinExceedance
 metric-found bs kw s h =
     smallest-passing (withinExceedance bs) kw (kwsOf bs) (s .among) (le-leb (hoursAbove kw bs) (exceedanceHours bs) (s .metric-allowed))

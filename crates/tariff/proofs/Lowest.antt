@@ -68,8 +68,8 @@ module _ (test : ℕ → Bool) (v : ℕ) where
   smallest-passing xs m p low = smallest-is v (filter test xs) (among-passing p xs m) (all-passing low xs)
 
 -- the larger of two numbers that stand in a list stands there too
-pub among-larger : (a b : ℕ) (xs : List ℕ) → Among a xs → Among b xs → Among (max a b) xs
-among-larger a b xs p q = go (leb a b) refl
+pub among-max : (a b : ℕ) (xs : List ℕ) → Among a xs → Among b xs → Among (max a b) xs
+among-max a b xs p q = go (leb a b) refl
   where
     go : (t : Bool) → leb a b ≡ t → Among (max a b) xs
     go true l = let h = leb-true a b l in let e : b ≡ max a b = omega arith in subst (λ v. Among v xs) e q
@@ -80,7 +80,7 @@ pub among-highest : (xs : List ℕ) → 0 < length xs → Among (highestKw xs) x
 unfolding highestKw
 among-highest [] h = absurd (not-suc-le-zero h)
 among-highest (x ∷ []) h = inl (omega arith)
-among-highest (x ∷ y ∷ ys) h = among-larger x (highestKw (y ∷ ys)) (x ∷ y ∷ ys) (inl refl) (inr (among-highest (y ∷ ys) (omega arith)))
+among-highest (x ∷ y ∷ ys) h = among-max x (highestKw (y ∷ ys)) (x ∷ y ∷ ys) (inl refl) (inr (among-highest (y ∷ ys) (omega arith)))
 
 -- a pass over a list, at number i
 pub highest-left : (xs : List ℕ) (i : ℕ) → i < length xs → highestKw (drop i xs) ≡ max (getD xs i 0) (highestKw (drop (i + 1) xs))

@@ -8,11 +8,11 @@ use native.Mathlib.Omega.{arith}
 use lib.Dec.{leb, eqb}
 use lib.ListN.{length, getD}
 use borrow.Author.Tests.{leb-true, le-leb, lt-leb, ne-eqb}
-use Rattle.tariff.specs.declared.load.InOrder.the-variants.{Broken, Hours}
+use Rattle.tariff.specs.declared.load.BlockOrder.the-variants.{Broken, Hours}
 use Rattle.tariff.specs.Sum.{sumOver, anyOf}
 use Rattle.tariff.specs.Load.{Block, inOrder, presentHours}
 use Rattle.tariff.specs.Metering.{blocksOf}
-use Rattle.tariff.specs.Levels.{orderedHours, EachLasts}
+use Rattle.tariff.specs.Levels.{orderedHours, EachHasHours}
 use Rattle.tariff.proofs.Tests.{and-both, and-left-false, and-right-false}
 use Rattle.tariff.proofs.Blocks.{blocksFrom, blockAt, blocks-left, no-blocks-left, any-by-loads}
 
@@ -55,7 +55,7 @@ order-within n from (b ∷ bs) p e =
     let ih = order-within n (b .first + b .hours) bs (o .2) (o .3) in
     omega arith
 
-each-has-hours : (n from : ℕ) (bs : List Block) → inOrder n from bs ≡ true → EachLasts bs
+each-has-hours : (n from : ℕ) (bs : List Block) → inOrder n from bs ≡ true → EachHasHours bs
 unfolding anyOf
 each-has-hours n from [] e = refl
 each-has-hours n from (b ∷ bs) e =
@@ -64,7 +64,7 @@ each-has-hours n from (b ∷ bs) e =
     let here = ne-eqb (b .hours) 0 (λ q. omega (arith, q, o .1)) in
     rw (here, ih)
 
-pub loads-have-hours : (n : ℕ) (fs hs ks : List ℕ) → length fs ≡ length hs → inOrder n 0 (blocksOf fs hs ks) ≡ true → EachLasts (blocksOf hs hs ks)
+pub loads-have-hours : (n : ℕ) (fs hs ks : List ℕ) → length fs ≡ length hs → inOrder n 0 (blocksOf fs hs ks) ≡ true → EachHasHours (blocksOf hs hs ks)
 loads-have-hours n fs hs ks e o = any-by-loads (λ h. eqb h 0) fs hs ks e ∙ each-has-hours n 0 (blocksOf fs hs ks) o
 
 -- a pass over the slices, at block number i

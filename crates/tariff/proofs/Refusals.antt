@@ -9,10 +9,10 @@ use lib.ListN.{length}
 use borrow.Author.Tests.{eq-eqb, eqb-true, lt-ltb, le-ltb}
 use Rattle.tariff.specs.declared.load.Metering.{Metering}
 use Rattle.tariff.specs.declared.load.Metering.the-variants.{Unequal, Broken, Missing, Kw}
-use Rattle.tariff.specs.declared.load.InOrder.the-variants.{Hours, Broken as OutOfOrder}
+use Rattle.tariff.specs.declared.load.BlockOrder.the-variants.{Hours, Broken as OutOfOrder}
 use Rattle.tariff.specs.Load.{Block, inOrder, isEmpty, blocksBroken, presentHours, missingHours, tooManyMissing, metric, loadPosted}
 use Rattle.tariff.specs.Metering.{blocksOf, sameLengths, unlessRefused, metricOrCause, loadOrCause, meteringBy, blockRefusal}
-use Rattle.tariff.specs.Levels.{spansOf, loadsOf, orderedHours, Covering}
+use Rattle.tariff.specs.Levels.{spansOf, loadsOf, orderedHours, MetricInputs}
 use Rattle.tariff.proofs.Tests.{and-join, and-both}
 use Rattle.tariff.proofs.Blocks.{metric-by-loads, present-by-loads, present-by-spans, order-by-spans}
 use Rattle.tariff.proofs.Ordered.{order-within, loads-have-hours}
@@ -114,13 +114,13 @@ module _ {fs hs ks : List ℕ} {n present : ℕ} (w : Passed fs hs ks n present)
   present-within = let l = order-within n 0 (blocksOf fs hs ks) (omega arith) in-order in let e = covered in omega arith
 
   -- the hours and the kW from which the metric is found
-  pub covering : Covering hs ks present
+  pub covering : MetricInputs hs ks present
   covering =
       record {
         paired = w .paired;
         some = w .some;
         covered = present-by-loads fs hs ks (w .timed) ∙ covered;
-        lasting = loads-have-hours n fs hs ks (w .timed) in-order;
+        eachHasHours = loads-have-hours n fs hs ks (w .timed) in-order;
       }
 
   -- more than 1 hour in 50 is missing

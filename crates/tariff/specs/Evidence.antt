@@ -6,11 +6,11 @@ use Rattle.tariff.specs.declared.evidence.Evidence.{Evidence}
 use Rattle.tariff.specs.declared.evidence.Evidence.the-variants.{Empty, Ownership, Contract}
 use Rattle.tariff.specs.declared.evidence.Entry.{Entry}
 use Rattle.tariff.specs.Sum.{whenTrue}
-use Rattle.tariff.specs.Sizes.{lastMonth, ownership, wholePlant}
+use Rattle.tariff.specs.Sizes.{lastMonth, ownership, fullOwnership}
 
 -- an entry that nothing was filed in
-unfoldable pub noEntry : Entry
-noEntry = record { evidence = Empty; first = 0; last = 0 }
+unfoldable pub emptyEntry : Entry
+emptyEntry = record { evidence = Empty; first = 0; last = 0 }
 
 -- kind 1 files an ownership, kind 2 a contract
 unfoldable pub evidenceOf : ℕ → ℕ → ℕ → Evidence
@@ -22,12 +22,12 @@ entryOf kind capacity right first last = record { evidence = evidenceOf kind cap
 
 -- the highest right of a kind: 10,000 ten-thousandths of a plant, or the capacity under contract
 unfoldable pub highestRight : ℕ → ℕ → ℕ
-highestRight kind capacity = cond (eqb kind ownership) wholePlant capacity
+highestRight kind capacity = cond (eqb kind ownership) fullOwnership capacity
 
 -- the kW that evidence gives: the owned part of the capacity, rounded down, or the contract's
 unfoldable pub evidenceKw : Evidence → ℕ
 evidenceKw Empty = 0
-evidenceKw (Ownership capacity right) = capacity * right / wholePlant
+evidenceKw (Ownership capacity right) = capacity * right / fullOwnership
 evidenceKw (Contract right) = right
 
 -- an entry counts for a month from its first to its last, and for the season if it runs from month 1 to 3

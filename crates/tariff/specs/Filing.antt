@@ -9,7 +9,7 @@ use Rattle.tariff.specs.Numbers.{outOfRange}
 use Rattle.tariff.specs.Evidence.{entryOf}
 use Rattle.tariff.specs.Ranges.{evidenceOutOfRange}
 
--- 01's number for each case, and the entry where no cause is met
+-- the case that stands for a refusal number of 01, and the entry where the number is 0
 unfoldable pub filingBy : ℕ → Entry → Filing
 filingBy number e = cond (eqb number outOfRange) OutOfRange (Valid e)
 

@@ -20,7 +20,7 @@ blocksOf (f ∷ fs) (h ∷ hs) (k ∷ ks) = record { first = f; hours = h; kw = 
 unfoldable pub sameLengths : List ℕ → List ℕ → List ℕ → Bool
 sameLengths fs hs ks = eqb (length fs) (length hs) && eqb (length hs) (length ks)
 
--- 01's number for each case of what is given, and its kW where no cause is met
+-- the case that stands for a refusal number of 01, and the kW where the number is 0
 unfoldable pub meteringBy : ℕ → ℕ → Metering
 meteringBy number kw = cond (eqb number unreadable) Unequal (cond (eqb number brokenBlocks) Broken (cond (eqb number hoursMissing) Missing (Kw kw)))
 

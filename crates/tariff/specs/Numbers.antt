@@ -1,7 +1,7 @@
 -- The numbers of the causes that the tariff's rules on numbers can meet (01, Refusals by cause); the ledger has the others.
 use Prim.Native.Nat.{ℕ}
 
--- a list that has one of a line's numbers short, as an unreadable line
+-- an unreadable line, or lists of unequal length
 abbrev pub unreadable : ℕ
 unreadable = 1
 

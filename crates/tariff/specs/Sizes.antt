@@ -38,8 +38,8 @@ abbrev pub maxClassLines : ℕ
 maxClassLines = 64
 
 -- the pairs of holders of a book with the most holders (01, Migration)
-abbrev pub pairs : ℕ
-pairs = 64
+abbrev pub holderPairs : ℕ
+holderPairs = 64
 
 -- the classes are 1 to 8 (01, Migration)
 abbrev pub lastClass : ℕ
@@ -70,5 +70,5 @@ abbrev pub evidenceKinds : ℕ
 evidenceKinds = 2
 
 -- the right of one who owns a whole plant, in ten-thousandths (01, Posting, Verify)
-abbrev pub wholePlant : ℕ
-wholePlant = 10000
+abbrev pub fullOwnership : ℕ
+fullOwnership = 10000

@@ -1,9 +1,9 @@
 // Evidence of a right to a source, and what it gives (01, Posting, Verify).
 use crate::sizes::CONTRACT;
+use crate::sizes::FULL_OWNERSHIP;
 use crate::sizes::LAST_MONTH;
 use crate::sizes::MAX_KW;
 use crate::sizes::OWNERSHIP;
-use crate::sizes::WHOLE_PLANT;
 ghost use mathlib.Core.Path.{_≡_};
 ghost use mathlib.Core.Bool.{not};
 ghost use Rattle.tariff.specs.Evidence.{evidenceKw, countsFor, entryKw, highestRight};
@@ -44,7 +44,7 @@ fn highest_right(kind: u64, capacity: u64) -> u64
     ensures { λ r. ⌜ r ≡ highestRight kind capacity ⌝ }
 {
     if kind == OWNERSHIP {
-        WHOLE_PLANT
+        FULL_OWNERSHIP
     } else {
         capacity
     }
@@ -97,7 +97,8 @@ pub fn evidence_kw(e: Evidence) -> u64
 {
     match e {
         Evidence::Empty => 0,
-        Evidence::Ownership { capacity, right } => (capacity as u64) * (right as u64) / WHOLE_PLANT,
+        Evidence::Ownership { capacity, right } => (capacity as u64) * (right as u64)
+            / FULL_OWNERSHIP,
         Evidence::Contract { right } => right as u64,
     }
 }

@@ -5,7 +5,7 @@ ghost use Prim.Native.Nat.{max};
 ghost use lib.ListN.{length};
 ghost use Rattle.tariff.specs.Load.{metric};
 ghost use Rattle.tariff.specs.Metering.{sameLengths, metricOrCause, loadOrCause};
-ghost use Rattle.tariff.specs.Levels.{spansOf, loadsOf, orderedHours, highestKw, levelBelow, Countable, Covering};
+ghost use Rattle.tariff.specs.Levels.{spansOf, loadsOf, orderedHours, highestKw, levelBelow, Countable, MetricInputs};
 use crate::limit::saturating_sub;
 
 // What a block list gives: the kW, or why it is refused.
@@ -20,7 +20,7 @@ pub enum Metering {
 }
 
 // Whether blocks stand in order within the hours, and then how many hours they cover.
-enum InOrder {
+enum BlockOrder {
     Broken,
     Hours(u64),
 }
@@ -39,7 +39,7 @@ pub fn max(a: u64, b: u64) -> u64
 }
 
 // Blocks ascend, do not overlap, have an hour or more and end by hour n. `from` is where the last one ended.
-fn present_in_order(firsts: &[u64], hours: &[u64], n: u64) -> InOrder
+fn present_in_order(firsts: &[u64], hours: &[u64], n: u64) -> BlockOrder
     requires { ⌜ length (now firsts) ≡ length (now hours) ⌝ }
     ensures { λ r. ⌜ r ≡ orderedHours n (spansOf (now (firsts .entry)) (now (hours .entry))) ⌝ }
 {
@@ -50,22 +50,22 @@ fn present_in_order(firsts: &[u64], hours: &[u64], n: u64) -> InOrder
         let first = firsts[i];
         let length = hours[i];
         if first < from {
-            return InOrder::Broken;
+            return BlockOrder::Broken;
         }
         if length < 1 {
-            return InOrder::Broken;
+            return BlockOrder::Broken;
         }
         if n < first {
-            return InOrder::Broken;
+            return BlockOrder::Broken;
         }
         if n - first < length {
-            return InOrder::Broken;
+            return BlockOrder::Broken;
         }
         from = first + length;
         present += length;
         i += 1;
     }
-    InOrder::Hours(present)
+    BlockOrder::Hours(present)
 }
 
 // The highest kW, 0 if there is none.
@@ -104,7 +104,7 @@ fn level_below(hours: &[u64], kws: &[u64], cap: u64) -> Level
 // The smallest kW among the blocks that is exceeded in at most 0.5% of the present hours, rounded down. From the highest kW it goes
 // down to the next lower one as long as that one is exceeded in few enough hours.
 fn metric_of_blocks(hours: &[u64], kws: &[u64], present: u64) -> u64
-    requires { ⌜ Covering (now hours) (now kws) present ⌝ }
+    requires { ⌜ MetricInputs (now hours) (now kws) present ⌝ }
     ensures { λ r. ⌜ r ≡ metric (loadsOf (now (hours .entry)) (now (kws .entry))) ⌝ }
 {
     let exceedance_hours = present / 200;
@@ -136,7 +136,7 @@ pub fn load_metric(firsts: &[u64], hours: &[u64], kws: &[u64], n: u64) -> Meteri
     if hours.len() == 0 {
         return Metering::Broken;
     }
-    let InOrder::Hours(present) = present_in_order(firsts, hours, n) else {
+    let BlockOrder::Hours(present) = present_in_order(firsts, hours, n) else {
         return Metering::Broken;
     };
     // The rule compares 50 times the missing hours with n. That product may not fit, and this test says the same.

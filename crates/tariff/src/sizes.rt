@@ -31,7 +31,7 @@ pub const MAX_PLACES: usize = 16;
 pub const MAX_CLASS_LINES: usize = 64;
 
 // The pairs of holders of a book with the most holders (01, Migration).
-pub const PAIRS: usize = 64;
+pub const HOLDER_PAIRS: usize = 64;
 
 // The classes are 1 to 8 (01, Migration).
 pub const LAST_CLASS: u64 = 8;
@@ -55,4 +55,4 @@ pub const CONTRACT: u64 = 2;
 pub const EVIDENCE_KINDS: u64 = 2;
 
 // The right of one who owns a whole plant, in ten-thousandths (01, Posting, Verify).
-pub const WHOLE_PLANT: u64 = 10_000;
+pub const FULL_OWNERSHIP: u64 = 10_000;

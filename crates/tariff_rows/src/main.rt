@@ -25,7 +25,7 @@ mod transfers;
 mod write;
 
 // What the rows of a table are run through.
-enum Group {
+enum Table {
     Load,
     Eligible,
     Limit,
@@ -35,20 +35,20 @@ enum Group {
 }
 
 // The line or lines of a row. A table has fewer than 65,536 rows, so that no place in it wraps.
-fn write_row(group: Group, row: usize)
+fn write_row(group: Table, row: usize)
     requires { ⌜ row < 65536 ⌝ }
 {
     match group {
-        Group::Load => loads::write_row(row),
-        Group::Eligible => limits::write_eligible(row),
-        Group::Limit => limits::write_row(row),
-        Group::Evidence => evidence::write_row(row),
-        Group::Netting => netted::write_row(row),
-        Group::Transfer => transfers::write_row(row),
+        Table::Load => loads::write_row(row),
+        Table::Eligible => limits::write_eligible(row),
+        Table::Limit => limits::write_row(row),
+        Table::Evidence => evidence::write_row(row),
+        Table::Netting => netted::write_row(row),
+        Table::Transfer => transfers::write_row(row),
     }
 }
 
-fn write_rows(group: Group, count: usize)
+fn write_rows(group: Table, count: usize)
     requires { ⌜ count < 65536 ⌝ }
 {
     let mut row: usize = 0;
@@ -59,13 +59,13 @@ fn write_rows(group: Group, count: usize)
 }
 
 fn main() {
-    write_rows(Group::Load, load_rows::ROWS.len() / loads::WIDTH);
-    write_rows(Group::Eligible, limit_rows::LOADS.len());
-    write_rows(Group::Limit, limit_rows::ROWS.len() / limits::WIDTH);
-    write_rows(Group::Evidence, evidence_rows::ROWS.len() / evidence::WIDTH);
-    write_rows(Group::Netting, netting_rows::ROWS.len() / netted::WIDTH);
+    write_rows(Table::Load, load_rows::ROWS.len() / loads::WIDTH);
+    write_rows(Table::Eligible, limit_rows::LOADS.len());
+    write_rows(Table::Limit, limit_rows::ROWS.len() / limits::WIDTH);
+    write_rows(Table::Evidence, evidence_rows::ROWS.len() / evidence::WIDTH);
+    write_rows(Table::Netting, netting_rows::ROWS.len() / netted::WIDTH);
     write_rows(
-        Group::Transfer,
+        Table::Transfer,
         transfer_rows::ROWS.len() / transfers::WIDTH,
     );
 }

@@ -3,7 +3,7 @@
 use super::table::{file, line, Table};
 use model::generate::Random;
 use model::rules;
-use model::sizes::{MAX_KW, WHOLE_PLANT};
+use model::sizes::{FULL_OWNERSHIP, MAX_KW};
 use model::Verify;
 
 /// Kind, capacity, right, first and last month.
@@ -16,11 +16,19 @@ fn rows() -> Vec<(&'static str, Row)> {
     }
     for capacity in [0, 1, 2, MAX_KW, MAX_KW + 1, u64::MAX] {
         rows.push(("capacity", [1, capacity, 1, 1, 3]));
-        rows.push(("capacity", [1, capacity, WHOLE_PLANT, 1, 3]));
+        rows.push(("capacity", [1, capacity, FULL_OWNERSHIP, 1, 3]));
         rows.push(("capacity", [2, capacity, 1, 1, 3]));
         rows.push(("capacity", [2, capacity, capacity, 1, 3]));
     }
-    for right in [0, 1, 9_999, WHOLE_PLANT, WHOLE_PLANT + 1, 65_537, u64::MAX] {
+    for right in [
+        0,
+        1,
+        9_999,
+        FULL_OWNERSHIP,
+        FULL_OWNERSHIP + 1,
+        65_537,
+        u64::MAX,
+    ] {
         rows.push(("right", [1, 20_000, right, 1, 3]));
         rows.push(("right", [2, 20_000, right, 1, 3]));
     }
@@ -48,7 +56,7 @@ fn random_rows(random: &mut Random) -> Row {
     let kind = random.between(1, 2);
     let capacity = random.up_to(MAX_KW);
     let right = match kind {
-        1 => random.up_to(WHOLE_PLANT + 2_000),
+        1 => random.up_to(FULL_OWNERSHIP + 2_000),
         _ => random.up_to(capacity + capacity / 8),
     };
     let first = random.between(1, 3);

@@ -116,7 +116,10 @@ fn random_rows(random: &mut Random) -> Sums {
 /// What the program prints.
 pub fn lines() -> Vec<String> {
     let eligible = loads().into_iter().map(|load| {
-        let both = [rules::seasonal(load), rules::priority(load)];
+        let both = [
+            rules::seasonal_eligible(load),
+            rules::priority_eligible(load),
+        ];
         line("eligible", &both)
     });
     let limits = rows().into_iter().map(|row| {

@@ -2,7 +2,7 @@
 
 use super::table::{file, line, LineTables, Table};
 use model::generate::Random;
-use model::sizes::{HOLDERS, MAX_CLASS_LINES, MAX_PER_CLASS};
+use model::sizes::{MAX_CLASS_LINES, MAX_HOLDERS, MAX_PER_CLASS};
 use model::{rules, ClassLine};
 
 /// What a row shows, and its class lines.
@@ -128,7 +128,7 @@ fn many_lines() -> Vec<Row> {
 }
 
 fn random_rows(random: &mut Random) -> Vec<ClassLine> {
-    let holders = random.between(2, HOLDERS as u64);
+    let holders = random.between(2, MAX_HOLDERS as u64);
     let count = random.between(2, 9);
     let most = random.select(&[40, 3_000]);
     let mut lines = Vec::new();

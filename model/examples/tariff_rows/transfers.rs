@@ -3,10 +3,10 @@
 use super::netting::moved;
 use super::table::{file, line, LineTables, Table};
 use model::generate::Random;
-use model::sizes::{HOLDERS, MAX_KW};
+use model::sizes::{MAX_HOLDERS, MAX_KW};
 use model::{rules, ClassLine};
 
-type Column = [u64; HOLDERS];
+type Column = [u64; MAX_HOLDERS];
 
 struct Row {
     about: &'static str,
@@ -40,8 +40,8 @@ fn edges() -> Vec<Row> {
         lines: transfers(list),
     };
     let held = [100, 0, 0, 0, 0, 0, 0, 0];
-    let kilo = [1_000; HOLDERS];
-    let most = [MAX_KW; HOLDERS];
+    let kilo = [1_000; MAX_HOLDERS];
+    let most = [MAX_KW; MAX_HOLDERS];
     let steps = [10, 20, 30, 40, 50, 60, 70, 80];
     let ring = [(0, 1, 100), (1, 2, 200), (2, 0, 300)];
     let to_all: Vec<_> = (1..8).map(|to| (0, to, 142)).collect();
@@ -49,7 +49,7 @@ fn edges() -> Vec<Row> {
     let round: Vec<_> = (0..8).map(|k| (k, (k + 3) % 8, 999)).collect();
     vec![
         row("no line", steps, kilo, &[]),
-        row("no line and no load", steps, [0; HOLDERS], &[]),
+        row("no line and no load", steps, [0; MAX_HOLDERS], &[]),
         row("marked case 8", held, kilo, &[(0, 1, 500), (0, 2, 500)]),
         row(
             "marked case 9",
@@ -90,8 +90,8 @@ fn edges() -> Vec<Row> {
         ),
         row(
             "thirds",
-            [2; HOLDERS],
-            [3; HOLDERS],
+            [2; MAX_HOLDERS],
+            [3; MAX_HOLDERS],
             &[(0, 1, 1), (0, 2, 1), (0, 3, 1)],
         ),
         row(
@@ -116,7 +116,7 @@ fn random_rows(random: &mut Random) -> Row {
     for line in &mut lines {
         line.watts += random.up_to(999);
     }
-    let mut load: Column = [0; HOLDERS];
+    let mut load: Column = [0; MAX_HOLDERS];
     for (loser, _, m) in rules::netted(&lines).expect("lines that are fit") {
         load[loser] += m;
     }

@@ -139,7 +139,7 @@ impl Tally {
             }
             let prior = (0..book.holders()).fold([0, 0], |[a, rest], holder| {
                 let more = book.prior_allocated(holder, path);
-                [a + more, rest + book.prior_rest(holder, path)]
+                [a + more, rest + book.prior_remaining(holder, path)]
             });
             assert_eq!(prior, self.prior[path], "seed {seed}");
         }
@@ -289,7 +289,7 @@ fn records(term: usize) -> Vec<Record> {
             read: Box::new(move |book, holder, path| book.awarded(holder, path, month)),
         });
     }
-    for read in [Book::prior_allocated, Book::prior_rest] {
+    for read in [Book::prior_allocated, Book::prior_remaining] {
         records.push(Record {
             transfers: term == 0,
             held: false,

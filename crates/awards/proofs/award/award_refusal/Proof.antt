@@ -37,15 +37,15 @@ returns-2 c = λ m x r.
 current-tier-requires : tie.Need-current-tier-requires
 current-tier-requires c κs = search needs
 
-is-open-requires : tie.Need-is-open-requires
-is-open-requires c κs = search needs
+tier-is-open-requires : tie.Need-tier-is-open-requires
+tier-is-open-requires c κs = search needs
 
 returns-3 : tie.Need-returns-3
 unfolding refusal callCauses awardCauses tierIsOpen ledgerIn
 returns-3 c = λ m x r.
     unmet-first notInBook _ _ (sym (ap₂ (λ a b. a || b) (c .before .before .before .before .before .before .before .unknown-holder .ensures) (c .before .before .before .before .before .before .unknown-path .ensures)) ∙ c .before .before .before .before .before .if1 .left)
     (unmet-first outOfRange _ _ (sym (c .before .before .before .before .kw-out-of-range .ensures) ∙ c .before .before .before .if2 .left)
-    (met-first notAtThisTime _ _ (sym (ap not (open-test _ _ _ (c .before .is-open .ensures) (c .before .before .current-tier .ensures))) ∙ c .if3 .taken)))
+    (met-first notAtThisTime _ _ (sym (ap not (open-test _ _ _ (c .before .tier-is-open .ensures) (c .before .before .current-tier .ensures))) ∙ c .if3 .taken)))
 
 exceeds-nominated-requires : tie.Need-exceeds-nominated-requires
 exceeds-nominated-requires c κs = (c .before .before .current-tier .ensures, tier-within _ _ _ _ _ (c .before .before .before .before .before .before .before .before .before .before .pre .reachable) (c .before .before .current-tier .ensures), known-room _ _ _ _ _ _ _ _ _ (c .before .before .before .before .before .before .before .before .before .before .pre .reachable) (c .before .before .before .before .before .before .before .unknown-holder .ensures) (c .before .before .before .before .before .before .unknown-path .ensures) (c .before .before .before .before .before .if1 .left) (c .before .before .before .before .kw-out-of-range .ensures) (c .before .before .before .if2 .left) (omega arith))
@@ -58,7 +58,7 @@ unfolding refusal callCauses awardCauses tierIsOpen ledgerIn
 returns-4 c = λ m x r.
     unmet-first notInBook _ _ (sym (ap₂ (λ a b. a || b) (c .before .before .before .before .before .before .before .before .before .unknown-holder .ensures) (c .before .before .before .before .before .before .before .before .unknown-path .ensures)) ∙ c .before .before .before .before .before .before .before .if1 .left)
     (unmet-first outOfRange _ _ (sym (c .before .before .before .before .before .before .kw-out-of-range .ensures) ∙ c .before .before .before .before .before .if2 .left)
-    (unmet-first notAtThisTime _ _ (sym (ap not (open-test _ _ _ (c .before .before .before .is-open .ensures) (c .before .before .before .before .current-tier .ensures))) ∙ c .before .before .if3 .left)
+    (unmet-first notAtThisTime _ _ (sym (ap not (open-test _ _ _ (c .before .before .before .tier-is-open .ensures) (c .before .before .before .before .current-tier .ensures))) ∙ c .before .before .if3 .left)
     (link aboveNominated _ _ _ (c .refuse .ensures) (c .before .exceeds-nominated .ensures m x) no-more)))
 
 pub award-refusal-spec : {M : Type 1} → statement M
@@ -71,7 +71,7 @@ award-refusal-spec =
     kw-out-of-range-requires
     returns-2
     current-tier-requires
-    is-open-requires
+    tier-is-open-requires
     returns-3
     exceeds-nominated-requires
     refuse-requires

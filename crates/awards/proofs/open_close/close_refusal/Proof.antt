@@ -14,16 +14,16 @@ use Rattle.awards.proofs.open_close.close_refusal.Tie as tie
 current-tier-requires : tie.Need-current-tier-requires
 current-tier-requires c κs = search needs
 
-is-open-requires : tie.Need-is-open-requires
-is-open-requires c κs = search needs
+tier-is-open-requires : tie.Need-tier-is-open-requires
+tier-is-open-requires c κs = search needs
 
 refuse-requires : tie.Need-refuse-requires
 refuse-requires c κs = search needs
 
 returns : tie.Need-returns
 unfolding refusal callCauses closeCauses tierIsOpen ledgerIn
-returns c = λ O m x. link notAtThisTime _ _ _ (c .refuse .ensures) (ap not (open-test _ _ _ (c .before .is-open .ensures) (c .before .before .current-tier .ensures))) no-more
+returns c = λ O m x. link notAtThisTime _ _ _ (c .refuse .ensures) (ap not (open-test _ _ _ (c .before .tier-is-open .ensures) (c .before .before .current-tier .ensures))) no-more
 
 pub close-refusal-spec : {M : Type 1} → statement M
 close-refusal-spec =
-    tie.close (tie.spec current-tier-requires is-open-requires refuse-requires returns)
+    tie.close (tie.spec current-tier-requires tier-is-open-requires refuse-requires returns)

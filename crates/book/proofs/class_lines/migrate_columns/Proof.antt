@@ -25,12 +25,12 @@ unknown-holder-requires c κs = search needs
 refuse-requires : tie.Need-refuse-requires
 refuse-requires c κs = search needs
 
-refused-requires : tie.Need-refused-requires
-refused-requires c κs = search needs
+refused-with-requires : tie.Need-refused-with-requires
+refused-with-requires c κs = search needs
 
 returns : tie.Need-returns
 unfolding openingOfBook
-returns c = let a = c .before .before .before .before .before .before .before .before .args in c .refused .ensures ∙ ap (refusedWith (a .b)) (c .before .refuse .ensures ∙ ap (λ t. cond t notInBook outOfRange) (ap₂ (λ x y. x || y) (c .before .before .before .before .unknown-sink .ensures) (c .before .before .unknown-holder .ensures))) ∙ many-outcome (a .b) (a .term) (a .sink) (a .n) (a .c) (c .before .before .before .before .before .before .before .if1 .taken)
+returns c = let a = c .before .before .before .before .before .before .before .before .args in c .refused-with .ensures ∙ ap (refusedWith (a .b)) (c .before .refuse .ensures ∙ ap (λ t. cond t notInBook outOfRange) (ap₂ (λ x y. x || y) (c .before .before .before .before .unknown-sink .ensures) (c .before .before .unknown-holder .ensures))) ∙ many-outcome (a .b) (a .term) (a .sink) (a .n) (a .c) (c .before .before .before .before .before .before .before .if1 .taken)
 
 array-share-prefix-froms : tie.Need-array-share-prefix-froms
 array-share-prefix-froms c = let full = c .before .before .before .before .before .before .pre .1 .ofFroms in let few = c .before .before .before .before .before .if1 .left in omega arith
@@ -77,7 +77,7 @@ migrate-columns-spec =
     slice-aggregate-unknown-holder
     unknown-holder-requires
     refuse-requires
-    refused-requires
+    refused-with-requires
     returns
     array-share-prefix-froms
     slice-aggregate-migrate

@@ -1,4 +1,4 @@
--- `groups::counted_calls::run_load` meets its contract: the room has a place for each line that is counted. Assumes nothing.
+-- `groups::counted_calls::run_load` meets its contract: the buffer has a place for each line that is counted. Assumes nothing.
 use Rattle.lines.specs.Rows.{field}
 use Rattle.groups.proofs.OutcomeLaws.{few-fit, all-fit, load-counts}
 use borrow.Author.Needs.{needs}
@@ -8,12 +8,12 @@ use Rattle.groups.proofs.counted_calls.run_load.Tie as tie
 array-read-if1 : tie.Need-array-read-if1
 array-read-if1 c = search needs
 
-slice-aggregate-load-in-room : tie.Need-slice-aggregate-load-in-room
-slice-aggregate-load-in-room c = search needs
+slice-aggregate-load-in-buffer : tie.Need-slice-aggregate-load-in-buffer
+slice-aggregate-load-in-buffer c = search needs
 
-load-in-room-requires : tie.Need-load-in-room-requires
+load-in-buffer-requires : tie.Need-load-in-buffer-requires
 unfolding field
-load-in-room-requires c κs = let s = c .before .before .before .before .before .before .before .before .before in (s .pre .0, (s .pre .1 .0, few-fit _ _ _ (load-counts _ (s .pre .1 .0)) 320 (c .before .before .before .if1 .taken)))
+load-in-buffer-requires c κs = let s = c .before .before .before .before .before .before .before .before .before in (s .pre .0, (s .pre .1 .0, few-fit _ _ _ (load-counts _ (s .pre .1 .0)) 320 (c .before .before .before .if1 .taken)))
 
 same-length : tie.Need-same-length
 same-length c = search needs
@@ -24,11 +24,11 @@ same-length-2 c = search needs
 returns : tie.Need-returns
 returns c = search needs
 
-slice-aggregate-load-in-room-2 : tie.Need-slice-aggregate-load-in-room-2
-slice-aggregate-load-in-room-2 c = search needs
+slice-aggregate-load-in-buffer-2 : tie.Need-slice-aggregate-load-in-buffer-2
+slice-aggregate-load-in-buffer-2 c = search needs
 
-load-in-room-requires-2 : tie.Need-load-in-room-requires-2
-load-in-room-requires-2 c κs = let s = c .before .before .before .before .before .before .before .before .before in (s .pre .0, (s .pre .1 .0, all-fit _ _ _ (load-counts _ (s .pre .1 .0)) 20480 (s .pre .1 .1)))
+load-in-buffer-requires-2 : tie.Need-load-in-buffer-requires-2
+load-in-buffer-requires-2 c κs = let s = c .before .before .before .before .before .before .before .before .before in (s .pre .0, (s .pre .1 .0, all-fit _ _ _ (load-counts _ (s .pre .1 .0)) 20480 (s .pre .1 .1)))
 
 same-length-3 : tie.Need-same-length-3
 same-length-3 c = search needs
@@ -44,13 +44,13 @@ run-load-spec =
     tie.close
     (tie.spec
     array-read-if1
-    slice-aggregate-load-in-room
-    load-in-room-requires
+    slice-aggregate-load-in-buffer
+    load-in-buffer-requires
     same-length
     same-length-2
     returns
-    slice-aggregate-load-in-room-2
-    load-in-room-requires-2
+    slice-aggregate-load-in-buffer-2
+    load-in-buffer-requires-2
     same-length-3
     same-length-4
     returns-2)

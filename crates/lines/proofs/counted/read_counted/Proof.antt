@@ -5,30 +5,30 @@ use native.Mathlib.Omega.{arith}
 use lib.ListN.{take}
 use borrow.Author.Needs.{needs}
 use Rattle.lines.specs.Rows.{rowsOf}
-use Rattle.lines.specs.Counted.{columnLength, roomWith}
-use Rattle.lines.proofs.CountedLaws.{SoFar, none-read, turn, turn-kept, turn-within, line-fits, room-length, room-all, room-read, cut-short, all-read}
-use Rattle.lines.proofs.RoomLaws.{no-rows-kept}
+use Rattle.lines.specs.Counted.{columnLength, bufferWith}
+use Rattle.lines.proofs.CountedLaws.{SoFar, none-read, turn, turn-kept, turn-within, line-fits, buffer-length, buffer-all, buffer-read, cut-short, all-read}
+use Rattle.lines.proofs.BufferLaws.{no-rows-kept}
 use Rattle.lines.proofs.counted.read_counted.Statement.{statement}
 use Rattle.lines.proofs.counted.read_counted.Tie as tie
 
 abbrev Inv-loop : tie.InvT-loop
-Inv-loop rest kind count room₀ column complete₀ consumed₀ k₀ room complete consumed k = SoFar rest kind count k consumed complete × (room ≡ roomWith (take k (rowsOf rest)) room₀)
+Inv-loop rest kind count buffer₀ column complete₀ consumed₀ k₀ buffer complete consumed k = SoFar rest kind count k consumed complete × (buffer ≡ bufferWith (take k (rowsOf rest)) buffer₀)
 
 abbrev μ-loop : tie.MeasureT-loop
-μ-loop rest kind count room₀ column complete₀ consumed₀ k₀ room complete consumed k = count - k
+μ-loop rest kind count buffer₀ column complete₀ consumed₀ k₀ buffer complete consumed k = count - k
 
 loop-holds : tie.Need-loop-holds Inv-loop μ-loop
 loop-holds c = (none-read _ _ _, no-rows-kept _)
 
 same-length : tie.Need-same-length Inv-loop μ-loop
-same-length c = let inv = c .before .before .loop .inv in room-length _ _ _ _ _ _ (inv .0) _ _ (c .before .before .before .before .before .pre) (inv .1)
+same-length c = let inv = c .before .before .loop .inv in buffer-length _ _ _ _ _ _ (inv .0) _ _ (c .before .before .before .before .before .pre) (inv .1)
 
 returns : tie.Need-returns Inv-loop μ-loop
 returns c =
     let inv = c .before .before .loop .inv in
     let gone = c .if1 .taken in
     let short = c .before .loop-test .taken in
-    (cut-short _ _ _ _ _ _ (inv .0) gone short, room-all _ _ _ _ _ _ (inv .0) gone short _ _ (inv .1))
+    (cut-short _ _ _ _ _ _ (inv .0) gone short, buffer-all _ _ _ _ _ _ (inv .0) gone short _ _ (inv .1))
 
 sub-next-row : tie.Need-sub-next-row Inv-loop μ-loop
 sub-next-row c = search needs
@@ -47,7 +47,7 @@ unfolding columnLength
 keep-row-requires c κs =
     let inv = c .before .before .before .before .before .before .before .loop .inv in
     let fits = c .before .before .before .before .before .before .before .before .before .before .pre in
-    let same = room-length _ _ _ _ _ _ (inv .0) _ _ fits (inv .1) in
+    let same = buffer-length _ _ _ _ _ _ (inv .0) _ _ fits (inv .1) in
     (omega arith, line-fits _ _ _ _ _ _ (inv .0) (c .before .before .before .before .before .if1 .left) _ fits (c .before .before .before .before .before .before .loop-test .taken))
 
 add-consumed : tie.Need-add-consumed Inv-loop μ-loop
@@ -72,13 +72,13 @@ loop-again c =
     (turn _ _ _ _ _ _ (inv .0) some _ read counts, turn-kept _ _ _ _ _ _ (inv .0) some _ read _ _ _ (c .before .before .before .before .before .before .before .before .before .before .before .before .before .before .pre) counts (inv .1) (c .before .before .before .keep-row .ensures))
 
 same-length-2 : tie.Need-same-length-2 Inv-loop μ-loop
-same-length-2 c = let inv = c .before .loop .inv in room-length _ _ _ _ _ _ (inv .0) _ _ (c .before .before .before .before .pre) (inv .1)
+same-length-2 c = let inv = c .before .loop .inv in buffer-length _ _ _ _ _ _ (inv .0) _ _ (c .before .before .before .before .pre) (inv .1)
 
 returns-2 : tie.Need-returns-2 Inv-loop μ-loop
 returns-2 c =
     let inv = c .before .loop .inv in
     let done = c .loop-test .left in
-    (all-read _ _ _ _ _ _ (inv .0) done, room-read _ _ _ _ _ _ (inv .0) done _ _ (inv .1))
+    (all-read _ _ _ _ _ _ (inv .0) done, buffer-read _ _ _ _ _ _ (inv .0) done _ _ (inv .1))
 
 pub read-counted-spec : {M : Type 1} → statement M
 read-counted-spec =

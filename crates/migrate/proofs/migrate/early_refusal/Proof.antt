@@ -25,8 +25,8 @@ current-tier-requires c κs = search needs
 migration-in-time-requires : tie.Need-migration-in-time-requires
 migration-in-time-requires c κs = search needs
 
-any-not-between-requires : tie.Need-any-not-between-requires
-any-not-between-requires c κs = search needs
+any-not-between-lses-requires : tie.Need-any-not-between-lses-requires
+any-not-between-lses-requires c κs = search needs
 
 refuse-requires : tie.Need-refuse-requires
 refuse-requires c κs = search needs
@@ -43,7 +43,7 @@ refuse-requires-4 c κs = search needs
 returns : tie.Need-returns
 returns c m e r =
     let a = c .before .before .before .before .before .before .before .before .before .before .before .before .before .before .before .before .before .before .before .args in
-    early-cause (a .o .now) (a .f .now) (a .term) (a .sink) (a .froms .now) (a .tos .now) (a .classes .now) (a .customers .now) (a .watts .now) m e _ _ _ _ _ _ _ _ _ _ _ _ (c .before .before .before .before .before .before .before .before .before .before .before .before .before .before .before .before .before .before .before .pre .ofClasses) (c .before .before .before .before .before .before .before .before .before .before .before .unknown-sink .ensures) (c .before .before .before .before .before .before .before .before .before .before .any-unknown .ensures) (c .before .before .before .before .before .before .before .before .before .term-out-of-range .ensures) (c .before .before .before .before .before .before .before .before .any-out-of-range .ensures) (c .before .before .before .before .before .before .before .last-closed .ensures) (c .before .before .before .before .before .before .current-tier .ensures) (c .before .before .before .before .before .migration-in-time .ensures) (c .before .before .before .before .any-not-between .ensures) (c .refuse4 .ensures) (c .before .refuse3 .ensures) (c .before .before .refuse2 .ensures) (c .before .before .before .refuse .ensures)
+    early-cause (a .o .now) (a .f .now) (a .term) (a .sink) (a .froms .now) (a .tos .now) (a .classes .now) (a .customers .now) (a .watts .now) m e _ _ _ _ _ _ _ _ _ _ _ _ (c .before .before .before .before .before .before .before .before .before .before .before .before .before .before .before .before .before .before .before .pre .ofClasses) (c .before .before .before .before .before .before .before .before .before .before .before .unknown-sink .ensures) (c .before .before .before .before .before .before .before .before .before .before .any-unknown .ensures) (c .before .before .before .before .before .before .before .before .before .term-out-of-range .ensures) (c .before .before .before .before .before .before .before .before .any-out-of-range .ensures) (c .before .before .before .before .before .before .before .last-closed .ensures) (c .before .before .before .before .before .before .current-tier .ensures) (c .before .before .before .before .before .migration-in-time .ensures) (c .before .before .before .before .any-not-between-lses .ensures) (c .refuse4 .ensures) (c .before .refuse3 .ensures) (c .before .before .refuse2 .ensures) (c .before .before .before .refuse .ensures)
 
 pub early-refusal-spec : {M : Type 1} → statement M
 early-refusal-spec =
@@ -56,7 +56,7 @@ early-refusal-spec =
     last-closed-requires
     current-tier-requires
     migration-in-time-requires
-    any-not-between-requires
+    any-not-between-lses-requires
     refuse-requires
     refuse-requires-2
     refuse-requires-3

@@ -3,8 +3,8 @@ use Prim.Native.Nat.{_≤_, _-_}
 use mathlib.Core.Path.{_≡_, sym, _∙_}
 use native.Mathlib.Omega.{arith}
 use lib.ListN.{length}
-use Rattle.slots.specs.Layout.{figureCount, priorSlot, nominatedSlot}
-use Rattle.migrate.specs.Columns.{Transferred}
+use Rattle.slots.specs.Layout.{figureCount, priorAllocatedSlot, nominatedSlot}
+use Rattle.migrate.specs.Columns.{ColumnTransfer}
 use Rattle.migrate.specs.Transfers.{shareColumn, columnWhere}
 use Rattle.migrate.proofs.WhereLaws.{where-long}
 use Rattle.migrate.proofs.MovingLaws.{below, one-more}
@@ -14,7 +14,7 @@ use Rattle.migrate.proofs.transfers.transfer_path.Statement.{statement}
 use Rattle.migrate.proofs.transfers.transfer_path.Tie as tie
 
 abbrev Inv-loop : tie.InvT-loop
-Inv-loop f₀ o term sink p x slot₀ f slot = (slot ≤ nominatedSlot) × Transferred (columnWhere (below (shareColumn x) (onPath term p) (slotNumber term p) slot) (shareColumn x)) f₀ f × (length f ≡ figureCount)
+Inv-loop f₀ o term sink p x slot₀ f slot = (slot ≤ nominatedSlot) × ColumnTransfer (columnWhere (below (shareColumn x) (onPath term p) (slotNumber term p) slot) (shareColumn x)) f₀ f × (length f ≡ figureCount)
 
 abbrev μ-loop : tie.MeasureT-loop
 μ-loop f₀ o term sink p x slot₀ f slot = nominatedSlot - slot

@@ -7,7 +7,7 @@ use lib.ListN.{length}
 use Rattle.records.specs.Opening.{openingIn}
 use Rattle.slots.specs.Cells.{maxPlaces}
 use Rattle.slots.specs.Layout.{figureCount}
-use Rattle.migrate.specs.Columns.{Transferred}
+use Rattle.migrate.specs.Columns.{ColumnTransfer}
 use Rattle.migrate.specs.Transfers.{shareColumn, movesAt, columnWhere}
 use Rattle.migrate.proofs.WhereLaws.{where-long}
 use Rattle.migrate.proofs.MovingLaws.{below, none-yet, one-more, all-moved}
@@ -17,7 +17,7 @@ use Rattle.migrate.proofs.transfers.transfer_rights.Statement.{statemen
 use Rattle.migrate.proofs.transfers.transfer_rights.Tie as tie
 
 abbrev Inv-loop : tie.InvT-loop
-Inv-loop f₀ o term sink x p₀ f p = (p ≤ maxPlaces) × Transferred (columnWhere (below (shareColumn x) (movesAt (openingIn o) term sink) pathNumber p) (shareColumn x)) f₀ f × (length f ≡ figureCount)
+Inv-loop f₀ o term sink x p₀ f p = (p ≤ maxPlaces) × ColumnTransfer (columnWhere (below (shareColumn x) (movesAt (openingIn o) term sink) pathNumber p) (shareColumn x)) f₀ f × (length f ≡ figureCount)
 
 abbrev μ-loop : tie.MeasureT-loop
 μ-loop f₀ o term sink x p₀ f p = maxPlaces - p

@@ -20,8 +20,8 @@ unknown-sink-requires c κs = search needs
 current-tier-requires : tie.Need-current-tier-requires
 current-tier-requires c κs = search needs
 
-is-open-requires : tie.Need-is-open-requires
-is-open-requires c κs = search needs
+tier-is-open-requires : tie.Need-tier-is-open-requires
+tier-is-open-requires c κs = search needs
 
 refuse-requires : tie.Need-refuse-requires
 refuse-requires c κs = search needs
@@ -33,7 +33,7 @@ returns : tie.Need-returns
 unfolding queryRefusal queryCauses limitCauses tierIsOpen ledgerIn
 returns c m x r =
     link notInBook _ _ _ (c .refuse2 .ensures) (ap₂ (λ a b. a || b) (c .before .before .before .before .before .unknown-holder .ensures) (c .before .before .before .before .unknown-sink .ensures))
-    (link notAtThisTime _ _ _ (c .before .refuse .ensures) (ap not (open-test _ _ _ (c .before .before .is-open .ensures) (c .before .before .before .current-tier .ensures))) no-more)
+    (link notAtThisTime _ _ _ (c .before .refuse .ensures) (ap not (open-test _ _ _ (c .before .before .tier-is-open .ensures) (c .before .before .before .current-tier .ensures))) no-more)
 
 pub limit-refusal-spec : {M : Type 1} → statement M
 limit-refusal-spec =
@@ -42,7 +42,7 @@ limit-refusal-spec =
     unknown-holder-requires
     unknown-sink-requires
     current-tier-requires
-    is-open-requires
+    tier-is-open-requires
     refuse-requires
     refuse-requires-2
     returns)

@@ -34,15 +34,15 @@ returns-2 c m x r =
 current-tier-requires : tie.Need-current-tier-requires
 current-tier-requires c κs = search needs
 
-is-open-requires : tie.Need-is-open-requires
-is-open-requires c κs = search needs
+tier-is-open-requires : tie.Need-tier-is-open-requires
+tier-is-open-requires c κs = search needs
 
 returns-3 : tie.Need-returns-3
 unfolding refusal callCauses nominateCauses tierIsOpen ledgerIn
 returns-3 c m x r =
     unmet-first notInBook _ _ (sym (ap₂ (λ a b. a || b) (c .before .before .before .before .before .before .before .unknown-holder .ensures) (c .before .before .before .before .before .before .unknown-path .ensures)) ∙ c .before .before .before .before .before .if1 .left)
     (unmet-first outOfRange _ _ (sym (c .before .before .before .before .kw-out-of-range .ensures) ∙ c .before .before .before .if2 .left)
-    (met-first notAtThisTime _ _ (sym (ap not (open-test _ _ _ (c .before .is-open .ensures) (c .before .before .current-tier .ensures))) ∙ c .if3 .taken)))
+    (met-first notAtThisTime _ _ (sym (ap not (open-test _ _ _ (c .before .tier-is-open .ensures) (c .before .before .current-tier .ensures))) ∙ c .if3 .taken)))
 
 refusal-in-tier-requires : tie.Need-refusal-in-tier-requires
 refusal-in-tier-requires c κs = in-book _ _ _ _ _ _ _ _ (c .before .before .before .before .before .before .before .before .before .before .pre) (c .before .before .before .before .before .before .before .unknown-holder .ensures) (c .before .before .before .before .before .before .unknown-path .ensures) (c .before .before .before .before .before .if1 .left) (c .before .before .before .before .kw-out-of-range .ensures) (c .before .before .before .if2 .left)
@@ -52,7 +52,7 @@ unfolding refusal callCauses nominateCauses tierIsOpen ledgerIn
 returns-4 c m x r =
     unmet-first notInBook _ _ (sym (ap₂ (λ a b. a || b) (c .before .before .before .before .before .before .before .before .unknown-holder .ensures) (c .before .before .before .before .before .before .before .unknown-path .ensures)) ∙ c .before .before .before .before .before .before .if1 .left)
     (unmet-first outOfRange _ _ (sym (c .before .before .before .before .before .kw-out-of-range .ensures) ∙ c .before .before .before .before .if2 .left)
-    (unmet-first notAtThisTime _ _ (sym (ap not (open-test _ _ _ (c .before .before .is-open .ensures) (c .before .before .before .current-tier .ensures))) ∙ c .before .if3 .left)
+    (unmet-first notAtThisTime _ _ (sym (ap not (open-test _ _ _ (c .before .before .tier-is-open .ensures) (c .before .before .before .current-tier .ensures))) ∙ c .before .if3 .left)
     (c .refusal-in-tier .ensures m x r)))
 
 pub nominate-refusal-spec : {M : Type 1} → statement M
@@ -65,7 +65,7 @@ nominate-refusal-spec =
     kw-out-of-range-requires
     returns-2
     current-tier-requires
-    is-open-requires
+    tier-is-open-requires
     returns-3
     refusal-in-tier-requires
     returns-4)

@@ -30,8 +30,8 @@ last-closed-requires c κs = search needs
 current-tier-requires : tie.Need-current-tier-requires
 current-tier-requires c κs = search needs
 
-before-term-requires : tie.Need-before-term-requires
-before-term-requires c κs = search needs
+load-in-time-requires : tie.Need-load-in-time-requires
+load-in-time-requires c κs = search needs
 
 posted-slot-requires : tie.Need-posted-slot-requires
 posted-slot-requires c κs = search needs
@@ -56,7 +56,7 @@ unfolding loadCauses loadInTime beforeTier tierIsOpen ledgerIn
 returns c x r =
     link notInBook _ _ _ (c .refuse4 .ensures) (ap₂ (λ a b. a || b) (c .before .before .before .before .before .before .before .before .before .before .before .unknown-holder .ensures) (c .before .before .before .before .before .before .before .before .before .before .unknown-sink .ensures))
     (link outOfRange _ _ _ (c .before .refuse3 .ensures) (c .before .before .before .before .before .before .before .before .before .load-out-of-range .ensures)
-    (link notAtThisTime _ _ _ (c .before .before .refuse2 .ensures) (late-test _ _ _ _ _ _ (c .before .before .before .before .before .before .before-term .ensures) (c .before .before .before .before .before .before .before .before .last-closed .ensures) (c .before .before .before .before .before .before .before .current-tier .ensures))
+    (link notAtThisTime _ _ _ (c .before .before .refuse2 .ensures) (late-test _ _ _ _ _ _ (c .before .before .before .before .before .before .load-in-time .ensures) (c .before .before .before .before .before .before .before .before .last-closed .ensures) (c .before .before .before .before .before .before .before .current-tier .ensures))
     (link postedBefore _ _ _ (c .before .before .before .refuse .ensures) (c .before .before .before .before .is-posted .ensures ∙ posted-there loadPostedSlot terms 0 _ _ _ _ _ (omega arith) (c .before .before .before .before .before .posted-slot .ensures)) no-more)))
 
 pub load-refusal-early-spec : {M : Type 1} → statement M
@@ -68,7 +68,7 @@ load-refusal-early-spec =
     load-out-of-range-requires
     last-closed-requires
     current-tier-requires
-    before-term-requires
+    load-in-time-requires
     posted-slot-requires
     is-posted-requires
     refuse-requires

@@ -1,6 +1,6 @@
 -- `postings::verify::entry_in_range` meets its contract: evidence in range is filed. Assumes nothing.
 use mathlib.Core.Path.{sym, ap, _∙_}
-use Rattle.tariff.specs.Evidence.{noEntry}
+use Rattle.tariff.specs.Evidence.{emptyEntry}
 use Rattle.postings.proofs.VerifyLaws.{entry-in, in-range-filed}
 use borrow.Author.Needs.{needs}
 use Rattle.postings.proofs.verify.entry_in_range.Statement.{statement}
@@ -20,7 +20,7 @@ unfolding entry-in
 returns c = ap entry-in (sym (c .before .entry .given .1) ∙ c .before .before .before .file-evidence .ensures ∙ in-range-filed _ _ _ _ _ (c .before .before .before .before .pre))
 
 returns-2 : tie.Need-returns-2
-unfolding entry-in noEntry
+unfolding entry-in emptyEntry
 returns-2 c = ap entry-in (sym (c .enum-told .given .1) ∙ c .before .before .file-evidence .ensures ∙ in-range-filed _ _ _ _ _ (c .before .before .before .pre))
 
 pub entry-in-range-spec : {M : Type 1} → statement M

@@ -28,8 +28,8 @@ evidence-in-range-requires c κs = search needs
 current-tier-requires : tie.Need-current-tier-requires
 current-tier-requires c κs = search needs
 
-is-open-requires : tie.Need-is-open-requires
-is-open-requires c κs = search needs
+tier-is-open-requires : tie.Need-tier-is-open-requires
+tier-is-open-requires c κs = search needs
 
 posted-slot-requires : tie.Need-posted-slot-requires
 posted-slot-requires c κs = search needs
@@ -54,7 +54,7 @@ unfolding refusal callCauses verifyCauses tierIsOpen ledgerIn
 returns c x r =
     link notInBook _ _ _ (c .refuse4 .ensures) (ap₂ (λ a b. a || b) (c .before .before .before .before .before .before .before .before .before .before .unknown-holder .ensures) (c .before .before .before .before .before .before .before .before .before .unknown-source .ensures))
     (link outOfRange _ _ _ (c .before .refuse3 .ensures) (ap not (c .before .before .before .before .before .before .before .before .evidence-in-range .ensures) ∙ not-not _)
-    (link notAtThisTime _ _ _ (c .before .before .refuse2 .ensures) (open-test _ _ _ (c .before .before .before .before .before .before .is-open .ensures) (c .before .before .before .before .before .before .before .current-tier .ensures))
+    (link notAtThisTime _ _ _ (c .before .before .refuse2 .ensures) (open-test _ _ _ (c .before .before .before .before .before .before .tier-is-open .ensures) (c .before .before .before .before .before .before .before .current-tier .ensures))
     (link postedBefore _ _ _ (c .before .before .before .refuse .ensures) (c .before .before .before .before .is-posted .ensures ∙ posted-there evidencePostedSlot evidenceKinds 1 _ _ _ _ _ (omega arith) (c .before .before .before .before .before .posted-slot .ensures)) no-more)))
 
 pub verify-refusal-spec : {M : Type 1} → statement M
@@ -65,7 +65,7 @@ verify-refusal-spec =
     unknown-source-requires
     evidence-in-range-requires
     current-tier-requires
-    is-open-requires
+    tier-is-open-requires
     posted-slot-requires
     is-posted-requires
     refuse-requires

@@ -10,12 +10,12 @@ use Rattle.records.proofs.setup.holder_kind.Tie as tie
 holders-requires : tie.Need-holders-requires
 holders-requires c κs = search needs
 
-listed-requires : tie.Need-listed-requires
-listed-requires c κs = search needs
+list-entry-requires : tie.Need-list-entry-requires
+list-entry-requires c κs = search needs
 
 returns : tie.Need-returns
 unfolding holderKind openingIn
-returns c = let args = c .before .before .before .args in c .listed .ensures ∙ ap (λ n. getD (take n (take 8 (drop 4 (args .o .now)))) (args .h) 0) (c .before .holders .ensures)
+returns c = let args = c .before .before .before .args in c .list-entry .ensures ∙ ap (λ n. getD (take n (take 8 (drop 4 (args .o .now)))) (args .h) 0) (c .before .holders .ensures)
 
 pub holder-kind-spec : {M : Type 1} → statement M
-holder-kind-spec = tie.close (tie.spec holders-requires listed-requires returns)
+holder-kind-spec = tie.close (tie.spec holders-requires list-entry-requires returns)

@@ -10,12 +10,12 @@ use Rattle.records.proofs.setup.path_source.Tie as tie
 paths-requires : tie.Need-paths-requires
 paths-requires c κs = search needs
 
-listed-requires : tie.Need-listed-requires
-listed-requires c κs = search needs
+list-entry-requires : tie.Need-list-entry-requires
+list-entry-requires c κs = search needs
 
 returns : tie.Need-returns
 unfolding pathSource openingIn
-returns c = let args = c .before .before .before .args in c .listed .ensures ∙ ap (λ n. getD (take n (take 16 (drop 44 (args .o .now)))) (args .p) 0) (c .before .paths .ensures)
+returns c = let args = c .before .before .before .args in c .list-entry .ensures ∙ ap (λ n. getD (take n (take 16 (drop 44 (args .o .now)))) (args .p) 0) (c .before .paths .ensures)
 
 pub path-source-spec : {M : Type 1} → statement M
-path-source-spec = tie.close (tie.spec paths-requires listed-requires returns)
+path-source-spec = tie.close (tie.spec paths-requires list-entry-requires returns)

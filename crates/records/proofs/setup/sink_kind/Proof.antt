@@ -10,12 +10,12 @@ use Rattle.records.proofs.setup.sink_kind.Tie as tie
 sinks-requires : tie.Need-sinks-requires
 sinks-requires c κs = search needs
 
-listed-requires : tie.Need-listed-requires
-listed-requires c κs = search needs
+list-entry-requires : tie.Need-list-entry-requires
+list-entry-requires c κs = search needs
 
 returns : tie.Need-returns
 unfolding sinkKind openingIn
-returns c = let args = c .before .before .before .args in c .listed .ensures ∙ ap (λ n. getD (take n (take 16 (drop 12 (args .o .now)))) (args .s) 0) (c .before .sinks .ensures)
+returns c = let args = c .before .before .before .args in c .list-entry .ensures ∙ ap (λ n. getD (take n (take 16 (drop 12 (args .o .now)))) (args .s) 0) (c .before .sinks .ensures)
 
 pub sink-kind-spec : {M : Type 1} → statement M
-sink-kind-spec = tie.close (tie.spec sinks-requires listed-requires returns)
+sink-kind-spec = tie.close (tie.spec sinks-requires list-entry-requires returns)

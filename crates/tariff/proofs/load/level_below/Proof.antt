@@ -5,7 +5,7 @@ use mathlib.Core.Path.{_≡_}
 use mathlib.Core.Logic.{⊎-elim}
 use native.Mathlib.Omega.{arith}
 use lib.ListN.{length}
-use Rattle.tariff.specs.Levels.{loadsOf, levelBelow, highestBelow, hoursFrom}
+use Rattle.tariff.specs.Levels.{loadsOf, levelBelow, highestBelow, hoursAtLeast}
 use Rattle.tariff.proofs.Blocks.{blocksFrom}
 use Rattle.tariff.proofs.Levels.{from-within-present, left-below, left-from, left-none}
 use Rattle.tariff.proofs.load.level_below.Statement.{statement}
@@ -14,7 +14,7 @@ use Rattle.tariff.proofs.load.level_below.Tie as tie
 abbrev Inv-loop : tie.InvT-loop
 Inv-loop hours kws cap kw₀ above₀ i₀ kw above i =
     (i ≤ length hours) × (max kw (highestBelow cap (blocksFrom i hours hours kws)) ≡ highestBelow cap (loadsOf hours kws))
-    × (above + hoursFrom cap (blocksFrom i hours hours kws) ≡ hoursFrom cap (loadsOf hours kws))
+    × (above + hoursAtLeast cap (blocksFrom i hours hours kws) ≡ hoursAtLeast cap (loadsOf hours kws))
 
 abbrev μ-loop : tie.MeasureT-loop
 μ-loop hours kws cap kw₀ above₀ i₀ kw above i = length hours - i
@@ -77,7 +77,7 @@ returns c =
     let inv = c .before .loop .inv in
     let none = left-none (at .args .cap) (at .args .hours .now) (at .args .kws .now) (c .before .loop .i) (c .loop-test .left) in
     let kw : c .before .loop .kw ≡ highestBelow (at .args .cap) (loadsOf (at .args .hours .now) (at .args .kws .now)) = omega arith in
-    let above : c .before .loop .above ≡ hoursFrom (at .args .cap) (loadsOf (at .args .hours .now) (at .args .kws .now)) = omega arith in
+    let above : c .before .loop .above ≡ hoursAtLeast (at .args .cap) (loadsOf (at .args .hours .now) (at .args .kws .now)) = omega arith in
     rw (kw, above)
 
 pub level-below-spec : {M : Type 1} → statement M

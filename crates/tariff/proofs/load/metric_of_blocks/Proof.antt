@@ -5,7 +5,7 @@ use mathlib.Core.Path.{_≡_, sym, ap}
 use mathlib.Core.List.{List}
 use native.Mathlib.Omega.{arith}
 use Rattle.tariff.specs.Load.{Block, exceedanceHours}
-use Rattle.tariff.specs.Levels.{loadsOf, levelBelow, hoursFrom, Countable}
+use Rattle.tariff.specs.Levels.{loadsOf, levelBelow, hoursAtLeast, Countable}
 use Rattle.tariff.proofs.Found.{Standing, level-kw, level-above, exceedance-is, step-down, step-adds, metric-found, stand-highest}
 use Rattle.tariff.proofs.load.metric_of_blocks.Statement.{statement}
 use Rattle.tariff.proofs.load.metric_of_blocks.Tie as tie
@@ -23,14 +23,14 @@ abbrev blocks : tie.At-loop Inv-loop μ-loop → List Block
 blocks c = loadsOf (start c .args .hours .now) (start c .args .kws .now)
 
 -- the two sides of the loop's test, as the rule has them
-above-is : (c : tie.At-loop Inv-loop μ-loop) → c .loop .below .above ≡ hoursFrom (c .loop .kw) (blocks c)
+above-is : (c : tie.At-loop Inv-loop μ-loop) → c .loop .below .above ≡ hoursAtLeast (c .loop .kw) (blocks c)
 above-is c = level-above (c .loop .kw) (blocks c) (c .loop .inv .1)
 
 exceedance-hours-is : (c : tie.At-loop Inv-loop μ-loop) → start c .args .present / 200 ≡ exceedanceHours (blocks c)
 exceedance-hours-is c = exceedance-is (blocks c) (start c .pre .covered)
 
 -- in a turn the hours at or above its kW may be exceeded
-allowed : (c : tie.Then1 Inv-loop μ-loop) → hoursFrom (c .before .before .loop .kw) (blocks (c .before .before)) ≤ exceedanceHours (blocks (c .before .before))
+allowed : (c : tie.Then1 Inv-loop μ-loop) → hoursAtLeast (c .before .before .loop .kw) (blocks (c .before .before)) ≤ exceedanceHours (blocks (c .before .before))
 allowed c = omega (arith, above-is (c .before .before), exceedance-hours-is (c .before .before), c .if1 .taken)
 
 -- the hours of the blocks fit, as those present do
@@ -58,8 +58,8 @@ loop-less : tie.Need-loop-less Inv-loop μ-loop
 loop-less c =
     let at = c .before .before .before in
     let bs = blocks at in
-    let adds = step-adds bs (start at .pre .lasting) (at .loop .kw) (at .loop .inv .0) (allowed (c .before)) in
-    let next = ap (λ v. hoursFrom v bs) (level-kw (at .loop .kw) bs (at .loop .inv .1)) in
+    let adds = step-adds bs (start at .pre .eachHasHours) (at .loop .kw) (at .loop .inv .0) (allowed (c .before)) in
+    let next = ap (λ v. hoursAtLeast v bs) (level-kw (at .loop .kw) bs (at .loop .inv .1)) in
     let more = level-above (at .loop .below .kw) bs (c .level-below2 .ensures) in
     omega (arith, above-is at, c .before .if1 .taken)
 
@@ -67,7 +67,7 @@ loop-again : tie.Need-loop-again Inv-loop μ-loop
 loop-again c =
     let at = c .before .before .before in
     let bs = blocks at in
-    let down = step-down bs (start at .pre .lasting) (at .loop .kw) (at .loop .inv .0) (allowed (c .before)) in
+    let down = step-down bs (start at .pre .eachHasHours) (at .loop .kw) (at .loop .inv .0) (allowed (c .before)) in
     (rw (level-kw (at .loop .kw) bs (at .loop .inv .1)) down, c .level-below2 .ensures)
 
 returns : tie.Need-returns Inv-loop μ-loop

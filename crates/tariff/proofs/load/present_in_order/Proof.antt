@@ -6,7 +6,7 @@ use mathlib.Core.Bool.{false}
 use mathlib.Core.List.{List, _∷_}
 use native.Mathlib.Omega.{arith}
 use lib.ListN.{length}
-use Rattle.tariff.specs.declared.load.InOrder.the-variants.{Broken}
+use Rattle.tariff.specs.declared.load.BlockOrder.the-variants.{Broken}
 use Rattle.tariff.specs.Load.{Block, inOrder, presentHours}
 use Rattle.tariff.specs.Levels.{spansOf, orderedHours}
 use Rattle.tariff.proofs.Blocks.{blocksFrom, blockAt}

@@ -1,7 +1,7 @@
 -- `book::Book::carry` meets its contract: the next book has the figures and the postings that were lent. Assumes nothing.
 use mathlib.Core.Path.{_∙_}
 use Rattle.book.specs.Reading.{bookIn}
-use Rattle.book.specs.Outcomes.{besidePostings}
+use Rattle.book.specs.Outcomes.{withPostings}
 use Rattle.book.proofs.OutcomeBooks.{outcome-book}
 use borrow.Author.Needs.{needs}
 use Rattle.book.proofs.book.Book.carry.Statement.{statement}
@@ -23,7 +23,7 @@ with-postings-requires : tie.Need-with-postings-requires
 with-postings-requires c κs = search needs
 
 returns : tie.Need-returns
-unfolding bookIn besidePostings
+unfolding bookIn withPostings
 returns c = c .with-postings .ensures ∙ outcome-book _ _ _ _ _ _ _ _ _ (c .before .before .before .carry .ensures _ (c .before .before .before .before .before .before .before .before .before .before .pre))
 
 pub carry-spec : {M : Type 1} → statement M

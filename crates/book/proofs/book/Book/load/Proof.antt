@@ -1,7 +1,7 @@
 -- `book::Book::load` meets its contract: the next book has the figures and the postings that were lent. Assumes nothing.
 use mathlib.Core.Path.{_∙_}
 use Rattle.book.specs.Reading.{bookIn}
-use Rattle.book.specs.Outcomes.{besidePostings, outcomeOfBlocks}
+use Rattle.book.specs.Outcomes.{withPostings, outcomeOfBlocks}
 use Rattle.book.proofs.OutcomeBooks.{outcome-if}
 use borrow.Author.Needs.{needs}
 use Rattle.book.proofs.book.Book.load.Statement.{statement}
@@ -23,7 +23,7 @@ with-postings-requires : tie.Need-with-postings-requires
 with-postings-requires c κs = search needs
 
 returns : tie.Need-returns
-unfolding bookIn besidePostings outcomeOfBlocks
+unfolding bookIn withPostings outcomeOfBlocks
 returns c = c .with-postings .ensures ∙ outcome-if _ _ _ _ _ _ _ _ _ _ (c .before .before .before .before .before .before .before .before .before .before .before .before .before .pre) (c .before .before .before .load .ensures _ (c .before .before .before .before .before .before .before .before .before .before .before .before .before .pre))
 
 pub load-spec : {M : Type 1} → statement M

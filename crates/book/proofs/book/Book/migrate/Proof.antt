@@ -1,7 +1,7 @@
 -- `book::Book::migrate` meets its contract: the next book has the figures that were lent. Assumes nothing.
 use mathlib.Core.Path.{_∙_}
 use Rattle.book.specs.Reading.{bookIn}
-use Rattle.book.specs.Outcomes.{besideFigures, besidePostings, outcomeOfLines}
+use Rattle.book.specs.Outcomes.{withFigures, withPostings, outcomeOfLines}
 use Rattle.book.proofs.OutcomeBooks.{outcome-if}
 use borrow.Author.Needs.{needs}
 use Rattle.book.proofs.book.Book.migrate.Statement.{statement}
@@ -20,7 +20,7 @@ with-figures-requires : tie.Need-with-figures-requires
 with-figures-requires c κs = search needs
 
 returns : tie.Need-returns
-unfolding bookIn besideFigures besidePostings outcomeOfLines
+unfolding bookIn withFigures withPostings outcomeOfLines
 returns c = c .with-figures .ensures ∙ outcome-if _ _ _ _ _ _ _ _ _ _ (c .before .before .before .before .before .before .before .before .before .before .before .before .pre) (c .before .before .migrate .ensures _ _ (c .before .before .before .before .before .before .before .before .before .before .before .before .pre))
 
 pub migrate-spec : {M : Type 1} → statement M

@@ -57,7 +57,7 @@ use Rattle.book.specs.declared.book.Outcome.{Outcome}
 use Rattle.book.specs.declared.class_lines.Columns.{Columns}
 use Rattle.book.specs.Outcomes.{outcomeOf}
 use Rattle.book.specs.Reachable.{Reachable}
-use Rattle.book.specs.ClassLines.{noLine, noColumns, withLine, columnsTo, outcomeOfColumns}
+use Rattle.book.specs.ClassLines.{noLine, emptyColumns, withLine, columnsTo, outcomeOfColumns}
 use Rattle.book.proofs.ClassLineLaws.{columns-none, columns-more, columns-full, columns-outcome}
 use Rattle.book.proofs.book.Book as B
 use Rattle.book.proofs.book.Book.Laws as B′
@@ -65,10 +65,10 @@ use Rattle.book.proofs.book.Outcome as R
 use Rattle.book.proofs.book.Outcome.Laws as R′
 use Rattle.book.proofs.class_lines.Columns as K
 use Rattle.book.proofs.class_lines.Columns.Laws as K′
-use Rattle.book.proofs.class_lines.no_columns as none
-use Rattle.book.proofs.class_lines.no_columns.Symbol as none-def
-use Rattle.book.proofs.class_lines.no_columns.Symbol.{name as #none}
-use Rattle.book.proofs.class_lines.no_columns.Met as none-thm
+use Rattle.book.proofs.class_lines.empty_columns as none
+use Rattle.book.proofs.class_lines.empty_columns.Symbol as none-def
+use Rattle.book.proofs.class_lines.empty_columns.Symbol.{name as #none}
+use Rattle.book.proofs.class_lines.empty_columns.Met as none-thm
 use Rattle.book.proofs.class_lines.with_line as more
 use Rattle.book.proofs.class_lines.with_line.Symbol as more-def
 use Rattle.book.proofs.class_lines.with_line.Symbol.{name as #more}
@@ -235,8 +235,8 @@ module _ {M : Type 1} (𝓤 : URA M) (H : Heap 𝓤) (A : Atoms 𝓤) (W : Given
       use0 W (raw (None 𝓤 H A mem run .pre (to-none 𝓤 H A W mem run))) (asks-none 𝓤 H A W mem run) $
       calls-at ! (fmOf 𝓤 H (W .laws) 𝓣) (None 𝓤 H A mem run) known-none (to-none 𝓤 H A W mem run) (no-more !) (λ w.
       use1 W (later (some (λ (r : Columns). (‵ ftrue ⊛ ‵ (K.the-row .own r (w ∷ []))) ⊛ raw (ensured 𝓤 H A none.ended (none.clauses 𝓤 H A mem run) tt tt tt r)))) (id⊢ 𝓤 _) $ await ! tt $ pick ! (λ r.
-      split ! $ move ! (1 ∷ []) $ use1 W (raw (fact 𝓤 (r ≡ noColumns))) (none-said 𝓤 H A W mem run r) $
-      heard ! (r ≡ noColumns) (λ e. split ! $ drop ! $ facts ! K.the-row (Is K.the-row) (shows 𝓤 H A K.the-row) r (w ∷ []) (λ ic.
+      split ! $ move ! (1 ∷ []) $ use1 W (raw (fact 𝓤 (r ≡ emptyColumns))) (none-said 𝓤 H A W mem run r) $
+      heard ! (r ≡ emptyColumns) (λ e. split ! $ drop ! $ facts ! K.the-row (Is K.the-row) (shows 𝓤 H A K.the-row) r (w ∷ []) (λ ic.
       land ! (from ! (stop !)) (init ! 10 refl (LL.lawful K.the-type K′.the-laws 𝓤 H A W .typed r (w ∷ []) ic .0)) $
       assigns ! (of-opd ! (lit ! tt)) (from ! (stop !)) (init ! 8 refl (tt, record { fits = lit< tt })) $
       -- [_10; …; _0; …; the tokens; what the parameters own]: of these only the borrow is kept
@@ -265,6 +265,6 @@ migrate-lines-spec 𝓤 H 𝓜 𝓖 𝓡 =
     entered 𝓤 H (tripleOf 𝓤 H (𝓖 .A) lines.signature (lines.spec 𝓤 H (𝓖 .A) (𝓜 .mem) (𝓡 .run)))
     (tables 𝓤 H 𝓜 𝓡 code.env .C) (tables 𝓤 H 𝓜 𝓡 code.env .Λ) #lines code.function (code.unfolded 𝓤 H 𝓜 𝓡)
     (lines-meets 𝓤 H (𝓖 .A) (givenOf 𝓤 H 𝓜 𝓖) (𝓜 .mem) (𝓡 .run) (tablesOf 𝓤 H 𝓜 (tables 𝓤 H 𝓜 𝓡 code.env))
-    (cited 𝓤 H (None 𝓤 H (𝓖 .A) (𝓜 .mem) (𝓡 .run)) 𝓜 𝓡 code.env #none none-def.routine code.calls-book·class-lines·no-columns (none-thm.met 𝓤 H 𝓜 𝓖 𝓡))
+    (cited 𝓤 H (None 𝓤 H (𝓖 .A) (𝓜 .mem) (𝓡 .run)) 𝓜 𝓡 code.env #none none-def.routine code.calls-book·class-lines·empty-columns (none-thm.met 𝓤 H 𝓜 𝓖 𝓡))
     (cited 𝓤 H (More 𝓤 H (𝓖 .A) (𝓜 .mem) (𝓡 .run)) 𝓜 𝓡 code.env #more more-def.routine code.calls-book·class-lines·with-line (more-thm.met 𝓤 H 𝓜 𝓖 𝓡))
     (cited 𝓤 H (Last 𝓤 H (𝓖 .A) (𝓜 .mem) (𝓡 .run)) 𝓜 𝓡 code.env #last last-def.routine code.calls-book·class-lines·migrate-columns (last-thm.met 𝓤 H 𝓜 𝓖 𝓡)))

@@ -1,7 +1,7 @@
 -- `book::Book::open_tier` meets its contract: the next book has the figures that were lent. Assumes nothing.
 use mathlib.Core.Path.{_∙_}
 use Rattle.book.specs.Reading.{bookIn}
-use Rattle.book.specs.Outcomes.{besideFigures, besidePostings}
+use Rattle.book.specs.Outcomes.{withFigures, withPostings}
 use Rattle.book.proofs.OutcomeBooks.{outcome-book}
 use borrow.Author.Needs.{needs}
 use Rattle.book.proofs.book.Book.open_tier.Statement.{statement}
@@ -17,7 +17,7 @@ with-figures-requires : tie.Need-with-figures-requires
 with-figures-requires c κs = search needs
 
 returns : tie.Need-returns
-unfolding bookIn besideFigures besidePostings
+unfolding bookIn withFigures withPostings
 returns c = c .with-figures .ensures ∙ outcome-book _ _ _ _ _ _ _ _ _ (c .before .before .open-tier .ensures _ _ _ (c .before .before .before .before .before .pre))
 
 pub open-tier-spec : {M : Type 1} → statement M
