@@ -3,7 +3,7 @@
 
 mod words;
 
-use season_book::{answers, group_answers, script_lines, GroupAnswer, AnswerMismatch};
+use season_book::{answers, group_answers, script_lines, AnswerMismatch, GroupAnswer};
 use std::error::Error;
 use std::io::{self, ErrorKind, Read, Write};
 use std::process::ExitCode;

@@ -15,7 +15,7 @@ mod causes;
 mod groups;
 mod refusal;
 
-pub use answer::{group_answers, Answer, GroupAnswer, AnswerMismatch};
+pub use answer::{group_answers, Answer, AnswerMismatch, GroupAnswer};
 pub use causes::cause;
 pub use groups::{groups, script_lines, Group};
 pub use refusal::Refusal;

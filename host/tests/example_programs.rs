@@ -123,7 +123,10 @@ fn header_has_the_wrappers_numbers() {
     for (name, number) in [
         ("SEASON_MAX_SCRIPT_BYTES", season_book::MAX_SCRIPT_BYTES),
         ("SEASON_MAX_SCRIPT_LINES", season_book::MAX_SCRIPT_LINES),
-        ("SEASON_OUTPUT_BYTES_PER_LINE", season_book::OUTPUT_BYTES_PER_LINE),
+        (
+            "SEASON_OUTPUT_BYTES_PER_LINE",
+            season_book::OUTPUT_BYTES_PER_LINE,
+        ),
         ("SEASON_STACK_BYTES", season_book::STACK_BYTES),
     ] {
         let line = format!("#define {name} {number}\n");

@@ -3,7 +3,7 @@
 
 mod stored;
 
-use season_book::{answers, group_answers, groups, script_lines, Answer, Group, AnswerMismatch};
+use season_book::{answers, group_answers, groups, script_lines, Answer, AnswerMismatch, Group};
 
 const OPEN_BOOK: &str = "book,1,1,1,1\nholder,1\nsink,1,0\npath,0,0\n";
 

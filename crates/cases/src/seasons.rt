@@ -178,11 +178,11 @@ pub fn case_7() {
 // Customers of class 1 who move from one holder to another.
 fn class_line(from: u64, to: u64, customers: u64, watts: u64) -> ClassLine {
     ClassLine {
-        from: from,
-        to: to,
+        from,
+        to,
         class: 1,
-        customers: customers,
-        watts: watts,
+        customers,
+        watts,
     }
 }
 

@@ -19,8 +19,8 @@ use Rattle.ledger.specs.Call.{Call, load, carry, prior, verify, migrate,
 use Rattle.ledger.specs.Migration.{transferredWhere, loadBefore, loadsAfter, rightsAfter, priorsAfter, migrated}
 use Rattle.tariff.specs.Ranges.{maxKw}
 use Rattle.ledger.specs.Effects.{same2, same3, plusAt2, plusAt3, plusInTerm, afterLoad, afterCarry, afterPrior, holdingsAfter, effect}
-use Rattle.ledger.specs.Season.{accepted, step, after}
-use Rattle.ledger.proofs.Steps.{step-keeps, after-keeps}
+use Rattle.ledger.specs.Season.{accepted, step}
+use Rattle.ledger.proofs.Steps.{step-keeps}
 use Rattle.ledger.proofs.Columns.{column-kept, load-kept}
 use Rattle.ledger.proofs.Once.{Once, once-post}
 use Rattle.ledger.proofs.PostingFacts.{load-facts, carry-facts, prior-facts}
@@ -116,7 +116,3 @@ once-empty o =
       allocatedColumn = λ p. sum-le (o .holders) (λ h l. zero-le);
       remainingColumn = λ p. sum-le (o .holders) (λ h l. zero-le);
     }
-
--- it holds after every list of calls
-pub posted-once : (o : Opening) (cs : List Call) → PostedOnce o (after o cs)
-posted-once o cs = after-keeps (PostedOnce o) o (once-step o) (once-empty o) cs

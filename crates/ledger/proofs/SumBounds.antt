@@ -15,13 +15,11 @@ use Rattle.tariff.proofs.Sums.{when-le, sum-add}
 use Rattle.tariff.proofs.Tests.{or-unmet}
 use Rattle.ledger.specs.Opening.{Opening, legal}
 use Rattle.ledger.specs.Call.{Call}
-use Rattle.ledger.specs.Limits.{nominatedAt}
 use Rattle.tariff.specs.Ranges.{within}
 use Rattle.netting.specs.ClassRanges.{classLineOutOfRange, classFieldsOutOfRange}
 use Rattle.ledger.specs.Season.{after, held, net}
 use Rattle.ledger.proofs.Conserved.{carriedSum, awardedSum}
-use Rattle.ledger.proofs.TierBounds.{nominatedSum}
-use Rattle.ledger.proofs.Bounds.{maxTogether, Fits, figures-fit, one-fits}
+use Rattle.ledger.proofs.Bounds.{maxTogether, Fits, figures-fit}
 
 module _ {A : Type 0} (bad : A → Bool) (f : A → ℕ) (most : ℕ) (each : (x : A) → bad x ≡ false → f x ≤ most) where
   -- lines of which none is bad, each with at most so much, have together at most that for each line
@@ -52,10 +50,6 @@ watts-fit lines i j few e =
 module _ (o : Opening) (ok : legal o ≡ true) (cs : List Call) where
   fits : Fits o (after o cs)
   fits = figures-fit o ok cs
-
-  pub nominated-at-fits : (h b t : ℕ) → h < o .holders → nominatedAt o (after o cs) h b t ≤ maxTogether
-  unfolding nominatedSum
-  nominated-at-fits h b t l = one-fits (λ x. nominatedAt o (after o cs) x b t) (o .holders) maxTogether h l (fits .nominatedFit b t)
 
   -- net: carried and awarded holdings of all holders
   pub net-fits : (p m : ℕ) → p < o .paths → net o (after o cs) p m ≤ 11 * maxTogether

@@ -34,7 +34,7 @@ pub record MigrateFacts (o : Opening) (L : Ledger) (term sink : ℕ) (lines : Li
   pub idle : L .tiers .currentTier ≡ 0
   pub early : L .tiers .lastClosed < firstTierOf term
   pub monthAfter3 : (term ≡ 0) ⊎ (3 ≤ L .tiers .lastClosed)
-  pub suppliers : anyOf lines (lineNotBetweenLses o) ≡ false
+  pub betweenLses : anyOf lines (lineNotBetweenLses o) ≡ false
   pub fits : (i : ℕ) → i < o .holders → lostBy (o .holders) (netted lines) i ≤ loadBefore L term sink i
 
 pub migrate-facts : (o : Opening) (L : Ledger) (term sink : ℕ) (lines : List ClassLine) → accepted o L (migrate term sink lines) ≡ true → MigrateFacts o L term sink lines
@@ -59,7 +59,7 @@ migrate-facts o L term sink lines e =
       idle = time .0;
       early = time .1;
       monthAfter3 = season-or-month (eqb term 0) refl (both .1);
-      suppliers = r8 .0;
+      betweenLses = r8 .0;
       fits = λ i h. ltb-false _ _ (none-below _ _ (r9 .0) i h);
     }
   where

@@ -1,4 +1,4 @@
--- Laws of the bytes of a test that others start with: read one after another, and read out of a field. Assumes nothing.
+-- Laws of the bytes at the start that pass a test: read one after another, and read out of a field. Assumes nothing.
 use Prim.Native.Nat.{ℕ, zero, suc, _+_, _-_, _≤_, _<_}
 use mathlib.Core.Path.{_≡_, refl, sym, ap, ap₂, _∙_}
 use mathlib.Core.Bool.{Bool, true, false, cond, _&&_, _||_}

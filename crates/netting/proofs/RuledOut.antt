@@ -10,18 +10,18 @@ use Rattle.netting.specs.declared.netting.ClassLine.{ClassLine}
 use Rattle.netting.specs.Migration.{wattsOneWay, netted, share, shares, transferred}
 
 -- ruled out: gainers take their shares one after another, each from what the one before left
-pub keepsInTurn : (ℕ → ℕ) → ℕ → ℕ → ℕ
-keepsInTurn v m L = let left = v 0 - share (v 0) m L in left - share left m L
+pub keepsOneByOne : (ℕ → ℕ) → ℕ → ℕ → ℕ
+keepsOneByOne v m L = let left = v 0 - share (v 0) m L in left - share left m L
 
 -- case 8: holder 0 has 100, and 500 of its load of 1,000 go to each of holders 1 and 2
 pub column8 : ℕ → ℕ
 column8 i = cond (eqb i 0) 100 0
 
-pub moved8 : ℕ → ℕ → ℕ
-moved8 i j = cond (eqb i 0 && leb 1 j) 500 0
+pub m8 : ℕ → ℕ → ℕ
+m8 i j = cond (eqb i 0 && leb 1 j) 500 0
 
-pub shares-at-once : (transferred 3 (shares moved8 (λ i. 1000) column8) column8 0 ≡ 0) × (keepsInTurn column8 500 1000 ≡ 25)
-unfolding transferred shares share sumTo column8 moved8 keepsInTurn
+pub shares-at-once : (transferred 3 (shares m8 (λ i. 1000) column8) column8 0 ≡ 0) × (keepsOneByOne column8 500 1000 ≡ 25)
+unfolding transferred shares share sumTo column8 m8 keepsOneByOne
 shares-at-once = (refl, refl)
 
 -- ruled out: each way is rounded to kW before the smaller is taken from the larger

@@ -4,7 +4,7 @@ use mathlib.Core.Path.{_≡_, refl, sym, ap, _∙_}
 use mathlib.Core.Bool.{true}
 use mathlib.Core.List.{List, [], _∷_, _++_}
 use native.Mathlib.Omega.{arith}
-use lib.ListN.{length, getD, take, drop, length-append, length-drop}
+use lib.ListN.{length, getD, take, drop, length-drop}
 use lib.Seq.{ext-getD, getD-take, getD-drop, length-take-le, take-take, take-at, drop-at}
 use borrow.Author.Tests.{eqb-true, leb-true}
 use Rattle.tariff.specs.Sum.{tabulate, allBelow}
@@ -103,10 +103,6 @@ opening-before o =
 lists-size : (o : Opening) → length (openingLists o) ≡ basesAt
 unfolding openingLists tabulate
 lists-size o = refl
-
-pub array-size : (o : Opening) → length (openingArray o) ≡ openingCount
-unfolding openingArray pathBases
-array-size o = let all = length-append (openingLists o) (tabulate 16 (pathBase o)) in let lists = lists-size o in let bases = length-tabulate 16 (pathBase o) in omega arith
 
 -- an array of which the lists are an opening's keeps that opening
 pub opening-by-lists : (o : Opening) (kept : List ℕ) → take basesAt kept ≡ openingLists o → countsFit o ≡ true → listsFit o ≡ true → openingIn kept ≡ o

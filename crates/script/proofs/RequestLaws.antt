@@ -21,7 +21,7 @@ requests-after : (o : Opening) (rows : List Row) (requests : List Request) → g
 unfolding answersAfter season
 requests-after o rows requests groups = ap (λ later. cond (legal o) (done ∷ later) (refused (openingRefusal o) ∷ [])) (rw groups (requests-answers o emptyLedger requests))
 
--- rows of a season: a readable book group of this opening, and groups that ask this
+-- rows of a season: a readable book group of this opening, and groups that make these requests
 unfoldable pub RowsOfSeason : Opening → List Request → List Row → Type 0
 RowsOfSeason o requests [] = ⊥
 RowsOfSeason o requests (head ∷ rows) = (bookReadable head rows ≡ true) × (openingOfRows head rows ≡ o) × (groupsOf (callRows head rows) ≡ map request requests)

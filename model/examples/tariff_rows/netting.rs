@@ -9,7 +9,7 @@ use model::{rules, ClassLine};
 type Row = (&'static str, Vec<ClassLine>);
 
 /// A line of class 1.
-pub fn moved(from: u64, to: u64, customers: u64, watts: u64) -> ClassLine {
+pub fn class_line(from: u64, to: u64, customers: u64, watts: u64) -> ClassLine {
     ClassLine {
         from,
         to,
@@ -31,95 +31,101 @@ fn rows() -> Vec<Row> {
 fn few_lines() -> Vec<Row> {
     let of = |class: u64| ClassLine {
         class,
-        ..moved(2, 5, 3, 500)
+        ..class_line(2, 5, 3, 500)
     };
     vec![
         ("no line", vec![]),
-        ("one line", vec![moved(0, 1, 10, 2_500)]),
-        ("999 W", vec![moved(0, 1, 1, 999)]),
-        ("1,000 W", vec![moved(0, 1, 1, 1_000)]),
-        ("no customers", vec![moved(0, 1, 0, 5_000)]),
-        ("no watts", vec![moved(0, 1, 5_000, 0)]),
-        ("the last pair", vec![moved(7, 6, 4, 1_000)]),
-        ("equal lines", vec![moved(2, 1, 3, 500); 2]),
-        ("three equal lines", vec![moved(2, 1, 1, 999); 3]),
+        ("one line", vec![class_line(0, 1, 10, 2_500)]),
+        ("999 W", vec![class_line(0, 1, 1, 999)]),
+        ("1,000 W", vec![class_line(0, 1, 1, 1_000)]),
+        ("no customers", vec![class_line(0, 1, 0, 5_000)]),
+        ("no watts", vec![class_line(0, 1, 5_000, 0)]),
+        ("the last pair", vec![class_line(7, 6, 4, 1_000)]),
+        ("equal lines", vec![class_line(2, 1, 3, 500); 2]),
+        ("three equal lines", vec![class_line(2, 1, 1, 999); 3]),
         ("every class", (1..=8).map(of).collect()),
-        ("both ways", vec![moved(0, 1, 9, 700), moved(1, 0, 2, 800)]),
+        (
+            "both ways",
+            vec![class_line(0, 1, 9, 700), class_line(1, 0, 2, 800)],
+        ),
         (
             "both ways, more back",
-            vec![moved(3, 4, 1, 1_999), moved(4, 3, 9, 9_999)],
+            vec![class_line(3, 4, 1, 1_999), class_line(4, 3, 9, 9_999)],
         ),
         (
             "both ways alike",
-            vec![moved(3, 4, 20, 50), moved(4, 3, 50, 20)],
+            vec![class_line(3, 4, 20, 50), class_line(4, 3, 50, 20)],
         ),
         (
             "marked case 10",
-            vec![moved(0, 1, 1, 1_500), moved(1, 0, 1, 501)],
+            vec![class_line(0, 1, 1, 1_500), class_line(1, 0, 1, 501)],
         ),
         (
             "1 W less back",
-            vec![moved(0, 1, 1, 1_500), moved(1, 0, 1, 500)],
+            vec![class_line(0, 1, 1, 1_500), class_line(1, 0, 1, 500)],
         ),
         (
             "rounded once",
-            vec![moved(0, 1, 1, 1_999), moved(1, 0, 1, 1_000)],
+            vec![class_line(0, 1, 1, 1_999), class_line(1, 0, 1, 1_000)],
         ),
         (
             "a ring of three",
             vec![
-                moved(0, 1, 2, 1_000),
-                moved(1, 2, 3, 1_000),
-                moved(2, 0, 4, 1_000),
+                class_line(0, 1, 2, 1_000),
+                class_line(1, 2, 3, 1_000),
+                class_line(2, 0, 4, 1_000),
             ],
         ),
         (
             "two gainers",
-            vec![moved(0, 1, 5, 1_000), moved(0, 2, 5, 1_000)],
+            vec![class_line(0, 1, 5, 1_000), class_line(0, 2, 5, 1_000)],
         ),
         (
             "two losers",
-            vec![moved(1, 0, 5, 1_000), moved(2, 0, 6, 1_000)],
+            vec![class_line(1, 0, 5, 1_000), class_line(2, 0, 6, 1_000)],
         ),
-        ("to itself", vec![moved(3, 3, 5, 1_000)]),
+        ("to itself", vec![class_line(3, 3, 5, 1_000)]),
         (
             "to itself and on",
-            vec![moved(3, 3, 5, 1_000), moved(3, 4, 2, 1_000)],
+            vec![class_line(3, 3, 5, 1_000), class_line(3, 4, 2, 1_000)],
         ),
     ]
 }
 
 /// Each field at the end of its range and past it.
 fn ranges() -> Vec<Row> {
-    let good = moved(0, 1, 1, 1_000);
+    let good = class_line(0, 1, 1, 1_000);
     let class = |class| ClassLine { class, ..good };
     let (most, huge) = (MAX_PER_CLASS, u64::MAX);
     vec![
-        ("holder 8 loses", vec![moved(8, 1, 1, 1_000)]),
-        ("holder 8 gains", vec![moved(0, 8, 1, 1_000)]),
-        ("the largest holders", vec![moved(huge, huge, 1, 1_000)]),
+        ("holder 8 loses", vec![class_line(8, 1, 1, 1_000)]),
+        ("holder 8 gains", vec![class_line(0, 8, 1, 1_000)]),
+        (
+            "the largest holders",
+            vec![class_line(huge, huge, 1, 1_000)],
+        ),
         (
             "holder 8 in the last line",
-            vec![good, good, moved(0, 8, 0, 0)],
+            vec![good, good, class_line(0, 8, 0, 0)],
         ),
         ("class 0", vec![class(0)]),
         ("class 8", vec![class(8)]),
         ("class 9", vec![class(9)]),
         ("the largest class", vec![good, class(huge)]),
-        ("most customers", vec![moved(0, 1, most, 1)]),
-        ("a customer more", vec![moved(0, 1, most + 1, 1)]),
-        ("the largest customers", vec![moved(0, 1, huge, 0)]),
-        ("most watts", vec![moved(0, 1, 1, most)]),
-        ("a watt more", vec![moved(0, 1, 1, most + 1)]),
-        ("the largest watts", vec![moved(0, 1, 0, huge)]),
-        ("most of both", vec![moved(0, 1, most, most)]),
+        ("most customers", vec![class_line(0, 1, most, 1)]),
+        ("a customer more", vec![class_line(0, 1, most + 1, 1)]),
+        ("the largest customers", vec![class_line(0, 1, huge, 0)]),
+        ("most watts", vec![class_line(0, 1, 1, most)]),
+        ("a watt more", vec![class_line(0, 1, 1, most + 1)]),
+        ("the largest watts", vec![class_line(0, 1, 0, huge)]),
+        ("most of both", vec![class_line(0, 1, most, most)]),
     ]
 }
 
 fn many_lines() -> Vec<Row> {
-    let most = moved(0, 1, MAX_PER_CLASS, MAX_PER_CLASS);
+    let most = class_line(0, 1, MAX_PER_CLASS, MAX_PER_CLASS);
     let (from, to) = (|k: u64| k % 8, |k: u64| (k + 1 + k / 8 % 7) % 8);
-    let pairs = |k: u64| moved(from(k), to(k), 10 + k, 1_000 + 7 * k);
+    let pairs = |k: u64| class_line(from(k), to(k), 10 + k, 1_000 + 7 * k);
     vec![
         ("64 of the largest lines", vec![most; MAX_CLASS_LINES]),
         ("65 lines", (0..65).map(pairs).collect()),
@@ -137,7 +143,7 @@ fn random_rows(random: &mut Random) -> Vec<ClassLine> {
         let to = (from + random.between(1, holders - 1)) % holders;
         let class = random.between(1, 8);
         let watts = random.up_to(most);
-        let line = moved(from, to, random.up_to(most), watts);
+        let line = class_line(from, to, random.up_to(most), watts);
         lines.push(ClassLine { class, ..line });
     }
     lines

@@ -1,6 +1,6 @@
 //! Columns of eight records, and what a migration makes of them.
 
-use super::netting::moved;
+use super::netting::class_line;
 use super::table::{file, line, LineTables, Table};
 use model::generate::Random;
 use model::sizes::{MAX_HOLDERS, MAX_KW};
@@ -17,7 +17,7 @@ struct Row {
 
 /// Lines that move whole kW, as loser, gainer and m.
 fn transfers(list: &[(u64, u64, u64)]) -> Vec<ClassLine> {
-    let line = |&(from, to, kw)| moved(from, to, kw, 1_000);
+    let line = |&(from, to, kw)| class_line(from, to, kw, 1_000);
     list.iter().map(line).collect()
 }
 

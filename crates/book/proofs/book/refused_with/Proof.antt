@@ -1,4 +1,4 @@
--- `book::book::refused` meets its contract. Assumes nothing.
+-- `book::book::refused_with` meets its contract. Assumes nothing.
 use mathlib.Core.Path.{refl}
 use Rattle.book.specs.Outcomes.{refusedWith}
 use Rattle.book.proofs.book.refused_with.Statement.{statement}

@@ -126,7 +126,7 @@ module _ {M : Type 1} (𝓤 : URA M) (H : Heap 𝓤) (A : Atoms 𝓤) (W : Given
   module _ (𝓣 : Tables 𝓤 H) (known : Triple 𝓤 (𝓣 .C #lines) (Lines 𝓤 H A mem run)) where
     walk : Is B.the-row book (u ∷ []) → term < 2 ^ 64 → sink < 2 ^ 64 → Is (Array L.the-row 2) xs (v ∷ []) → k < 2 ^ 64 → Reachable book × (k ≤ 2)
         → ent 𝓤 (onEntry 𝓤 H A lend.signature tt tt args at) (WpFn 𝓤 H (𝓣 .C) (𝓣 .Λ) code.function (u ∷ vint w64 term ∷ vint w64 sink ∷ v ∷ vint w64 k ∷ []) Ends)
-    walk ib gt gs ia gk asked =
+    walk ib gt gs ia gk required =
         qed W (‵ ftrue ∷ ‵ (owns (B.the-row ∷ u64 ∷ u64 ∷ Array L.the-row 2 ∷ usize ∷ []) args at) ∷ []) ∵
         drop ! $ drop ! $ enter ! (𝓣 .C) (𝓣 .Λ) code.function (u ∷ vint w64 term ∷ vint w64 sink ∷ v ∷ vint w64 k ∷ []) _ $
         alloc1 ! (λ l₀. alloc1 ! (λ l₁. alloc1 ! (λ l₂. alloc1 ! (λ l₃. alloc1 ! (λ l₄. alloc1 ! (λ l₅. alloc1 ! (λ l₆. alloc1 ! (λ l₇. alloc1 ! (λ l₈. alloc0 ! $ params1 ! $
@@ -136,11 +136,11 @@ module _ {M : Type 1} (𝓤 : URA M) (H : Heap 𝓤) (A : Atoms 𝓤) (W : Given
         assigns ! (of-opd ! (load ! (from ! (stop !)) (look ! 8 refl))) (from ! (stop !)) (init ! 4 refl (typed ia .0)) $
         assigns ! (addr ! (from ! (stop !))) (from ! (stop !)) (init ! 2 refl (tt, tt)) $
         assigns ! (agg ! (and-then ! (load ! (from ! (stop !)) (look ! 2 refl)) (and-then ! (load ! (from ! (stop !)) (look ! 6 refl)) (no-more !)))) (from ! (stop !)) (init ! 0 refl (tt, (tt, (record { fits = gk }, tt)))) $
-        rewrite ! 0 (λ (m : ℕ). ‵ (fat fullShare slice l₈ 0 (sliceVal (l₆, 0) m))) (sym (counted ia (asked .1))) refl $
+        rewrite ! 0 (λ (m : ℕ). ‵ (fat fullShare slice l₈ 0 (sliceVal (l₆, 0) m))) (sym (counted ia (required .1))) refl $
         lft-new ! tt (λ α. move ! (5 ∷ []) $ owned ! (Array L.the-row 2) (Is (Array L.the-row 2)) (array-makes 𝓤 H A W L.the-row (LL.makes L.the-type L′.the-plain 𝓤 H A) 2) xs (v ∷ []) ia $ move ! (1 ∷ 0 ∷ []) $
         use2 W (later (some (λ (γ : GName). ‵ (Borrowed L.the-row k xs (α ∷ []) l₆ (named 0) γ) ⊛ ‵ (Owed L.the-row k xs (α ∷ []) l₆)))) (lends-prefix 𝓤 H A W L.the-row 2 k xs (α ∷ []) l₆ tt (named 0) v room) $ await ! tt $ pick ! (λ γ. split ! $
         -- [the slice; what the lender keeps; the token; _8; …]
-        move ! (2 ∷ 0 ∷ []) $ use2 W (raw (Lines 𝓤 H A mem run .pre (to (α ∷ []) l₆ γ))) (requirement (α ∷ []) l₆ γ (asked .0) ib gt gs) $
+        move ! (2 ∷ 0 ∷ []) $ use2 W (raw (Lines 𝓤 H A mem run .pre (to (α ∷ []) l₆ γ))) (requirement (α ∷ []) l₆ γ (required .0) ib gt gs) $
         calls-at ! (fmOf 𝓤 H (W .laws) 𝓣) (Lines 𝓤 H A mem run) known (to (α ∷ []) l₆ γ) (and-then ! (load ! (from ! (stop !)) (look ! 15 refl)) (and-then ! (load ! (from ! (stop !)) (look ! 13 refl)) (and-then ! (load ! (from ! (stop !)) (look ! 11 refl)) (and-then ! (load ! (from ! (stop !)) (look ! 2 refl)) (no-more !))))) (λ w.
         use1 W (later (some (λ (r : Outcome). ((‵ (flft (α ∷ []) fullShare) ⊛ ‵ ftrue) ⊛ ‵ (R.the-row .own r (w ∷ []))) ⊛ raw (ensured 𝓤 H A lines.ended (lines.clauses 𝓤 H A mem run) (α ∷ [], tt) (passed (α ∷ []) l₆ γ) tt r)))) (id⊢ 𝓤 _) $ await ! tt $ pick ! (λ r.
         split ! $ move ! (1 ∷ []) $ use1 W (raw (fact 𝓤 (r ≡ outcomeOf book (migrate term sink (take k xs))))) (said (α ∷ []) l₆ γ r) $ heard ! (r ≡ outcomeOf book (migrate term sink (take k xs))) (λ e.

@@ -1,4 +1,4 @@
--- `netting::shares::share_of` meets its contract; nothing goes with nothing, and of no load nothing goes. Assumes nothing.
+-- `netting::shares::share_of` meets its contract; it is 0 where m or the load is 0. Assumes nothing.
 use Rattle.netting.proofs.ShareCells.{share-none, share-with-nothing}
 use mathlib.Core.Path.{refl}
 use Rattle.netting.specs.Migration.{share}

@@ -1,4 +1,4 @@
--- `postings::load::any_exceeds_max_kw` meets its contract: the kW of no block passed so far exceeds the most, and the first that is ends the search. Assumes nothing.
+-- `postings::load::any_exceeds_max_kw` meets its contract: the kW of no block passed so far exceeds the most, and the first that does ends the search. Assumes nothing.
 use Prim.Native.Nat.{_≤_, _-_, zero-le}
 use mathlib.Core.Bool.{false}
 use mathlib.Core.Path.{_≡_, refl}
