@@ -22,6 +22,8 @@ pub fn cause(refusal: u64) -> Option<&'static str> {
         14 => "an award above what is nominated and unawarded",
         15 => "the output buffer is shorter than 16 bytes a line",
         16 => "a kind, parent, path or count of the opening breaks the rules",
+        17 => "in the Long Term step, above the holder's own tier 1 award on the path",
+        18 => "in the Long Term step, a source without ten-year evidence for the season",
         _ => return None,
     };
     Some(words)

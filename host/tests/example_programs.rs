@@ -66,7 +66,7 @@ fn output(program: &Path, scripts: &[&Path]) -> Output {
 /// that is not there, are said to be so.
 fn check(program: &Path) {
     let scripts = scripts();
-    assert!(scripts.len() >= 6);
+    assert!(scripts.len() >= 7);
     for (script, stored) in &scripts {
         let output = output(program, &[script]);
         assert!(output.status.success(), "{}", script.display());

@@ -41,6 +41,13 @@ pub struct Book {
     pub(crate) nominated: ByTier,
     /// kW awarded in each tier; these stay where they were awarded.
     pub(crate) tier_awards: ByTier,
+    /// kW nominated in the Long Term step; down to the awarded once it is closed.
+    pub(crate) step_nominated: [[u64; MAX_PATHS]; MAX_HOLDERS],
+    /// kW awarded in the Long Term step, a record of its own: no holding of
+    /// this season has them.
+    pub(crate) step_awards: [[u64; MAX_PATHS]; MAX_HOLDERS],
+    /// Whether the Long Term step was opened, which it can be only once.
+    pub(crate) step_held: bool,
     pub(crate) last_closed: u64,
     pub(crate) open_tier: Option<u64>,
 }
@@ -89,6 +96,9 @@ impl Book {
             evidence: [[[Entry::EMPTY; 2]; MAX_SOURCES]; MAX_HOLDERS],
             nominated: [[[0; TIERS]; MAX_PATHS]; MAX_HOLDERS],
             tier_awards: [[[0; TIERS]; MAX_PATHS]; MAX_HOLDERS],
+            step_nominated: [[0; MAX_PATHS]; MAX_HOLDERS],
+            step_awards: [[0; MAX_PATHS]; MAX_HOLDERS],
+            step_held: false,
             last_closed: 0,
             open_tier: None,
         }
@@ -237,12 +247,27 @@ impl Book {
         self.tier_awards[holder][path][tier - 1]
     }
 
-    /// The tier closed last, 0 before tier 1 is.
+    /// kW nominated on a path in the Long Term step.
+    pub fn step_nominated(&self, holder: usize, path: usize) -> u64 {
+        self.step_nominated[holder][path]
+    }
+
+    /// kW awarded on a path in the Long Term step.
+    pub fn step_awards(&self, holder: usize, path: usize) -> u64 {
+        self.step_awards[holder][path]
+    }
+
+    /// Whether the Long Term step was opened.
+    pub fn step_held(&self) -> bool {
+        self.step_held
+    }
+
+    /// The tier closed last, 0 before tier 1 is; never the Long Term step.
     pub fn last_closed(&self) -> u64 {
         self.last_closed
     }
 
-    /// The tier that is open, if one is.
+    /// The tier that is open, if one is; the Long Term step is one.
     pub fn open_tier(&self) -> Option<u64> {
         self.open_tier
     }

@@ -2,10 +2,28 @@
 
 use crate::book::Book;
 
-/// The term of tiers 1 to 9: three for the season, then two for each month.
+/// The Long Term step, by the number that opens it. It is held like a tier, and
+/// is none of the nine.
+pub const LONG_TERM_STEP: u64 = 10;
+
+/// The term of tiers 1 to 9: three for the season, then two for each month. The
+/// Long Term step is of the season.
 pub(crate) fn term_of(tier: u64) -> usize {
     const TERMS_OF_TIERS: [usize; 9] = [0, 0, 0, 1, 1, 2, 2, 3, 3];
-    TERMS_OF_TIERS[tier as usize - 1]
+    match tier {
+        LONG_TERM_STEP => 0,
+        _ => TERMS_OF_TIERS[tier as usize - 1],
+    }
+}
+
+/// Open: no tier is open, and this one is the next. The Long Term step comes
+/// between tiers 1 and 2, and once; it may be left out.
+pub(crate) fn open_in_time(book: &Book, tier: u64) -> bool {
+    let next = match tier {
+        LONG_TERM_STEP => book.last_closed == 1 && !book.step_held,
+        _ => tier == book.last_closed + 1,
+    };
+    book.open_tier.is_none() && next
 }
 
 /// The first tier of a term: 1 for the season, 2k + 2 for month k.

@@ -67,6 +67,8 @@ pub struct Verify {
     pub right: u64,
     pub first_month: u64,
     pub last_month: u64,
+    /// 1 for ten-year evidence, else 0.
+    pub ten_year: u64,
 }
 
 /// Customers that changed their holder at a sink in a term.

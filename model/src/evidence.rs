@@ -21,12 +21,14 @@ pub enum Evidence {
     },
 }
 
-/// An entry of evidence beside its first and last month.
+/// An entry of evidence beside its first and last month and its ten-year mark.
 #[derive(Clone, Copy, Debug, PartialEq, Eq)]
 pub struct Entry {
     pub evidence: Evidence,
     pub first_month: u64,
     pub last_month: u64,
+    /// Whether it is marked ten-year.
+    pub ten_year: bool,
 }
 
 impl Evidence {
@@ -46,6 +48,7 @@ impl Entry {
         evidence: Evidence::Empty,
         first_month: 0,
         last_month: 0,
+        ten_year: false,
     };
 
     /// Verify: an entry counts for the months it runs through, and for the
@@ -55,6 +58,12 @@ impl Entry {
             0 => self.first_month == 1 && self.last_month == 3,
             month => (self.first_month..=self.last_month).contains(&(month as u64)),
         }
+    }
+
+    /// Term 0 ten-year evidence: marked, and for the whole season. It may come
+    /// to 0 kW.
+    pub fn is_ten_year(&self) -> bool {
+        self.ten_year && self.counts_for(0)
     }
 }
 
@@ -77,11 +86,13 @@ pub(crate) fn verify(book: &mut Book, verify: &Verify) -> Result<(), u64> {
         },
         first_month: verify.first_month,
         last_month: verify.last_month,
+        ten_year: verify.ten_year == 1,
     };
     Ok(())
 }
 
-/// Cause 3 of verify: the kind, the capacity, the right by kind, the months.
+/// Cause 3 of verify: the kind, the capacity, the right by kind, the months,
+/// the ten-year mark.
 fn in_range(verify: &Verify) -> bool {
     let max_right = match verify.kind {
         1 => FULL_OWNERSHIP,
@@ -93,6 +104,7 @@ fn in_range(verify: &Verify) -> bool {
         && verify.first_month >= 1
         && verify.first_month <= verify.last_month
         && verify.last_month <= 3
+        && verify.ten_year <= 1
 }
 
 /// The kW verified for a holder at a source in a term: both kinds add.
@@ -102,6 +114,23 @@ pub(crate) fn verified(book: &Book, holder: usize, source: usize, term: usize) -
         .filter(|entry| entry.counts_for(term))
         .map(|entry| entry.evidence.kw())
         .sum()
+}
+
+/// The kW of a holder's term 0 ten-year evidence: both kinds, each rounded by
+/// itself, summed over the sources of the book, whether a path starts there or
+/// not.
+pub(crate) fn ten_year_kw(book: &Book, holder: usize) -> u64 {
+    book.evidence[holder][..book.sources]
+        .iter()
+        .flatten()
+        .filter(|entry| entry.is_ten_year())
+        .map(|entry| entry.evidence.kw())
+        .sum()
+}
+
+/// Whether a holder has term 0 ten-year evidence at a source, of either kind.
+pub(crate) fn has_ten_year(book: &Book, holder: usize, source: usize) -> bool {
+    book.evidence[holder][source].iter().any(Entry::is_ten_year)
 }
 
 #[cfg(test)]
@@ -132,6 +161,7 @@ mod tests {
                     evidence: Evidence::Empty,
                     first_month,
                     last_month,
+                    ten_year: false,
                 };
                 for month in 1..=3u64 {
                     let runs = first_month <= month && month <= last_month;
@@ -143,5 +173,30 @@ mod tests {
         for term in 0..=3 {
             assert!(!Entry::EMPTY.counts_for(term));
         }
+    }
+
+    /// 02, 1/14: ten-year evidence is marked and runs through the season, of
+    /// whatever kW; each of the two alone is not enough.
+    #[test]
+    fn ten_year_evidence_is_marked_and_runs_through_the_season() {
+        for first_month in 1..=3 {
+            for last_month in first_month..=3 {
+                for ten_year in [false, true] {
+                    let entry = Entry {
+                        evidence: Evidence::Ownership {
+                            capacity: 1,
+                            right: 1,
+                        },
+                        first_month,
+                        last_month,
+                        ten_year,
+                    };
+                    let season = (first_month, last_month) == (1, 3);
+                    assert_eq!(entry.is_ten_year(), season && ten_year);
+                    assert_eq!(entry.counts_for(0), season);
+                }
+            }
+        }
+        assert!(!Entry::EMPTY.is_ten_year());
     }
 }

@@ -6,7 +6,8 @@
 //!
 //! - [`Opening`] and [`Book::open`]: the book and its sizes;
 //! - [`Book::call`]: the nine calls; [`Book::query`]: the three queries;
-//! - [`refusals`]: the sixteen causes, looked for in ascending number;
+//! - [`refusals`]: the eighteen causes, looked for in ascending number but for
+//!   17 and 18, which come straight after 12;
 //! - [`run`] and [`answers`]: scripts, groups, answers, and the host's number;
 //! - [`generate`]: whole seasons, and damaged ones, from a seed;
 //! - [`rules`]: single rules on plain numbers;
@@ -35,6 +36,7 @@ mod tiers;
 pub mod vectors;
 
 pub use book::Book;
+pub use calendar::LONG_TERM_STEP;
 pub use calls::{Answer, Block, Call, ClassLine, Load, Migrate, OnPath, Prior, Query, Verify};
 pub use evidence::{Entry, Evidence};
 pub use opening::Opening;

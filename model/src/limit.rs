@@ -1,9 +1,11 @@
 //! Limits on a holder's nominations at a base, by tier.
 
 use crate::book::Book;
-use crate::calendar::term_of;
+use crate::calendar::{term_of, LONG_TERM_STEP};
+use crate::evidence::ten_year_kw;
 
-/// The limit of a holder at a base in a tier 1 to 9, chosen by tier number.
+/// The limit of a holder at a base in a tier 1 to 9 or in the Long Term step,
+/// chosen by tier number.
 pub(crate) fn limit(book: &Book, holder: usize, base: usize, tier: u64) -> u64 {
     let at = AtBase {
         book,
@@ -14,6 +16,7 @@ pub(crate) fn limit(book: &Book, holder: usize, base: usize, tier: u64) -> u64 {
     match tier {
         1 => at.tier_1(),
         2..=3 => at.tier_2_or_3(tier),
+        LONG_TERM_STEP => at.long_term_step(),
         even if even % 2 == 0 => at.month_left(),
         odd => at.month_left().saturating_sub(at.awards(odd - 1)),
     }
@@ -27,6 +30,28 @@ pub(crate) fn seasonal_eligible(load: u64) -> u64 {
 /// P, what the first two tiers give: two thirds of S, rounded down.
 pub(crate) fn priority_eligible(load: u64) -> u64 {
     2 * seasonal_eligible(load) / 3
+}
+
+/// What the Long Term step gives without ten-year evidence above it: a fifth of
+/// load A, rounded down.
+pub(crate) fn fifth_of_load(load: u64) -> u64 {
+    load / 5
+}
+
+/// The most that the Long Term step gives: half of load A, rounded down.
+pub(crate) fn half_of_load(load: u64) -> u64 {
+    load / 2
+}
+
+/// What LT leaves of a fifth of a holder's load at a base.
+pub(crate) fn fifth_left(book: &Book, holder: usize, base: usize) -> u64 {
+    let at = AtBase {
+        book,
+        holder,
+        base,
+        term: term_of(LONG_TERM_STEP),
+    };
+    fifth_of_load(at.load()).saturating_sub(at.long_term())
 }
 
 /// What one holder has at one base, seen from a tier's term.
@@ -56,6 +81,22 @@ impl AtBase<'_> {
             ),
         };
         most.saturating_sub(taken + self.long_term())
+    }
+
+    /// The Long Term step: half of A for a kind 2 holder. For any other a fifth
+    /// of A, unless its ten-year evidence is above that; then the evidence, but
+    /// no more than half of A. Each less LT.
+    fn long_term_step(&self) -> u64 {
+        let (fifth, half) = (fifth_of_load(self.load()), half_of_load(self.load()));
+        let ten_year = ten_year_kw(self.book, self.holder);
+        let most = if self.book.is_obaalse(self.holder) {
+            half
+        } else if ten_year > fifth {
+            ten_year.min(half)
+        } else {
+            fifth
+        };
+        most.saturating_sub(self.long_term())
     }
 
     /// A month's first tier: A less the season's awards and the month's LT.
@@ -103,5 +144,16 @@ mod tests {
         // Half of A would be 1 and 3 here.
         assert_eq!((seasonal_eligible(2), priority_eligible(2)), (1, 0));
         assert_eq!((seasonal_eligible(6), priority_eligible(6)), (4, 2));
+    }
+
+    /// 02, 1/14: a fifth and a half are rounded down.
+    #[test]
+    fn fifth_and_half_are_rounded_down() {
+        let both = |load| (fifth_of_load(load), half_of_load(load));
+        assert_eq!(both(0), (0, 0));
+        assert_eq!(both(1), (0, 0));
+        assert_eq!(both(4), (0, 2));
+        assert_eq!(both(5), (1, 2));
+        assert_eq!(both(1_009), (201, 504));
     }
 }

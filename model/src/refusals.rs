@@ -1,4 +1,4 @@
-//! The sixteen numbers a refusal can have, one for each cause.
+//! The eighteen numbers a refusal can have, one for each cause.
 
 /// Script writer: a line, or a line its head counts, cannot be read.
 pub const UNREADABLE: u64 = 1;
@@ -32,9 +32,13 @@ pub const ABOVE_NOMINATED: u64 = 14;
 pub const OUTPUT_TOO_SHORT: u64 = 15;
 /// Whoever draws up the book: an opening that no book can be made from.
 pub const BREAKS_RULES: u64 = 16;
+/// Holder: in the Long Term step, above its own tier 1 award on the path.
+pub const ABOVE_TIER_1_AWARD: u64 = 17;
+/// Holder: in the Long Term step, a source without term 0 ten-year evidence.
+pub const NO_TEN_YEAR_EVIDENCE: u64 = 18;
 
-/// One cause, looked for: the calls list these in ascending number, so the
-/// first cause met is the one returned.
+/// One cause, looked for: the calls list these in ascending number, 17 and 18
+/// straight after 12, so the first cause met is the one returned.
 pub(crate) fn refuse_if(met: bool, cause: u64) -> Result<(), u64> {
     if met {
         Err(cause)

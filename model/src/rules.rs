@@ -50,12 +50,23 @@ pub fn priority_eligible(load: u64) -> u64 {
     limit::priority_eligible(load)
 }
 
-/// The term of a tier 1 to 9.
+/// A fifth of a load.
+pub fn fifth_of_load(load: u64) -> u64 {
+    limit::fifth_of_load(load)
+}
+
+/// Half of a load.
+pub fn half_of_load(load: u64) -> u64 {
+    limit::half_of_load(load)
+}
+
+/// The term of a tier 1 to 9, or of the Long Term step.
 pub fn term_of(tier: u64) -> usize {
     calendar::term_of(tier)
 }
 
-/// The limit in a tier 1 to 9, from a book of one path with these sums.
+/// The limit of an LSE in a tier 1 to 9, or in the Long Term step without
+/// ten-year evidence, from a book of one path with these sums.
 ///
 /// Three times the load, and the awards with LT, have to fit 64 bits.
 pub fn limit(tier: u64, sums: &Sums) -> u64 {

@@ -112,7 +112,8 @@ fn prior(line: &[u8]) -> Option<Head> {
 }
 
 fn verify(line: &[u8]) -> Option<Head> {
-    let [holder, source, kind, capacity, right, first_month, last_month] = fields(line, b"verify")?;
+    let [holder, source, kind, capacity, right, first_month, last_month, ten_year] =
+        fields(line, b"verify")?;
     Some(Head::Call(Call::Verify(Verify {
         holder,
         source,
@@ -121,6 +122,7 @@ fn verify(line: &[u8]) -> Option<Head> {
         right,
         first_month,
         last_month,
+        ten_year,
     })))
 }
 

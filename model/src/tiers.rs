@@ -1,28 +1,30 @@
-//! The tiers: open, nominate, award, close.
+//! The tiers and the Long Term step: open, nominate, award, close.
 
 use crate::book::Book;
-use crate::calendar::term_of;
+use crate::calendar::{open_in_time, term_of, LONG_TERM_STEP};
 use crate::calls::OnPath;
-use crate::evidence::verified;
-use crate::limit::limit;
+use crate::evidence::{has_ten_year, verified};
+use crate::limit::{fifth_left, limit};
 use crate::refusals::{
-    refuse_if, ABOVE_LIMIT, ABOVE_NOMINATED, ABOVE_PRIOR, ABOVE_VERIFIED, NOT_AT_THIS_TIME,
-    NOT_IN_BOOK, OUT_OF_RANGE, SINK_INELIGIBLE,
+    refuse_if, ABOVE_LIMIT, ABOVE_NOMINATED, ABOVE_PRIOR, ABOVE_TIER_1_AWARD, ABOVE_VERIFIED,
+    NOT_AT_THIS_TIME, NOT_IN_BOOK, NO_TEN_YEAR_EVIDENCE, OUT_OF_RANGE, SINK_INELIGIBLE,
 };
-use crate::sizes::{MAX_KW, TIERS};
+use crate::sizes::MAX_KW;
 
-/// Open: a tier there is, else 3; the one after the last closed, while none is
-/// open, else 4.
+/// Open: a tier there is, or the Long Term step, else 3; the next one, while
+/// none is open, else 4.
 pub(crate) fn open(book: &mut Book, tier: u64) -> Result<(), u64> {
-    refuse_if(!(1..=TIERS as u64).contains(&tier), OUT_OF_RANGE)?;
-    let next = book.open_tier.is_none() && tier == book.last_closed + 1;
-    refuse_if(!next, NOT_AT_THIS_TIME)?;
+    refuse_if(!(1..=LONG_TERM_STEP).contains(&tier), OUT_OF_RANGE)?;
+    refuse_if(!open_in_time(book, tier), NOT_AT_THIS_TIME)?;
     book.open_tier = Some(tier);
+    if tier == LONG_TERM_STEP {
+        book.step_held = true;
+    }
     Ok(())
 }
 
-/// Nominate: causes 2 to 4 and 10 to 13; then the kW is added to what the
-/// holder nominated on the path in this tier.
+/// Nominate: causes 2 to 4, 10 to 12, 17, 18 and 13; then the kW is added to
+/// what the holder nominated on the path in this tier.
 pub(crate) fn nominate(book: &mut Book, nominate: &OnPath) -> Result<(), u64> {
     refuse_if(!known(book, nominate), NOT_IN_BOOK)?;
     refuse_if(!in_range(nominate), OUT_OF_RANGE)?;
@@ -35,14 +37,22 @@ pub(crate) fn nominate(book: &mut Book, nominate: &OnPath) -> Result<(), u64> {
     refuse_if(not_for_it, SINK_INELIGIBLE)?;
     refuse_if(kw > verified_room(book, holder, path, tier), ABOVE_VERIFIED)?;
     refuse_if(kw > prior_room(book, holder, path, tier), ABOVE_PRIOR)?;
+    let awarded = tier_1_award_room(book, holder, path, tier);
+    refuse_if(kw > awarded, ABOVE_TIER_1_AWARD)?;
+    let shown = ten_year_room(book, holder, path, tier);
+    refuse_if(kw > shown, NO_TEN_YEAR_EVIDENCE)?;
     refuse_if(kw > limit_room(book, holder, path, tier), ABOVE_LIMIT)?;
 
-    book.nominated[holder][path][tier as usize - 1] += kw;
+    match tier {
+        LONG_TERM_STEP => book.step_nominated[holder][path] += kw,
+        _ => book.nominated[holder][path][tier as usize - 1] += kw,
+    }
     Ok(())
 }
 
 /// Award: causes 2 to 4 and 14; then the kW enters the tier's awards and the
-/// awarded holding of the month, or of all three for the season's tiers.
+/// awarded holding of the month, or of all three for the season's tiers. In the
+/// Long Term step it enters the step's own record and no holding.
 pub(crate) fn award(book: &mut Book, award: &OnPath) -> Result<(), u64> {
     refuse_if(!known(book, award), NOT_IN_BOOK)?;
     refuse_if(!in_range(award), OUT_OF_RANGE)?;
@@ -51,6 +61,10 @@ pub(crate) fn award(book: &mut Book, award: &OnPath) -> Result<(), u64> {
     let unawarded = nominated_in(book, holder, path, tier) - awarded_in(book, holder, path, tier);
     refuse_if(award.kw > unawarded, ABOVE_NOMINATED)?;
 
+    if tier == LONG_TERM_STEP {
+        book.step_awards[holder][path] += award.kw;
+        return Ok(());
+    }
     book.tier_awards[holder][path][tier as usize - 1] += award.kw;
     let holding = &mut book.awarded[holder][path];
     match term_of(tier) {
@@ -60,9 +74,15 @@ pub(crate) fn award(book: &mut Book, award: &OnPath) -> Result<(), u64> {
     Ok(())
 }
 
-/// Close: cause 4; then nominations go down to the awarded kW.
+/// Close: cause 4; then nominations go down to the awarded kW. The Long Term
+/// step does not count as last closed.
 pub(crate) fn close(book: &mut Book) -> Result<(), u64> {
     let tier = book.open_tier.ok_or(NOT_AT_THIS_TIME)?;
+    book.open_tier = None;
+    if tier == LONG_TERM_STEP {
+        book.step_nominated = book.step_awards;
+        return Ok(());
+    }
     let index = tier as usize - 1;
     for holder in 0..book.holders {
         for path in 0..book.paths {
@@ -70,7 +90,6 @@ pub(crate) fn close(book: &mut Book) -> Result<(), u64> {
             book.nominated[holder][path][index] = awarded;
         }
     }
-    book.open_tier = None;
     book.last_closed = tier;
     Ok(())
 }
@@ -85,20 +104,26 @@ fn in_range(on_path: &OnPath) -> bool {
     (1..=MAX_KW).contains(&on_path.kw)
 }
 
-fn nominated_in(book: &Book, holder: usize, path: usize, tier: u64) -> u64 {
-    book.nominated[holder][path][tier as usize - 1]
+pub(crate) fn nominated_in(book: &Book, holder: usize, path: usize, tier: u64) -> u64 {
+    match tier {
+        LONG_TERM_STEP => book.step_nominated[holder][path],
+        _ => book.nominated[holder][path][tier as usize - 1],
+    }
 }
 
-fn awarded_in(book: &Book, holder: usize, path: usize, tier: u64) -> u64 {
-    book.tier_awards[holder][path][tier as usize - 1]
+pub(crate) fn awarded_in(book: &Book, holder: usize, path: usize, tier: u64) -> u64 {
+    match tier {
+        LONG_TERM_STEP => book.step_awards[holder][path],
+        _ => book.tier_awards[holder][path][tier as usize - 1],
+    }
 }
 
 /// Cause 11, as the kW still free: verified kW at a source has to cover what
 /// a kind 2 holder nominates from there in this tier, and what it was awarded
 /// from there in the earlier tiers that serve the term. Other holders have
-/// nothing to show.
+/// nothing to show, and the Long Term step does not ask.
 pub(crate) fn verified_room(book: &Book, holder: usize, path: usize, tier: u64) -> u64 {
-    if !book.is_obaalse(holder) {
+    if !book.is_obaalse(holder) || tier == LONG_TERM_STEP {
         return u64::MAX;
     }
     let source = book.path_source[path];
@@ -127,13 +152,49 @@ pub(crate) fn prior_room(book: &Book, holder: usize, path: usize, tier: u64) -> 
     }
 }
 
+/// Cause 17, as the kW still free: in the Long Term step each path is held to
+/// the holder's own tier 1 award there.
+pub(crate) fn tier_1_award_room(book: &Book, holder: usize, path: usize, tier: u64) -> u64 {
+    match tier {
+        LONG_TERM_STEP => {
+            awarded_in(book, holder, path, 1) - nominated_in(book, holder, path, tier)
+        }
+        _ => u64::MAX,
+    }
+}
+
+/// Cause 18, as the kW still free: in the Long Term step the source of this
+/// nomination, and of each earlier one at the base, has ten-year evidence.
+/// Where one has none a kind 2 holder has no room, and any other has what LT
+/// and its nominations at the base leave of a fifth of its load.
+pub(crate) fn ten_year_room(book: &Book, holder: usize, path: usize, tier: u64) -> u64 {
+    let base = book.base_of_path(path);
+    let nominated = |other: usize| nominated_in(book, holder, other, tier) > 0;
+    let shown = book
+        .paths_with_base(base)
+        .filter(|&other| other == path || nominated(other))
+        .all(|other| has_ten_year(book, holder, book.path_source[other]));
+    if tier != LONG_TERM_STEP || shown {
+        u64::MAX
+    } else if book.is_obaalse(holder) {
+        0
+    } else {
+        let nominated = nominated_at(book, holder, base, tier);
+        fifth_left(book, holder, base).saturating_sub(nominated)
+    }
+}
+
 /// Cause 13, as the kW still free: per base the nominations of the tier stay
 /// within the limit.
 pub(crate) fn limit_room(book: &Book, holder: usize, path: usize, tier: u64) -> u64 {
     let base = book.base_of_path(path);
-    let nominated: u64 = book
-        .paths_with_base(base)
-        .map(|other| nominated_in(book, holder, other, tier))
-        .sum();
+    let nominated = nominated_at(book, holder, base, tier);
     limit(book, holder, base, tier).saturating_sub(nominated)
+}
+
+/// The kW a holder has nominated in a tier on all paths of a base.
+fn nominated_at(book: &Book, holder: usize, base: usize, tier: u64) -> u64 {
+    book.paths_with_base(base)
+        .map(|other| nominated_in(book, holder, other, tier))
+        .sum()
 }

@@ -15,10 +15,10 @@ fn kw_of_carry_prior_and_capacity() {
         prior,0,0,100000000,0 => no,03
         prior,0,0,99999999,99999999 => ok
         prior,0,1,1,0 => ok
-        verify,2,0,2,0,1,1,3 => no,03
-        verify,2,0,2,100000000,1,1,3 => no,03
-        verify,2,0,2,99999999,99999999,1,3 => ok
-        verify,2,1,2,1,1,1,3 => ok",
+        verify,2,0,2,0,1,1,3,0 => no,03
+        verify,2,0,2,100000000,1,1,3,0 => no,03
+        verify,2,0,2,99999999,99999999,1,3,0 => ok
+        verify,2,1,2,1,1,1,3,0 => ok",
     );
 }
 
@@ -185,7 +185,7 @@ fn months_of_queries_and_evidence() {
             let fits = (1..=3).contains(&first) && (first..=3).contains(&last);
             let answer = if fits { "ok" } else { "no,03" };
             script.push_str(&format!(
-                "verify,0,{source},1,1,1,{first},{last} => {answer}\n"
+                "verify,0,{source},1,1,1,{first},{last},0 => {answer}\n"
             ));
             source += u64::from(fits);
         }
@@ -194,23 +194,38 @@ fn months_of_queries_and_evidence() {
     show(&format!("{book}{script}"));
 }
 
-/// Tiers 1 to 9; tier 0 and tier 10 are 3.
+/// Tiers 1 to 9 and the Long Term step, 10; 0 and 11 are 3, whatever is open.
 #[test]
-fn tiers_0_and_10() {
-    let tiers = empty_tiers(1..=9);
+fn tiers_0_and_11() {
+    let beyond = "open,0 => no,03\nopen,11 => no,03\nopen,999999999 => no,03\n";
+    let others = empty_tiers(2..=9);
     show_in_book(&format!(
-        "open,0 => no,03\n{tiers}open,10 => no,03\nopen,0 => no,03"
+        "{beyond}open,1 => ok\n{beyond}close => ok
+        open,10 => ok\n{beyond}close => ok
+        {others}{beyond}"
     ));
+}
+
+/// The ten-year mark: 0 or 1, for either kind of evidence.
+#[test]
+fn ten_year_mark() {
+    show_in_book(
+        "verify,0,0,1,1,1,1,3,2 => no,03
+        verify,0,0,1,1,1,1,3,999999999 => no,03
+        verify,0,0,2,1,1,1,3,2 => no,03
+        verify,0,0,1,1,1,1,3,0 => ok
+        verify,0,0,2,1,1,1,3,1 => ok",
+    );
 }
 
 /// Right of an ownership: 1 to 10,000, whatever the capacity.
 #[test]
 fn right_of_an_ownership() {
     show_in_book(
-        "verify,0,0,1,1,0,1,3 => no,03
-        verify,0,0,1,1,10001,1,3 => no,03
-        verify,0,0,1,1,10000,1,3 => ok
-        verify,0,1,1,1,1,1,3 => ok",
+        "verify,0,0,1,1,0,1,3,0 => no,03
+        verify,0,0,1,1,10001,1,3,0 => no,03
+        verify,0,0,1,1,10000,1,3,0 => ok
+        verify,0,1,1,1,1,1,3,0 => ok",
     );
 }
 
@@ -218,10 +233,10 @@ fn right_of_an_ownership() {
 #[test]
 fn right_of_a_contract() {
     show_in_book(
-        "verify,0,0,2,20000,0,1,3 => no,03
-        verify,0,0,2,20000,20001,1,3 => no,03
-        verify,0,0,2,20000,20000,1,3 => ok
-        verify,0,1,2,1,1,1,3 => ok",
+        "verify,0,0,2,20000,0,1,3,0 => no,03
+        verify,0,0,2,20000,20001,1,3,0 => no,03
+        verify,0,0,2,20000,20000,1,3,0 => ok
+        verify,0,1,2,1,1,1,3,0 => ok",
     );
 }
 
@@ -229,10 +244,10 @@ fn right_of_a_contract() {
 #[test]
 fn kind_of_evidence() {
     show_in_book(
-        "verify,0,0,0,1,1,1,3 => no,03
-        verify,0,0,3,1,1,1,3 => no,03
-        verify,0,0,1,1,1,1,3 => ok
-        verify,0,0,2,1,1,1,3 => ok",
+        "verify,0,0,0,1,1,1,3,0 => no,03
+        verify,0,0,3,1,1,1,3,0 => no,03
+        verify,0,0,1,1,1,1,3,0 => ok
+        verify,0,0,2,1,1,1,3,0 => ok",
     );
 }
 
@@ -288,8 +303,8 @@ fn last_holder_source_sink_and_path() {
         carry,7,15,5 => ok
         carry,8,15,5 => no,02
         carry,7,16,5 => no,02
-        verify,7,15,1,1,1,1,1 => ok
-        verify,7,16,1,1,1,1,1 => no,02
+        verify,7,15,1,1,1,1,1,0 => ok
+        verify,7,16,1,1,1,1,1,0 => no,02
         load,7,15,3,0,1,1 => ok
         block,0,1,5
         load,7,16,3,0,1,1 => no,02
@@ -314,7 +329,7 @@ fn zero_of_a_kind() {
         migrate,0,0,0 => no,02
         {tiers}"
     ));
-    show("book,1,0,1,0 => ok\nholder,1\nsink,4,0\nverify,0,0,1,1,1,1,1 => no,02");
+    show("book,1,0,1,0 => ok\nholder,1\nsink,4,0\nverify,0,0,1,1,1,1,1,0 => no,02");
     show("book,0,1,1,1 => ok\nsink,1,0\npath,0,0\nnet,0,1 => ok,0\nheld,0,0,1 => no,02");
     show("book,0,0,1,1 => no,16\nsink,1,0\npath,0,0\nnet,0,1");
     assert_eq!(bytes_answered(b"book,1,0,0,0\nholder,2\n"), "ok\n");

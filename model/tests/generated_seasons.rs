@@ -20,8 +20,9 @@ fn generated_seasons_keep_the_sums() {
     assert_eq!(coverage.seasons, 20_000);
 }
 
-/// The generator draws each number, reaches tier 9 in most seasons, and moves
-/// load and rights in the season and in each month.
+/// The generator draws each number, reaches tier 9 in most seasons, holds the
+/// Long Term step in most, and moves load and rights in the season and in each
+/// month.
 #[test]
 fn generated_seasons_draw_every_number() {
     let mut coverage = Coverage::default();
@@ -36,9 +37,27 @@ fn generated_seasons_draw_every_number() {
         coverage.numbers[15] += 1;
     }
     println!("{coverage:?}");
-    for number in 1..=16 {
+    for number in 1..=18 {
         assert!(coverage.numbers[number] > 0, "{number} is never drawn");
     }
+    for number in [1, 2, 3, 4, 10, 13, 14, 17, 18] {
+        let drawn = coverage.step_numbers[number];
+        assert!(drawn > 60, "{number} is drawn {drawn} times in the step");
+    }
+    for number in [11, 12] {
+        assert_eq!(coverage.step_numbers[number], 0);
+    }
+    assert!(
+        coverage.step_held * 10 > coverage.seasons * 7,
+        "{coverage:?}"
+    );
+    assert!(
+        coverage.step_nominated * 2 > coverage.seasons,
+        "{coverage:?}"
+    );
+    assert!(coverage.step_awarded * 3 > coverage.seasons, "{coverage:?}");
+    assert!(coverage.step_at_evidence > 30, "{coverage:?}");
+    assert!(coverage.step_earlier_source > 10, "{coverage:?}");
     assert!(
         coverage.complete * 10 > coverage.seasons * 8,
         "{coverage:?}"

@@ -275,8 +275,8 @@ fn verified_kw_is_per_source() {
         path,1,0
     ";
     common::show(&format!(
-        "{book}{}{}verify,0,0,2,10,10,1,3 => ok
-        verify,0,1,2,4,4,1,3 => ok
+        "{book}{}{}verify,0,0,2,10,10,1,3,0 => ok
+        verify,0,1,2,4,4,1,3,0 => ok
         open,1 => ok
         close => ok
         open,2 => ok
@@ -296,7 +296,7 @@ fn verified_kw_is_per_source() {
 #[test]
 fn verified_kw_serves_earlier_tiers_of_the_term_and_the_season() {
     let loads: String = (0..=3).map(|term| load(2, 3, term, 1000)).collect();
-    let mut script = format!("{loads}prior,2,4,100,0 => ok\nverify,2,0,2,100,100,1,3 => ok\n");
+    let mut script = format!("{loads}prior,2,4,100,0 => ok\nverify,2,0,2,100,100,1,3,0 => ok\n");
     for (tier, room, award) in [
         (1, 100, 10),
         (2, 90, 10),
@@ -323,11 +323,13 @@ fn verified_kw_serves_earlier_tiers_of_the_term_and_the_season() {
     show_in_book(&script);
 }
 
-/// Open, nominate, award, close: nine tiers in turn, no tenth.
+/// Open, nominate, award, close: nine tiers in turn, and nothing after them.
 #[test]
 fn nine_tiers_in_order() {
     let tiers = common::empty_tiers(1..=9);
-    show_in_book(&format!("{tiers}open,9 => no,04\nopen,10 => no,03"));
+    show_in_book(&format!(
+        "{tiers}open,9 => no,04\nopen,10 => no,04\nopen,11 => no,03"
+    ));
 }
 
 /// Held and net answer at any time; net is the sum over all holders.

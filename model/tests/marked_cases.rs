@@ -211,7 +211,7 @@ fn case_11() {
         holder,2
         sink,4,0
         path,0,0
-        verify,0,0,1,1000,3333,1,3 => ok
+        verify,0,0,1,1000,3333,1,3,0 => ok
         load,0,0,0,0,1,1 => ok
         block,0,1,4000
         open,1 => ok

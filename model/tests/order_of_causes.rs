@@ -34,7 +34,7 @@ fn order_2_before_3() {
         block,0,1,100000000
         carry,9,0,0 => no,02
         prior,9,0,0,1 => no,02
-        verify,0,9,3,0,0,0,0 => no,02
+        verify,0,9,3,0,0,0,0,0 => no,02
         migrate,4,9,0 => no,02
         held,9,0,0 => no,02
         net,9,4 => no,02
@@ -67,10 +67,11 @@ fn order_3_before_4() {
         block,0,1,1
         carry,0,0,0 => no,03
         prior,0,0,0,0 => no,03
-        verify,0,0,0,1,1,1,1 => no,03
+        verify,0,0,0,1,1,1,1,0 => no,03
         migrate,4,0,0 => no,03
+        verify,0,0,1,1,1,1,1,2 => no,03
         open,0 => no,03
-        open,10 => no,03",
+        open,11 => no,03",
     );
 }
 
@@ -88,13 +89,13 @@ fn order_4_before_5() {
         block,0,1,1
         carry,0,0,1 => ok
         prior,0,0,1,0 => ok
-        verify,0,0,2,1,1,1,3 => ok
+        verify,0,0,2,1,1,1,3,0 => ok
         open,1 => ok
         load,0,0,0,0,1,1 => no,04
         block,0,1,1
         carry,0,0,1 => no,04
         prior,0,0,1,0 => no,04
-        verify,0,0,2,1,1,1,3 => no,04",
+        verify,0,0,2,1,1,1,3,0 => no,04",
     );
 }
 
@@ -218,7 +219,7 @@ fn order_10_before_12_and_13() {
 #[test]
 fn order_11_before_12_before_13() {
     show_in_book(
-        "verify,2,0,2,9,9,1,3 => ok
+        "verify,2,0,2,9,9,1,3,0 => ok
         prior,2,4,8,0 => ok
         open,1 => ok
         nominate,2,4,10 => no,11
@@ -231,7 +232,7 @@ fn order_11_before_12_before_13() {
 #[test]
 fn order_11_before_13() {
     show_in_book(
-        "verify,2,0,2,9,9,1,3 => ok
+        "verify,2,0,2,9,9,1,3,0 => ok
         open,1 => ok
         close => ok
         open,2 => ok

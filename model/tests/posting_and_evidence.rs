@@ -118,8 +118,8 @@ fn prior_adds_to_what_migration_brought() {
 #[test]
 fn both_kinds_of_evidence_add() {
     show_in_book(
-        "verify,2,0,1,1000,1250,1,3 => ok
-        verify,2,0,2,30,7,1,3 => ok
+        "verify,2,0,1,1000,1250,1,3,0 => ok
+        verify,2,0,2,30,7,1,3,0 => ok
         load,2,3,0,0,1,1 => ok
         block,0,1,1000
         open,1 => ok
@@ -137,7 +137,7 @@ fn evidence_for_two_months_does_not_count_for_the_season() {
     let loads: String = (0..=3)
         .map(|term| format!("load,2,3,{term},0,1,1 => ok\nblock,0,1,1000\n"))
         .collect();
-    let mut script = format!("{loads}verify,2,0,2,30,30,1,2 => ok\n");
+    let mut script = format!("{loads}verify,2,0,2,30,30,1,2,0 => ok\n");
     for tier in 1..=9 {
         let counts = (4..=7).contains(&tier);
         let answer = if counts { "ok" } else { "no,11" };
@@ -157,7 +157,7 @@ fn evidence_for_two_months_does_not_count_for_the_season() {
 #[test]
 fn evidence_for_the_last_month_counts_there_alone() {
     show_in_book(&format!(
-        "verify,2,0,2,30,30,3,3 => ok
+        "verify,2,0,2,30,30,3,3,0 => ok
         load,2,3,2,0,1,1 => ok
         block,0,1,1000
         load,2,3,3,0,1,1 => ok
@@ -177,11 +177,11 @@ fn evidence_for_the_last_month_counts_there_alone() {
     ));
 }
 
-/// Verify: evidence of a load-serving entity is filed and never read.
+/// Verify: evidence of a load-serving entity is filed, and no tier reads it.
 #[test]
 fn evidence_of_a_load_serving_holder_is_not_read() {
     show_in_book(
-        "verify,0,0,2,5,5,1,3 => ok
+        "verify,0,0,2,5,5,1,3,0 => ok
         load,0,0,0,0,1,1 => ok
         block,0,1,100
         open,1 => ok
@@ -202,7 +202,7 @@ fn evidence_filed_between_tiers_counts_from_then() {
         open,2 => ok
         nominate,2,4,1 => no,11
         close => ok
-        verify,2,0,2,5,5,1,3 => ok
+        verify,2,0,2,5,5,1,3,0 => ok
         open,3 => ok
         nominate,2,4,5 => ok",
     );

@@ -16,7 +16,8 @@ fn refusal_01_from_each_head() {
         load,0,0,0,0,400,1,1 => no,01
         carry,0,0 => no,01
         prior,0,0,1 => no,01
-        verify,0,0,1,1,1,1 => no,01
+        verify,0,0,1,1,1,1,3 => no,01
+        verify,0,0,1,1,1,1,3,0,0 => no,01
         migrate,0,0 => no,01
         open => no,01
         nominate,0,0 => no,01
@@ -72,8 +73,8 @@ fn refusal_02_from_each_call() {
         carry,0,6,1 => no,02
         prior,4,0,1,0 => no,02
         prior,0,6,1,0 => no,02
-        verify,4,0,2,1,1,1,3 => no,02
-        verify,0,2,2,1,1,1,3 => no,02
+        verify,4,0,2,1,1,1,3,0 => no,02
+        verify,0,2,2,1,1,1,3,0 => no,02
         migrate,0,4,0 => no,02
         migrate,0,0,1 => no,02
         class,4,0,1,0,0
@@ -109,18 +110,19 @@ fn refusal_03_from_each_call() {
         carry,0,0,0 => no,03
         prior,0,0,0,0 => no,03
         prior,0,0,1,2 => no,03
-        verify,0,0,3,1,1,1,3 => no,03
-        verify,0,0,1,0,1,1,3 => no,03
-        verify,0,0,1,1,0,1,3 => no,03
-        verify,0,0,2,1,2,1,3 => no,03
-        verify,0,0,1,1,1,0,3 => no,03
-        verify,0,0,1,1,1,1,4 => no,03
-        verify,0,0,1,1,1,3,2 => no,03
+        verify,0,0,3,1,1,1,3,0 => no,03
+        verify,0,0,1,0,1,1,3,0 => no,03
+        verify,0,0,1,1,0,1,3,0 => no,03
+        verify,0,0,2,1,2,1,3,0 => no,03
+        verify,0,0,1,1,1,0,3,0 => no,03
+        verify,0,0,1,1,1,1,4,0 => no,03
+        verify,0,0,1,1,1,3,2,0 => no,03
+        verify,0,0,1,1,1,1,3,2 => no,03
         migrate,4,0,0 => no,03
         migrate,0,0,1 => no,03
         class,0,1,9,0,0
         open,0 => no,03
-        open,10 => no,03
+        open,11 => no,03
         held,0,0,0 => no,03
         held,0,0,4 => no,03
         net,0,0 => no,03
@@ -144,7 +146,7 @@ fn refusal_04_while_a_tier_is_open() {
         block,0,1,1
         carry,0,0,1 => no,04
         prior,0,0,1,0 => no,04
-        verify,0,0,2,1,1,1,3 => no,04
+        verify,0,0,2,1,1,1,3,0 => no,04
         migrate,0,0,0 => no,04
         migrate,1,0,0 => no,04
         open,1 => no,04
@@ -201,13 +203,13 @@ fn refusal_04_carry_and_prior_after_tier_1() {
 fn refusal_04_verify_only_in_an_open_tier() {
     let tiers = empty_tiers(1..=9);
     show_in_book(
-        "verify,2,0,1,1,1,1,3 => ok
+        "verify,2,0,1,1,1,1,3,0 => ok
         open,1 => ok
-        verify,2,0,2,1,1,1,3 => no,04
+        verify,2,0,2,1,1,1,3,0 => no,04
         close => ok
-        verify,2,0,2,1,1,1,3 => ok",
+        verify,2,0,2,1,1,1,3,0 => ok",
     );
-    show_in_book(&format!("{tiers}verify,2,0,2,1,1,1,3 => ok"));
+    show_in_book(&format!("{tiers}verify,2,0,2,1,1,1,3,0 => ok"));
 }
 
 /// 4: the season's migration is too late after tier 1; a month's is too early
@@ -250,7 +252,8 @@ fn refusal_04_open_out_of_order() {
         {rest}
         open,9 => no,04
         open,1 => no,04
-        open,10 => no,03"
+        open,10 => no,04
+        open,11 => no,03"
     ));
 }
 
@@ -283,16 +286,17 @@ fn refusal_05_carry_and_prior() {
     );
 }
 
-/// 5: verify once per holder, source and kind, whatever its months.
+/// 5: verify once per holder, source and kind, whatever its months and mark.
 #[test]
 fn refusal_05_verify() {
     show_in_book(
-        "verify,2,0,1,5,1,1,1 => ok
-        verify,2,0,1,5,1,2,2 => no,05
-        verify,2,0,2,5,1,1,1 => ok
-        verify,2,0,2,5,1,3,3 => no,05
-        verify,2,1,1,5,1,1,1 => ok
-        verify,0,0,1,5,1,1,1 => ok",
+        "verify,2,0,1,5,1,1,1,0 => ok
+        verify,2,0,1,5,1,2,2,0 => no,05
+        verify,2,0,1,5,1,1,1,1 => no,05
+        verify,2,0,2,5,1,1,1,0 => ok
+        verify,2,0,2,5,1,3,3,0 => no,05
+        verify,2,1,1,5,1,1,1,0 => ok
+        verify,0,0,1,5,1,1,1,0 => ok",
     );
 }
 
@@ -482,7 +486,7 @@ fn refusal_11() {
     show_in_book(&format!(
         "{loads}prior,2,4,500,0 => ok
         prior,2,5,500,0 => ok
-        verify,2,1,2,50,40,1,3 => ok
+        verify,2,1,2,50,40,1,3,0 => ok
         open,1 => ok
         nominate,2,4,1 => no,11
         nominate,2,5,41 => no,11

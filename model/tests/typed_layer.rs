@@ -101,6 +101,7 @@ fn any_call<'a>(random: &mut Random, blocks: &'a [Block], lines: &'a [ClassLine]
             right: any(random),
             first_month: any(random),
             last_month: any(random),
+            ten_year: any(random),
         }),
         5 => Call::Migrate(Migrate {
             term: any(random),
@@ -136,8 +137,8 @@ fn any_lines(random: &mut Random) -> Vec<ClassLine> {
     (0..count).map(|_| line(random)).collect()
 }
 
-/// Refusals by cause: a refusal returns a number from 2 to 14 alone and the
-/// book is unchanged; a query never changes it. Any number in any field.
+/// Refusals by cause: a refusal returns its number alone, 2 to 14 or 17 or 18,
+/// and the book is unchanged; a query never changes it. Any number in any field.
 #[test]
 fn any_numbers_are_answered_and_refusals_leave_the_book_as_it_was() {
     let mut random = Random::new(7);
@@ -151,7 +152,8 @@ fn any_numbers_are_answered_and_refusals_leave_the_book_as_it_was() {
             match book.call(&call) {
                 Ok(()) => accepted += 1,
                 Err(number) => {
-                    assert!((2..=14).contains(&number), "{call:?}");
+                    let known = (2..=14).contains(&number) || (17..=18).contains(&number);
+                    assert!(known, "{call:?}");
                     assert!(book == before, "{call:?}");
                     refused += 1;
                 }

@@ -10,8 +10,9 @@ use lib.Dec.{ltb}
 use borrow.Author.Tests.{eq-eqb}
 use Rattle.tariff.specs.declared.evidence.Entry.{Entry}
 use Rattle.tariff.specs.Sum.{whenTrue}
-use Rattle.tariff.specs.Sizes.{lastMonth, lastTier}
-use Rattle.tariff.specs.Terms.{termOf}
+use Rattle.tariff.specs.Sizes.{lastMonth, longTermStep}
+use Rattle.tariff.specs.Terms.{termOf, enteringKw}
+use Rattle.tariff.proofs.Entering.{entering-le}
 use Rattle.ledger.specs.Opening.{Opening}
 use Rattle.ledger.specs.Ledger.{Ledger, withRights, withTiers}
 use Rattle.ledger.specs.Call.{award}
@@ -40,7 +41,7 @@ unfolding ledgerIn
 nominated-now f m x h p = ap (λ t. cond t (figureIn f nominatedSlot 1 0 h p 0) (figureIn f awardsSlot tierSlots 0 h p (currentTierIn f))) (eq-eqb (currentTierIn f) (currentTierIn f) refl)
 
 -- cause 14
-pub nominated-test : (f : List ℕ) (m : List Bool) (x : List Entry) (h p kw tier nominated awards : ℕ) → tier ≡ currentTierIn f → tier ≤ lastTier → HasRoom f h p nominatedSlot ownershipSlot kw → nominated ≡ readAt figureSlots 0 f h p nominatedSlot → awards ≡ readAt figureSlots 0 f h p (awardsSlot + tier) → ltb nominated (awards + kw) ≡ exceedsNominated (ledgerIn f m x) (currentTierIn f) h p kw
+pub nominated-test : (f : List ℕ) (m : List Bool) (x : List Entry) (h p kw tier nominated awards : ℕ) → tier ≡ currentTierIn f → tier ≤ longTermStep → HasRoom f h p nominatedSlot ownershipSlot kw → nominated ≡ readAt figureSlots 0 f h p nominatedSlot → awards ≡ readAt figureSlots 0 f h p (awardsSlot + tier) → ltb nominated (awards + kw) ≡ exceedsNominated (ledgerIn f m x) (currentTierIn f) h p kw
 unfolding exceedsNominated ledgerIn
 nominated-test f m x h p kw tier nominated awards now last k n a = λ i. ltb (nominations i) (granted i + kw)
   where
@@ -50,8 +51,8 @@ nominated-test f m x h p kw tier nominated awards now last k n a = λ i. ltb (no
     granted : awards ≡ figureIn f awardsSlot tierSlots 0 h p (currentTierIn f)
     granted = a ∙ from-zero f awardsSlot tierSlots h p tier (k .holder) (k .place) (omega arith) ∙ ap (figureIn f awardsSlot tierSlots 0 h p) now
 
--- the open tier is one of nine
-pub tier-within : (o f : List ℕ) (m : List Bool) (x : List Entry) (tier : ℕ) → Reachable o f m x → tier ≡ currentTierIn f → tier ≤ lastTier
+-- the open tier is one of nine, or the Long Term step
+pub tier-within : (o f : List ℕ) (m : List Bool) (x : List Entry) (tier : ℕ) → Reachable o f m x → tier ≡ currentTierIn f → tier ≤ longTermStep
 unfolding ledgerIn
 tier-within o f m x tier r now = let last = sound o f m x r .openLast in omega arith
 
@@ -71,28 +72,34 @@ module _ (o f : List ℕ) (m : List Bool) (x : List Entry) (h p kw number : ℕ)
   path : p < 16
   path = le-trans (facts .path) (counts o f m x r .3)
 
-  -- the slots of the months have room for the kW ..
-  pub months-room : HasRoom f h p awardedSlot (awardedSlot + lastMonth) kw
-  months-room = row-room o f m x h p kw awardedSlot (awardedSlot + lastMonth) r (facts .holder) (facts .path) (facts .high) (omega arith)
+  -- the slots of the months have room for the kW that enter them ..
+  pub months-room : (tier v : ℕ) → v ≡ enteringKw tier kw → HasRoom f h p awardedSlot (awardedSlot + lastMonth) v
+  months-room tier v e =
+      let entering = entering-le tier kw in
+      let high = facts .high in
+      row-room o f m x h p v awardedSlot (awardedSlot + lastMonth) r (facts .holder) (facts .path) (omega arith) (omega arith)
 
   -- .. and after them that of the tier
-  pub tier-room : (tier term : ℕ) (f′ : List ℕ) → tier ≡ currentTierIn f → f′ ≡ addedInTerm f h p awardedSlot term kw → HasCell figureSlots h p (awardsSlot + tier) × (length f′ ≡ figureCount) × (readAt figureSlots 0 f′ h p (awardsSlot + tier) + kw < 2 ^ 64)
-  tier-room tier term f′ now e =
+  pub tier-room : (tier term v : ℕ) (f′ : List ℕ) → tier ≡ currentTierIn f → f′ ≡ addedInTerm f h p awardedSlot term v → HasCell figureSlots h p (awardsSlot + tier) × (length f′ ≡ figureCount) × (readAt figureSlots 0 f′ h p (awardsSlot + tier) + kw < 2 ^ 64)
+  tier-room tier term v f′ now e =
       let last = tier-within o f m x tier r now in
       room-now f′ h p (awardsSlot + tier) ownershipSlot kw kw
-      (room-after-term f f′ h p awardedSlot ownershipSlot term kw (awardsSlot + tier) (row-room o f m x h p kw awardedSlot ownershipSlot r (facts .holder) (facts .path) (facts .high) (omega arith)) (omega arith) (omega arith) e) (omega arith) (omega arith)
+      (room-after-term f f′ h p awardedSlot ownershipSlot term kw v (awardsSlot + tier) (row-room o f m x h p kw awardedSlot ownershipSlot r (facts .holder) (facts .path) (facts .high) (omega arith)) (omega arith) (omega arith) e) (omega arith) (omega arith)
 
   -- the awarded rights and the tier's awards are new, and nothing else
+  abbrev entering : ℕ
+  entering = enteringKw (L .tiers .currentTier) kw
+
   abbrev months : Ledger
   months = withRights L (holdingsAfter (L .rights) (L .tiers .currentTier) h p kw)
 
-  awarded : addedAt figureSlots (addedInTerm f h p awardedSlot (termOf (L .tiers .currentTier)) kw) h p (awardsSlot + L .tiers .currentTier) kw ≡ figuresOf (effect O L (award h p kw))
+  awarded : addedAt figureSlots (addedInTerm f h p awardedSlot (termOf (L .tiers .currentTier)) entering) h p (awardsSlot + L .tiers .currentTier) kw ≡ figuresOf (effect O L (award h p kw))
   unfolding figuresOf figureGroups calendarOf slotsOf effect withRights withTiers holdingsAfter awardsAfter plusAt3
   awarded =
-      shown-is figureSlots 0 _ (addedAt figureSlots (addedInTerm f h p awardedSlot (termOf (L .tiers .currentTier)) kw) h p (awardsSlot + L .tiers .currentTier) kw) (calendarOf L) (omega arith)
+      shown-is figureSlots 0 _ (addedAt figureSlots (addedInTerm f h p awardedSlot (termOf (L .tiers .currentTier)) entering) h p (awardsSlot + L .tiers .currentTier) kw) (calendarOf L) (omega arith)
       (slot-added figureSlots awardsSlot tierSlots 0 (take 6 (figureGroups months)) (drop 7 (figureGroups months)) refl (omega arith) (L .tiers .awards) (plusAt3 h p (L .tiers .currentTier) kw (L .tiers .awards)) _ (calendarOf L) h p (L .tiers .currentTier) kw holder path (let last = sound o f m x r .openLast in omega arith)
       (λ i j n low high. ap (λ k. L .tiers .awards i j n + whenTrue (same3 h p k i j n) kw) (sym (add-zero (L .tiers .currentTier))))
-      (term-added (take 4 (figureGroups L)) (drop 5 (figureGroups L)) awardedSlot (L .rights .awarded) f (calendarOf L) h p (termOf (L .tiers .currentTier)) kw refl (omega arith) holder path (figures-shown o f m x r)))
+      (term-added (take 4 (figureGroups L)) (drop 5 (figureGroups L)) awardedSlot (L .rights .awarded) f (calendarOf L) h p (termOf (L .tiers .currentTier)) entering refl (omega arith) holder path (figures-shown o f m x r)))
 
   noted : m ≡ postedOf (effect O L (award h p kw))
   unfolding postedOf postedGroups effect withRights withTiers holdingsAfter
@@ -102,9 +109,9 @@ module _ (o f : List ℕ) (m : List Bool) (x : List Entry) (h p kw number : ℕ)
   unfolding evidenceOf evidenceGroups effect withRights withTiers
   filed = evidence-known o f m x r
 
-  pub award-steps : (tier term : ℕ) (f′ f″ : List ℕ) → tier ≡ currentTierIn f → term ≡ termOf tier → f′ ≡ addedInTerm f h p awardedSlot term kw → f″ ≡ addedAt figureSlots f′ h p (awardsSlot + tier) kw → Steps O L (award h p kw) Done f″ m x
+  pub award-steps : (tier term v : ℕ) (f′ f″ : List ℕ) → tier ≡ currentTierIn f → term ≡ termOf tier → v ≡ enteringKw tier kw → f′ ≡ addedInTerm f h p awardedSlot term v → f″ ≡ addedAt figureSlots f′ h p (awardsSlot + tier) kw → Steps O L (award h p kw) Done f″ m x
   unfolding ledgerIn
-  award-steps tier term f′ f″ now t one two =
+  award-steps tier term v f′ f″ now t enters one two =
       steps-accepted O L (award h p kw) number found f″ m x zero
-      (two ∙ (λ i. addedAt figureSlots ((one ∙ ap (λ k. addedInTerm f h p awardedSlot k kw) (t ∙ ap termOf now)) i) h p (awardsSlot + now i) kw) ∙ awarded)
+      (two ∙ (λ i. addedAt figureSlots ((one ∙ (λ j. addedInTerm f h p awardedSlot ((t ∙ ap termOf now) j) ((enters ∙ ap (λ n. enteringKw n kw) now) j))) i) h p (awardsSlot + now i) kw) ∙ awarded)
       noted filed

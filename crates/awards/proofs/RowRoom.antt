@@ -38,9 +38,9 @@ known-room o f m x h p kw first past {noH} {noP} r holders paths known range wit
     row-room o f m x h p kw first past r (leb-false _ _ (sym holders ∙ inBook .0)) (leb-false _ _ (sym paths ∙ inBook .1)) (kw-in-range kw (sym range ∙ within) .1) inRow
 
 -- an addition in the months of a term leaves it to the slots after them
-pub room-after-term : (f next : List ℕ) (h p from past term kw later : ℕ) → HasRoom f h p from past kw → from + 2 < past → from + 2 < later → next ≡ addedInTerm f h p from term kw → HasRoom next h p later past kw
+pub room-after-term : (f next : List ℕ) (h p from past term kw v later : ℕ) → HasRoom f h p from past kw → from + 2 < past → from + 2 < later → next ≡ addedInTerm f h p from term v → HasRoom next h p later past kw
 unfolding addedInTerm
-room-after-term f next h p from past term kw later r inside after e =
+room-after-term f next h p from past term kw v later r inside after e =
     room-next _ next h p (from + 2) past kw _ later
     (room-next _ _ h p (from + 1) past kw _ (from + 2)
     (room-next f _ h p from past kw _ (from + 1) r (omega arith) (omega arith) refl) (omega arith) (omega arith) refl) inside after e

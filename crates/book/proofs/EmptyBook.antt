@@ -8,13 +8,14 @@ use native.Mathlib.Omega.{arith}
 use lib.Dec.{ltb}
 use borrow.Author.Tests.{ltb-true, ltb-false}
 use lib.ListN.{getD, replicate, length-replicate, getD-replicate, List·getD-eq-default}
-use Rattle.tariff.specs.Evidence.{emptyEntry, evidenceKw, entryKw}
+use Rattle.tariff.specs.Sum.{whenTrue}
+use Rattle.tariff.specs.Evidence.{emptyEntry, evidenceKw, entryKw, isTenYear}
 use Rattle.tariff.proofs.Sums.{when-zero}
 use Rattle.tariff.proofs.Tests.{decided}
 use Rattle.ledger.specs.Ledger.{emptyLedger}
 use Rattle.slots.specs.Cells.{rows, readAt, Shows}
 use Rattle.slots.specs.Groups.{SlotGroup, slotGroup, inSlot}
-use Rattle.slots.specs.Layout.{figureSlots, figureCount, postedSlots, postedCount, evidenceSlots, evidenceCount, figureGroups, postedGroups, evidenceGroups, calendarOf, figuresOf, postedOf, evidenceOf}
+use Rattle.slots.specs.Layout.{figureSlots, figureCount, postedSlots, postedCount, evidenceSlots, evidenceCount, figureGroups, postedGroups, evidenceGroups, calendarOf, flag, figuresOf, postedOf, evidenceOf}
 use Rattle.slots.proofs.CellLaws.{shown-is}
 
 module _ {A : Type 0} (none : A) where
@@ -56,11 +57,11 @@ unfolding entryKw emptyEntry evidenceKw
 nothing-filed term = when-zero _
 
 pub empty-figures : replicate figureCount 0 ≡ figuresOf emptyLedger
-unfolding figuresOf figureGroups calendarOf emptyLedger
+unfolding figuresOf figureGroups calendarOf emptyLedger flag isTenYear emptyEntry whenTrue
 empty-figures =
-    shown-is figureSlots 0 (inSlot 0 (figureGroups emptyLedger)) (replicate figureCount 0) (0 ∷ 0 ∷ []) (omega arith)
-    (filled-shows 0 figureSlots figureCount 2 (figureGroups emptyLedger) refl
-    (λ h p k. refl, (λ h p k. refl, (λ h p k. refl, (λ h p k. refl, (λ h p k. refl, (λ h p k. refl, (λ h p k. refl, (λ h s k. nothing-filed k, (λ h s k. nothing-filed k, tt))))))))))
+    shown-is figureSlots 0 (inSlot 0 (figureGroups emptyLedger)) (replicate figureCount 0) (0 ∷ 0 ∷ 0 ∷ []) (omega arith)
+    (filled-shows 0 figureSlots figureCount 3 (figureGroups emptyLedger) refl
+    (λ h p k. refl, (λ h p k. refl, (λ h p k. refl, (λ h p k. refl, (λ h p k. refl, (λ h p k. refl, (λ h p k. refl, (λ h s k. nothing-filed k, (λ h s k. nothing-filed k, (λ h s k. refl, tt)))))))))))
 
 pub empty-posted : replicate postedCount false ≡ postedOf emptyLedger
 unfolding postedOf postedGroups emptyLedger

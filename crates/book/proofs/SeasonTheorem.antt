@@ -1,9 +1,10 @@
 -- The season theorem's proof: the books follow the ledger, and what the ledger keeps they keep. Assumes nothing.
-use Prim.Native.Nat.{ℕ, _<_}
-use mathlib.Core.Path.{_≡_, ap, _∙_}
+use Prim.Native.Nat.{ℕ, _≤_, _<_}
+use mathlib.Core.Path.{_≡_, sym, ap, _∙_, subst}
 use mathlib.Core.Bool.{true}
 use mathlib.Core.List.{List}
 use borrow.Author.Tests.{lt-leb}
+use Rattle.tariff.specs.Sizes.{longTermStep}
 use Rattle.tariff.specs.Terms.{isMonth}
 use Rattle.tariff.specs.Ranges.{monthOutOfRange}
 use Rattle.ledger.specs.Opening.{Opening, legal}
@@ -17,6 +18,7 @@ use Rattle.ledger.specs.Season.{query, after, net, queryValue}
 use Rattle.ledger.proofs.Conserved.{loadSum, rights-conserved, load-conserved}
 use Rattle.ledger.proofs.NeverBelowZero.{never-below-zero}
 use Rattle.ledger.proofs.Nominations.{nominations-within-limit}
+use Rattle.ledger.proofs.Settled.{step-within-tier-1}
 use Rattle.records.specs.declared.answers.Answer.the-variants.{Value}
 use Rattle.records.specs.Answers.{answerOf}
 use Rattle.book.specs.SeasonTheorem.{callsOf, SeasonHolds, SeasonTheorem}
@@ -48,6 +50,7 @@ holds-at o e cs =
       loadsConserved = λ s t. ap (loadSum o s t) (at-ledger o e cs) ∙ load-conserved o s t cs;
       neverBelowZero = λ before later term sink lines split yes. never-below-zero o before term sink lines yes;
       withinLimit = λ before later tier split yes h b. nominations-within-limit o before later tier h b yes;
+      stepWithinTier1 = λ h p. subst (λ L. L .tiers .awards h p longTermStep ≤ L .tiers .awards h p 1) (sym (at-ledger o e cs)) (step-within-tier-1 o cs h p);
     }
 
 pub season-theorem : SeasonTheorem

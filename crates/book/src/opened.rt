@@ -22,6 +22,7 @@ pub fn no_evidence() -> [Entry; EVIDENCE_COUNT]
         evidence: Evidence::Empty,
         first: 0,
         last: 0,
+        ten_year: false,
     };
     [none; EVIDENCE_COUNT]
 }

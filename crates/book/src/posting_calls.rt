@@ -72,7 +72,7 @@ impl Book {
         with_postings(self, answer, figures, posted)
     }
 
-    // Files evidence of a holder for a source.
+    // Files evidence of a holder for a source; the mark says whether it runs for ten years.
     pub fn verify(
         self,
         h: u64,
@@ -82,9 +82,10 @@ impl Book {
         right: u64,
         first: u64,
         last: u64,
+        mark: u64,
     ) -> Outcome
         requires { ⌜ Reachable self ⌝ }
-        ensures { λ r. ⌜ r ≡ outcomeOf self (verify h s kind capacity right first last) ⌝ }
+        ensures { λ r. ⌜ r ≡ outcomeOf self (verify h s kind capacity right first last mark) ⌝ }
     {
         let opening = self.opening;
         let mut figures = self.figures;
@@ -102,6 +103,7 @@ impl Book {
             right,
             first,
             last,
+            mark,
         );
         let answer = outcome.answer;
         let evidence = outcome.evidence;

@@ -82,11 +82,12 @@ pub fn verify(
     right: u64,
     first: u64,
     last: u64,
+    mark: u64,
 ) -> Book
     requires { ⌜ Reachable b ⌝ }
     ensures { λ r. ⌜ Reachable r ⌝ }
 {
-    write_outcome(b.verify(h, s, kind, capacity, right, first, last))
+    write_outcome(b.verify(h, s, kind, capacity, right, first, last, mark))
 }
 
 // The first so many of two class lines, lent to the book as one slice. It does nothing else, since whatever lends a slice of structs is proved by hand.

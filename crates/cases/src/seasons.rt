@@ -226,14 +226,14 @@ pub fn case_10() {
     held(b, 0, 0, 1);
 }
 
-// Capacity 1,000 and right 3,333: 334 is 11, 333 is taken.
+// Capacity 1,000 and right 3,333, not marked ten-year: 334 is 11, 333 is taken.
 pub fn case_11() {
     case(11);
     let kinds = [2u64];
     let b = with_path(&kinds, 4);
     let b = steady_load(b, 0, 0, 1000);
     let b = prior(b, 0, 0, 1000, 0);
-    let b = verify(b, 0, 0, 1, 1000, 3333, 1, 3);
+    let b = verify(b, 0, 0, 1, 1000, 3333, 1, 3, 0);
     let b = open_tier(b, 1);
     let b = nominate(b, 0, 0, 334);
     let b = nominate(b, 0, 0, 333);

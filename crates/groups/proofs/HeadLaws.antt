@@ -32,7 +32,7 @@ module _ (r : Row) (lines : List Row) where
   unfolding requestOf lookup
   prior-request e = rw e
 
-  pub verify-request : r .kind ≡ verifyLine → requestOf r lines ≡ request (call (verify (field 0 r) (field 1 r) (field 2 r) (field 3 r) (field 4 r) (field 5 r) (field 6 r)))
+  pub verify-request : r .kind ≡ verifyLine → requestOf r lines ≡ request (call (verify (field 0 r) (field 1 r) (field 2 r) (field 3 r) (field 4 r) (field 5 r) (field 6 r) (field 7 r)))
   unfolding requestOf lookup
   verify-request e = rw e
 

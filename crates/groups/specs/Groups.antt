@@ -46,7 +46,7 @@ requestOf r lines =
     (case loadLine (whenComplete (counted blockLine (field 5 r) lines) (call (load (field 0 r) (field 1 r) (field 2 r) (field 3 r) (field 4 r) (map blockOf lines))))
     ∷ case carryLine (request (call (carry (field 0 r) (field 1 r) (field 2 r))))
     ∷ case priorLine (request (call (prior (field 0 r) (field 1 r) (field 2 r) (field 3 r))))
-    ∷ case verifyLine (request (call (verify (field 0 r) (field 1 r) (field 2 r) (field 3 r) (field 4 r) (field 5 r) (field 6 r))))
+    ∷ case verifyLine (request (call (verify (field 0 r) (field 1 r) (field 2 r) (field 3 r) (field 4 r) (field 5 r) (field 6 r) (field 7 r))))
     ∷ case migrateLine (whenComplete (counted classLine (field 2 r) lines) (call (migrate (field 0 r) (field 1 r) (map classLineOf lines))))
     ∷ case openLine (request (call (openTier (field 0 r))))
     ∷ case nominateLine (request (call (nominate (field 0 r) (field 1 r) (field 2 r))))

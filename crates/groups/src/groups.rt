@@ -30,12 +30,24 @@ use postings::verify::verify;
 use records::answers::Answer;
 use records::numbers::UNREADABLE;
 ghost use mathlib.Core.Path.{_≡_};
-ghost use Prim.Native.Nat.{_≤_};
+ghost use mathlib.Core.List.{List};
+ghost use Prim.Native.Nat.{ℕ, _≤_};
 ghost use lib.ListN.{length};
 ghost use Rattle.slots.specs.Steps.{ReachablePostings};
-ghost use Rattle.lines.specs.Rows.{rowsOf};
+ghost use Rattle.lines.specs.Rows.{rowsOf, verifyLine};
 ghost use Rattle.lines.specs.Text.{maxLines};
 ghost use Rattle.groups.specs.Outcome.{headGroup, headBytes, firstGroup, groupBytes, GroupAnswers};
+
+// Evidence: its line has more numbers than any other head's. It counts no lines, whatever stands after it.
+fn run_verify(o: &[u64], f: &mut [u64], m: &mut [bool], head: Row) -> GroupOutcome
+    requires reachable { ⌜ ReachablePostings (now o) (now f) (now m) ⌝ }
+    requires verify { ⌜ head .kind ≡ verifyLine ⌝ }
+    ensures answer { λ r. ⌜ ((rest : List ℕ) → GroupAnswers (now (o .entry)) (now (f .entry)) (now (m .entry)) (headGroup head rest) (r .answer) (now (f .exit)) (now (m .exit))) ⌝ }
+    ensures consumed { λ r. ⌜ ((rest : List ℕ) → r .consumed ≡ headBytes head rest) ⌝ }
+{
+    let n = head.fields;
+    of_one_line(verify(o, f, m, n[0], n[1], n[2], n[3], n[4], n[5], n[6], n[7]))
+}
 
 // A head with the lines that stand after it. A line that is no head is unreadable by itself.
 fn run_head(o: &[u64], f: &mut [u64], m: &mut [bool], head: Row, rest: &[u8]) -> GroupOutcome
@@ -45,20 +57,17 @@ fn run_head(o: &[u64], f: &mut [u64], m: &mut [bool], head: Row, rest: &[u8]) ->
     ensures consumed { λ r. ⌜ r .consumed ≡ headBytes head (now (rest .entry)) ⌝ }
 {
     let kind = head.kind;
-    // The numbers of the head's line, in their order.
+    // The first numbers of the head's line, in their order.
     let n = head.fields;
     let a = n[0];
     let b = n[1];
     let c = n[2];
     let d = n[3];
-    let e = n[4];
-    let g = n[5];
-    let h = n[6];
     match kind {
         LOAD_LINE => run_load(o, f, m, head, rest),
         CARRY_LINE => of_one_line(carry(o, f, m, a, b, c)),
         PRIOR_LINE => of_one_line(prior(o, f, m, a, b, c, d)),
-        VERIFY_LINE => of_one_line(verify(o, f, m, a, b, c, d, e, g, h)),
+        VERIFY_LINE => run_verify(o, f, m, head),
         MIGRATE_LINE => run_migrate(o, f, head, rest),
         OPEN_LINE => of_one_line(open_tier(f, a)),
         NOMINATE_LINE => of_one_line(nominate(o, f, a, b, c)),

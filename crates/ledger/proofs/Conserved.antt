@@ -9,7 +9,7 @@ use lib.Dec.{eqb}
 use borrow.Author.Tests.{eqb-true}
 use Rattle.tariff.specs.Sum.{whenTrue, sumTo}
 use Rattle.tariff.specs.Load.{loadPosted}
-use Rattle.tariff.specs.Terms.{termOf, isMonth, hasMonth}
+use Rattle.tariff.specs.Terms.{termOf, isMonth, hasMonth, enteringKw}
 use Rattle.tariff.proofs.Sums.{sum-ext, sum-add, sum-zero}
 use Rattle.tariff.proofs.Tests.{and-both}
 use Rattle.ledger.specs.Opening.{Opening, hasBase}
@@ -61,16 +61,16 @@ module _ (o : Opening) (p m : ℕ) where
   awarded-adds L (load h s term contract n blocks) e = omega arith
   awarded-adds L (carry h q kw) e = omega arith
   awarded-adds L (prior h q a l) e = omega arith
-  awarded-adds L (verify h s kind capacity right first last) e = omega arith
+  awarded-adds L (verify h s kind capacity right first last mark) e = omega arith
   awarded-adds L (migrate term sink lines) e =
       column-kept o L term sink lines (migrate-facts o L term sink lines e .fits) (hasBase o sink p && hasMonth term m && not (eqb term 0)) (λ h. L .rights .awarded h p m)
       ∙ sym (add-zero (sumTo (o .holders) (λ h. L .rights .awarded h p m)))
   awarded-adds L (openTier tier) e = omega arith
   awarded-adds L (nominate h q kw) e = omega arith
-  awarded-adds L (award h q kw) e = in-term o (termOf (L .tiers .currentTier)) h q kw (L .rights .awarded) p m (award-facts o L h q kw e .holder)
+  awarded-adds L (award h q kw) e = in-term o (termOf (L .tiers .currentTier)) h q (enteringKw (L .tiers .currentTier) kw) (L .rights .awarded) p m (award-facts o L h q kw e .holder)
   awarded-adds L closeTier e = omega arith
 
-  -- per path and month the awarded kW add up to the accepted awards in tiers 1 to 3 and in the month's own
+  -- per path and month the awarded kW add up to the accepted awards in tiers 1 to 3 and in the month's own; the step's are left out
   pub awarded-conserved : (cs : List Call) → awardedSum o p m (after o cs) ≡ awardedIn o cs p m
   unfolding awardedIn awardedSum emptyLedger
   awarded-conserved = from-empty (awardedSum o p m) (λ L c. contribution o L c .awarded p m) o awarded-adds (sum-zero (o .holders) (λ h l. refl))
@@ -82,7 +82,7 @@ module _ (o : Opening) (p m : ℕ) where
       in-term o 0 h q kw (L .rights .carried) p m (carry-facts o L h q kw e .holder)
       ∙ ap (λ b. sumTo (o .holders) (λ h. L .rights .carried h p m) + whenTrue b kw) (ap (λ b. eqb p q && (b && true)) month ∙ and-true (eqb p q))
   carried-adds month L (prior h q a l) e = omega arith
-  carried-adds month L (verify h s kind capacity right first last) e = omega arith
+  carried-adds month L (verify h s kind capacity right first last mark) e = omega arith
   carried-adds month L (migrate term sink lines) e =
       column-kept o L term sink lines (migrate-facts o L term sink lines e .fits) (hasBase o sink p && hasMonth term m) (λ h. L .rights .carried h p m)
       ∙ sym (add-zero (sumTo (o .holders) (λ h. L .rights .carried h p m)))
@@ -109,7 +109,7 @@ module _ (o : Opening) (s t : ℕ) where
   load-adds L (load h q term contract n blocks) e = in-place o h q term (loadPosted contract blocks) (L .loads .kw) s t (load-facts o L h q term contract n blocks e .holder)
   load-adds L (carry h q kw) e = omega arith
   load-adds L (prior h q a l) e = omega arith
-  load-adds L (verify h q kind capacity right first last) e = omega arith
+  load-adds L (verify h q kind capacity right first last mark) e = omega arith
   load-adds L (migrate term sink lines) e =
       load-kept o L term sink lines (migrate-facts o L term sink lines e .fits) (eqb s sink && eqb t term) (λ h. L .loads .kw h s t) there
       ∙ sym (add-zero (sumTo (o .holders) (λ h. L .loads .kw h s t)))

@@ -24,13 +24,13 @@ unfolding effect withLoads withRights withPriors withEvidence withTiers migrated
 evidence-effect o L (load h s term contract n blocks) k e = k
 evidence-effect o L (carry h p kw) k e = k
 evidence-effect o L (prior h p a l) k e = k
-evidence-effect o L (verify x q kind capacity right first last) k e = λ h s j. go h s j (same3 x q kind h s j)
+evidence-effect o L (verify x q kind capacity right first last mark) k e = λ h s j. go h s j (same3 x q kind h s j)
   where
     filed : Entry
-    filed = entryOf kind capacity right first last
+    filed = entryOf kind capacity right first last mark
 
     go : (h s j : ℕ) (here : Bool) → InRange maxKw (cond here filed (L .evidence .entry h s j) .evidence)
-    go h s j true = let f = verify-facts o L x q kind capacity right first last e in filed-in-range maxKw kind capacity right (f .high) (f .rights .1)
+    go h s j true = let f = verify-facts o L x q kind capacity right first last mark e in filed-in-range maxKw kind capacity right (f .high) (f .rights .1)
     go h s j false = k h s j
 evidence-effect o L (migrate term sink lines) k e = k
 evidence-effect o L (openTier tier) k e = k

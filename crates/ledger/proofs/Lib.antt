@@ -1,4 +1,5 @@
 pub mod Marked
+pub mod StepCases
 pub mod Unmet
 pub mod QueryFacts
 pub mod PostingFacts

@@ -9,6 +9,7 @@ use Rattle.tariff.proofs.Tests.{and-right-false}
 use Rattle.ledger.specs.Opening.{Opening}
 use Rattle.ledger.specs.Ledger.{Ledger, emptyLedger, withTiers, withRights}
 use Rattle.ledger.specs.Call.{Call, load, carry, prior, verify, migrate, openTier, nominate, award, closeTier}
+use Rattle.ledger.specs.TenYear.{tenYearAt, tenYearSum}
 use Rattle.ledger.specs.Limits.{longTermAt, priorYearAt, awardsAt, limitSums, nominatedAt, tierLimit}
 use Rattle.ledger.specs.Effects.{afterOpen, afterNominate, awardsAfter, effect}
 use Rattle.ledger.specs.Season.{accepted, step, after}
@@ -49,7 +50,7 @@ module _ (o : Opening) (h b : ℕ) where
   accepted-within (load x s term contract n blocks) cs later L k w isOpen e = absurd (closed-only L (load-facts o L x s term contract n blocks e .idle) isOpen)
   accepted-within (carry x p kw) cs later L k w isOpen e = absurd (closed-only L (carry-facts o L x p kw e .idle) isOpen)
   accepted-within (prior x p a l) cs later L k w isOpen e = absurd (closed-only L (prior-facts o L x p a l e .idle) isOpen)
-  accepted-within (verify x s kind capacity right first last) cs later L k w isOpen e = absurd (closed-only L (verify-facts o L x s kind capacity right first last e .idle) isOpen)
+  accepted-within (verify x s kind capacity right first last mark) cs later L k w isOpen e = absurd (closed-only L (verify-facts o L x s kind capacity right first last mark e .idle) isOpen)
   accepted-within (migrate term sink lines) cs later L k w isOpen e = absurd (closed-only L (migrate-facts o L term sink lines e .idle) isOpen)
   accepted-within (openTier tier) cs later L k w isOpen e = absurd (closed-only L (open-facts o L tier e .idle) isOpen)
   accepted-within (nominate x q kw) cs later L k w isOpen e =
@@ -92,7 +93,7 @@ within-limit o cs =
 
 -- the limit of the tier that opens is the one that the ledger before the open gives
 pub open-leaves-limit : (o : Opening) (L : Ledger) (tier h b : ℕ) → tierLimit o (effect o L (openTier tier)) tier h b ≡ tierLimit o L tier h b
-unfolding effect withTiers afterOpen tierLimit limitSums longTermAt priorYearAt awardsAt
+unfolding effect withTiers afterOpen tierLimit limitSums longTermAt priorYearAt awardsAt tenYearSum tenYearAt
 open-leaves-limit o L tier h b = refl
 
 -- for each accepted open: the nominations from it to the tier's close, or so far, are within the limit that the ledger before it gives

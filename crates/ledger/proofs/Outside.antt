@@ -9,7 +9,7 @@ use lib.Dec.{leb, eqb}
 use borrow.Author.Tests.{leb-false, ne-eqb}
 use Rattle.netting.specs.declared.netting.ClassLine.{ClassLine}
 use Rattle.tariff.specs.Sum.{sumOver, anyOf}
-use Rattle.tariff.specs.Terms.{termOf, hasMonth}
+use Rattle.tariff.specs.Terms.{termOf, hasMonth, enteringKw}
 use Rattle.netting.specs.Migration.{wattsOneWay, netted}
 use Rattle.tariff.proofs.Sums.{when-is-false, sum-zero}
 use Rattle.tariff.proofs.Tests.{or-unmet, and-left-false, and-right-false}
@@ -49,13 +49,13 @@ module _ (o : Opening) (p m : ℕ) (past : o .paths ≤ p) where
   none-awarded L (load h s term contract n blocks) e = refl
   none-awarded L (carry h q kw) e = refl
   none-awarded L (prior h q a l) e = refl
-  none-awarded L (verify h s kind capacity right first last) e = refl
+  none-awarded L (verify h s kind capacity right first last mark) e = refl
   none-awarded L (migrate term sink lines) e = refl
   none-awarded L (openTier tier) e = refl
   none-awarded L (nominate h q kw) e = refl
   none-awarded L (award h q kw) e =
       let l = award-facts o L h q kw e .path in
-      when-is-false kw (and-left-false (hasMonth (termOf (L .tiers .currentTier)) m) (ne-eqb p q (λ s. omega (arith, s))))
+      when-is-false (enteringKw (L .tiers .currentTier) kw) (and-left-false (hasMonth (termOf (L .tiers .currentTier)) m) (ne-eqb p q (λ s. omega (arith, s))))
   none-awarded L closeTier e = refl
 
   pub awarded-outside : (cs : List Call) → awardedSum o p m (after o cs) ≡ 0

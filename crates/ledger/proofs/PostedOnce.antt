@@ -97,7 +97,7 @@ unfolding effect withEvidence withTiers withRights holdingsAfter
 once-effect o L (load h s term contract n blocks) k e = once-load o L h s term contract n blocks k e
 once-effect o L (carry h p kw) k e = once-carry o L h p kw k e
 once-effect o L (prior h p a l) k e = once-prior o L h p a l k e
-once-effect o L (verify h s kind capacity right first last) k e = k
+once-effect o L (verify h s kind capacity right first last mark) k e = k
 once-effect o L (migrate term sink lines) k e = once-migrate o L term sink lines k e
 once-effect o L (openTier tier) k e = k
 once-effect o L (nominate h p kw) k e = k

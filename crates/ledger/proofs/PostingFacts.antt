@@ -139,7 +139,7 @@ prior-facts o L h p a l e =
       sinkEligible = r10 .0;
     }
 
-pub record VerifyFacts (o : Opening) (L : Ledger) (h s kind capacity right first last : ℕ) : Type 0 where
+pub record VerifyFacts (o : Opening) (L : Ledger) (h s kind capacity right first last mark : ℕ) : Type 0 where
   pub holder : h < o .holders
   pub source : s < o .sources
   pub kinds : (1 ≤ kind) × (kind ≤ 2)
@@ -150,15 +150,15 @@ pub record VerifyFacts (o : Opening) (L : Ledger) (h s kind capacity right first
   pub idle : L .tiers .currentTier ≡ 0
   pub new : L .evidence .posted h s kind ≡ false
 
-pub verify-facts : (o : Opening) (L : Ledger) (h s kind capacity right first last : ℕ) → accepted o L (verify h s kind capacity right first last) ≡ true → VerifyFacts o L h s kind capacity right first last
+pub verify-facts : (o : Opening) (L : Ledger) (h s kind capacity right first last mark : ℕ) → accepted o L (verify h s kind capacity right first last mark) ≡ true → VerifyFacts o L h s kind capacity right first last mark
 unfolding callCauses verifyCauses unknownHolder unknownSource
-verify-facts o L h s kind capacity right first last e =
-    let r2 = unmet 1 _ _ (accepted-zero o L (verify h s kind capacity right first last) e) in
+verify-facts o L h s kind capacity right first last mark e =
+    let r2 = unmet 1 _ _ (accepted-zero o L (verify h s kind capacity right first last mark) e) in
     let r3 = unmet 2 _ _ (r2 .1) in
     let r4 = unmet 3 _ _ (r3 .1) in
     let r5 = unmet 4 _ _ (r4 .1) in
     let inBook = or-unmet _ _ (r2 .0) in
-    let evidence = evidence-facts kind capacity right first last (r3 .0) in
+    let evidence = evidence-facts kind capacity right first last mark (r3 .0) in
     record {
       holder = leb-false _ _ (inBook .0);
       source = leb-false _ _ (inBook .1);

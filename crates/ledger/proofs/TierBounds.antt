@@ -1,5 +1,5 @@
 -- Nominations and awards are bounded in every ledger that calls lead to, by the loads that their limits come from. Assumes nothing.
-use Prim.Native.Nat.{ℕ, _+_, _*_, _≤_, zero-le}
+use Prim.Native.Nat.{ℕ, _+_, _*_, _≤_, _<_, zero-le}
 use mathlib.Core.Path.{_≡_, refl, sym, ap, _∙_, subst}
 use mathlib.Core.Bool.{Bool, true, false, cond, _&&_, and-comm}
 use mathlib.Core.List.{List}
@@ -8,9 +8,10 @@ use native.Mathlib.Omega.{arith}
 use lib.Dec.{eqb}
 use borrow.Author.Tests.{eqb-true, eqb-false}
 use Rattle.tariff.specs.Sum.{whenTrue, sumTo}
-use Rattle.tariff.specs.Terms.{termOf, hasMonth}
+use Rattle.tariff.specs.Terms.{termOf, hasMonth, enteringKw}
 use Rattle.tariff.proofs.Sums.{when-is-true, when-le, when-zero, sum-ext, sum-le, sum-zero}
 use Rattle.tariff.proofs.Limits.{limit-le-load}
+use Rattle.tariff.proofs.Entering.{entering-step, entering-tier}
 use Rattle.ledger.specs.Opening.{Opening, hasBase}
 use Rattle.ledger.specs.Ledger.{Ledger, emptyLedger, withLoads, withRights, withPriors, withEvidence, withTiers}
 use Rattle.ledger.specs.Call.{Call, load, carry, prior, verify, migrate, openTier, nominate, award, closeTier}
@@ -24,7 +25,7 @@ use Rattle.ledger.proofs.Steps.{step-keeps, after-keeps}
 use Rattle.ledger.proofs.Columns.{column-plus}
 use Rattle.ledger.proofs.Conserved.{in-place, awardedSum, awarded-adds}
 use Rattle.ledger.proofs.TierFacts.{nominate-facts, award-facts}
-use Rattle.ledger.proofs.TiersSound.{TiersSound, sound-step, sound-empty}
+use Rattle.ledger.proofs.TiersSound.{TiersSound, other-tier, sound-step, sound-empty}
 use Rattle.ledger.proofs.AtBase.{base-other}
 use Rattle.ledger.proofs.WithinLimit.{WithinLimit, within-effect, within-step}
 use Rattle.ledger.proofs.Once.{once-bound}
@@ -83,14 +84,14 @@ unfolding effect withLoads withRights withPriors withEvidence withTiers migrated
 nominated-effect o L (load h s term contract n blocks) k w one old e = old
 nominated-effect o L (carry h p kw) k w one old e = old
 nominated-effect o L (prior h p a l) k w one old e = old
-nominated-effect o L (verify h s kind capacity right first last) k w one old e = old
+nominated-effect o L (verify h s kind capacity right first last mark) k w one old e = old
 nominated-effect o L (migrate term sink lines) k w one old e = old
 nominated-effect o L (openTier tier) k w one old e = old
 nominated-effect o L (nominate h p kw) k w one old e = nominate-bound o L h p kw k w one old e
 nominated-effect o L (award h p kw) k w one old e = old
 nominated-effect o L closeTier k w one old e = close-bound o L k old
 
--- per path, the awards of all holders in all tiers
+-- per path, the awards of all holders in all tiers; the Long Term step's stand in no holding and are left out
 unfoldable pub awardsSum : Opening → Ledger → ℕ → ℕ
 awardsSum o L p = sumTo 10 (λ t. sumTo (o .holders) (λ h. L .tiers .awards h p t))
 
@@ -98,14 +99,29 @@ awardsSum o L p = sumTo 10 (λ t. sumTo (o .holders) (λ h. L .tiers .awards h p
 abbrev pub AwardedBound : Opening → Ledger → Type 0
 AwardedBound o L = (p m : ℕ) → awardedSum o p m L ≤ awardsSum o L p
 
-awards-grow : (o : Opening) (L : Ledger) (x q kw p : ℕ) → TiersSound (L .tiers) → accepted o L (award x q kw) ≡ true → awardsSum o (effect o L (award x q kw)) p ≡ awardsSum o L p + whenTrue (eqb p q) kw
+awards-grow : (o : Opening) (L : Ledger) (x q kw p : ℕ) → TiersSound (L .tiers) → accepted o L (award x q kw) ≡ true → awardsSum o (effect o L (award x q kw)) p ≡ awardsSum o L p + whenTrue (eqb p q) (enteringKw (L .tiers .currentTier) kw)
 unfolding awardsSum effect withTiers withRights awardsAfter
-awards-grow o L x q kw p s e =
-    let k = L .tiers .currentTier in
-    let f = L .tiers .awards in
-    let last : k ≤ 9 = s .openLast in
-    sum-ext {f = λ t. sumTo (o .holders) (λ h. plusAt3 x q k kw f h p t)} {g = λ t. sumTo (o .holders) (λ h. f h p t) + whenTrue (eqb t k && eqb p q) kw} 10 (λ t l. in-place o x q k kw f p t (award-facts o L x q kw e .holder) ∙ ap (λ b. sumTo (o .holders) (λ h. f h p t) + whenTrue b kw) (and-comm (eqb p q) (eqb t k)))
-    ∙ column-plus (λ t. sumTo (o .holders) (λ h. f h p t)) 10 k (eqb p q) kw (omega arith)
+awards-grow o L x q kw p s e = go (eqb (L .tiers .currentTier) 10) refl
+  where
+    k : ℕ
+    k = L .tiers .currentTier
+
+    f : ℕ → ℕ → ℕ → ℕ
+    f = L .tiers .awards
+
+    go : (b : Bool) → eqb k 10 ≡ b → sumTo 10 (λ t. sumTo (o .holders) (λ h. plusAt3 x q k kw f h p t)) ≡ awardsSum o L p + whenTrue (eqb p q) (enteringKw k kw)
+    go true d =
+        let ten = eqb-true k 10 d in
+        let none = ap (whenTrue (eqb p q)) (entering-step k kw ten) ∙ when-zero (eqb p q) in
+        let same = sum-ext {f = λ t. sumTo (o .holders) (λ h. plusAt3 x q k kw f h p t)} {g = λ t. sumTo (o .holders) (λ h. f h p t)} 10 (λ t l. sum-ext (o .holders) (λ h i. other-tier x q k kw f h p t (λ w. omega (arith, w)))) in
+        omega arith
+    go false d =
+        let ne = eqb-false k 10 d in
+        let top : k ≤ 10 = s .openLast in
+        let last : k < 10 = omega (arith, ne) in
+        sum-ext {f = λ t. sumTo (o .holders) (λ h. plusAt3 x q k kw f h p t)} {g = λ t. sumTo (o .holders) (λ h. f h p t) + whenTrue (eqb t k && eqb p q) kw} 10 (λ t l. in-place o x q k kw f p t (award-facts o L x q kw e .holder) ∙ ap (λ b. sumTo (o .holders) (λ h. f h p t) + whenTrue b kw) (and-comm (eqb p q) (eqb t k)))
+        ∙ column-plus (λ t. sumTo (o .holders) (λ h. f h p t)) 10 k (eqb p q) kw last
+        ∙ ap (λ n. sumTo 10 (λ t. sumTo (o .holders) (λ h. f h p t)) + whenTrue (eqb p q) n) (sym (entering-tier k kw ne))
 
 award-bound : (o : Opening) (L : Ledger) (x q kw : ℕ) → TiersSound (L .tiers) → AwardedBound o L → accepted o L (award x q kw) ≡ true → AwardedBound o (effect o L (award x q kw))
 unfolding contribution noContribution
@@ -116,16 +132,19 @@ award-bound o L x q kw k old e p m =
     let smaller = part (eqb p q) (hasMonth (termOf (L .tiers .currentTier)) m) in
     omega arith
   where
-    part : (a b : Bool) → whenTrue (a && b) kw ≤ whenTrue a kw
-    part true b = le-trans (when-le b kw) (le-of-eq (sym (when-is-true kw refl)))
-    part false b = le-refl (whenTrue false kw)
+    in-kw : ℕ
+    in-kw = enteringKw (L .tiers .currentTier) kw
+
+    part : (a b : Bool) → whenTrue (a && b) in-kw ≤ whenTrue a in-kw
+    part true b = le-trans (when-le b in-kw) (le-of-eq (sym (when-is-true in-kw refl)))
+    part false b = le-refl (whenTrue false in-kw)
 
 awarded-effect : (o : Opening) (L : Ledger) (c : Call) → TiersSound (L .tiers) → AwardedBound o L → accepted o L c ≡ true → AwardedBound o (effect o L c)
 unfolding effect withLoads withRights withPriors withEvidence withTiers migrated afterOpen afterNominate afterClose awardsSum contribution noContribution
 awarded-effect o L (load h s term contract n blocks) k old e p m = let a = awarded-adds o p m L (load h s term contract n blocks) e in let b = old p m in omega arith
 awarded-effect o L (carry h q kw) k old e p m = let a = awarded-adds o p m L (carry h q kw) e in let b = old p m in omega arith
 awarded-effect o L (prior h q a l) k old e p m = let a = awarded-adds o p m L (prior h q a l) e in let b = old p m in omega arith
-awarded-effect o L (verify h s kind capacity right first last) k old e p m = let a = awarded-adds o p m L (verify h s kind capacity right first last) e in let b = old p m in omega arith
+awarded-effect o L (verify h s kind capacity right first last mark) k old e p m = let a = awarded-adds o p m L (verify h s kind capacity right first last mark) e in let b = old p m in omega arith
 awarded-effect o L (migrate term sink lines) k old e p m = let a = awarded-adds o p m L (migrate term sink lines) e in let b = old p m in omega arith
 awarded-effect o L (openTier tier) k old e p m = let a = awarded-adds o p m L (openTier tier) e in let b = old p m in omega arith
 awarded-effect o L (nominate h q kw) k old e p m = let a = awarded-adds o p m L (nominate h q kw) e in let b = old p m in omega arith

@@ -14,6 +14,7 @@ use Rattle.tariff.proofs.Limits.{limit-reads-before}
 use Rattle.ledger.specs.Opening.{Opening, hasBase, pathBase}
 use Rattle.ledger.specs.Ledger.{Ledger, withLoads, withRights, withPriors, withEvidence, withTiers}
 use Rattle.ledger.specs.Call.{Call, load, carry, prior, verify, migrate, openTier, nominate, award, closeTier}
+use Rattle.ledger.specs.TenYear.{tenYearAt, tenYearSum}
 use Rattle.ledger.specs.Limits.{sumAtBase, longTermAt, priorYearAt, awardsAt, nominatedAt, limitSums, tierLimit}
 use Rattle.ledger.specs.Migration.{migrated}
 use Rattle.ledger.specs.Effects.{afterOpen, afterNominate, awardsAfter, holdingsAfter, afterClose, effect}
@@ -30,11 +31,11 @@ closed-only L e l = omega arith
 
 -- the limit of an open tier does not change while it is open
 pub limit-steady : (o : Opening) (L : Ledger) (c : Call) (h b : ℕ) → accepted o L c ≡ true → 1 ≤ L .tiers .currentTier → tierLimit o (effect o L c) (L .tiers .currentTier) h b ≡ tierLimit o L (L .tiers .currentTier) h b
-unfolding effect withTiers withRights tierLimit limitSums longTermAt priorYearAt awardsAt afterOpen afterNominate awardsAfter holdingsAfter afterClose
+unfolding effect withTiers withRights tierLimit limitSums longTermAt priorYearAt awardsAt tenYearSum tenYearAt afterOpen afterNominate awardsAfter holdingsAfter afterClose
 limit-steady o L (load x s term contract n blocks) h b e isOpen = absurd (closed-only L (load-facts o L x s term contract n blocks e .idle) isOpen)
 limit-steady o L (carry x p kw) h b e isOpen = absurd (closed-only L (carry-facts o L x p kw e .idle) isOpen)
 limit-steady o L (prior x p a l) h b e isOpen = absurd (closed-only L (prior-facts o L x p a l e .idle) isOpen)
-limit-steady o L (verify x s kind capacity right first last) h b e isOpen = absurd (closed-only L (verify-facts o L x s kind capacity right first last e .idle) isOpen)
+limit-steady o L (verify x s kind capacity right first last mark) h b e isOpen = absurd (closed-only L (verify-facts o L x s kind capacity right first last mark e .idle) isOpen)
 limit-steady o L (migrate term sink lines) h b e isOpen = absurd (closed-only L (migrate-facts o L term sink lines e .idle) isOpen)
 limit-steady o L (openTier tier) h b e isOpen = absurd (closed-only L (open-facts o L tier e .idle) isOpen)
 limit-steady o L (nominate x q kw) h b e isOpen = refl
@@ -48,6 +49,8 @@ limit-steady o L (award x q kw) h b e isOpen =
       tier2 = λ l. base-other o b x q (L .tiers .currentTier) kw h 2 (L .tiers .awards) (λ q. omega (arith, q));
       tier3 = λ l. base-other o b x q (L .tiers .currentTier) kw h 3 (L .tiers .awards) (λ q. omega (arith, q));
       before = base-other o b x q (L .tiers .currentTier) kw h (L .tiers .currentTier - 1) (L .tiers .awards) (λ q. omega (arith, q));
+      tenYear = refl;
+      obaalse = refl;
     })
 limit-steady o L closeTier h b e isOpen = refl
 
@@ -60,7 +63,7 @@ pub opened-empty : (o : Opening) (L : Ledger) (tier h b : ℕ) → TiersSound (L
 unfolding nominatedAt sumAtBase effect withTiers afterOpen
 opened-empty o L tier h b k e =
     let f = open-facts o L tier e in
-    sum-zero (o .paths) (λ p l. ap (whenTrue (hasBase o b p)) (k .fresh h p tier (omega arith) (λ q. omega (arith, q))) ∙ when-zero (hasBase o b p))
+    sum-zero (o .paths) (λ p l. ap (whenTrue (hasBase o b p)) (k .fresh h p tier (λ q. omega (arith, q)) (f .afterLastClosed) (f .notOpenedBefore)) ∙ when-zero (hasBase o b p))
 
 -- what a nomination adds at a base, where it was accepted
 pub nominate-adds : (o : Opening) (L : Ledger) (x q kw h b : ℕ) → accepted o L (nominate x q kw) ≡ true → nominatedAt o (effect o L (nominate x q kw)) h b (L .tiers .currentTier) ≡ nominatedAt o L h b (L .tiers .currentTier) + whenTrue (eqb h x && hasBase o b q) kw
@@ -96,7 +99,7 @@ unfolding effect withLoads withRights withPriors withEvidence withTiers migrated
 within-effect o L (load x s term contract n blocks) k w e isOpen = absurd (closed-only L (load-facts o L x s term contract n blocks e .idle) isOpen)
 within-effect o L (carry x p kw) k w e isOpen = absurd (closed-only L (carry-facts o L x p kw e .idle) isOpen)
 within-effect o L (prior x p a l) k w e isOpen = absurd (closed-only L (prior-facts o L x p a l e .idle) isOpen)
-within-effect o L (verify x s kind capacity right first last) k w e isOpen = absurd (closed-only L (verify-facts o L x s kind capacity right first last e .idle) isOpen)
+within-effect o L (verify x s kind capacity right first last mark) k w e isOpen = absurd (closed-only L (verify-facts o L x s kind capacity right first last mark e .idle) isOpen)
 within-effect o L (migrate term sink lines) k w e isOpen = absurd (closed-only L (migrate-facts o L term sink lines e .idle) isOpen)
 within-effect o L (openTier tier) k w e isOpen = λ h b. le-trans (le-of-eq (opened-empty o L tier h b k e)) zero-le
 within-effect o L (nominate x q kw) k w e isOpen =

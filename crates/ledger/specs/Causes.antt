@@ -1,21 +1,24 @@
--- For each call and query its causes in ascending number, and the refusal: the number of the first that is met, 0 for none (01, Refusals by cause).
+-- For each call and query its causes in their order, that of their numbers but where 02 says another, and the refusal: the number of the first that is met,
+-- 0 for none (01, Refusals by cause; 02).
 use Prim.Native.Nat.{ℕ, _+_}
 use mathlib.Core.Bool.{Bool, cond, not, _&&_, _||_}
 use mathlib.Core.List.{List, [], _∷_}
-use lib.Dec.{ltb, eqb}
+use lib.Dec.{leb, ltb, eqb}
 use Rattle.netting.specs.declared.netting.ClassLine.{ClassLine}
 use Rattle.tariff.specs.Sum.{anyOf, anyBelow}
 use Rattle.tariff.specs.Load.{Block, blocksBroken, tooManyMissing}
-use Rattle.tariff.specs.Terms.{termOf}
+use Rattle.tariff.specs.Terms.{termOf, isLongTermStep}
+use Rattle.tariff.specs.Eligible.{fifthOfLoad}
 use Rattle.netting.specs.Migration.{netted, lostBy}
-use Rattle.ledger.specs.Opening.{Opening, lse, obaalse, subLap, schedulingPoint, holderKind, sinkKind, pathSource, pathSink, pathBase}
+use Rattle.ledger.specs.Opening.{Opening, lse, obaalse, subLap, schedulingPoint, holderKind, sinkKind, pathSource, pathSink, pathBase, hasBase}
 use Rattle.ledger.specs.Call.{Call, load, carry, prior, verify, migrate, openTier, nominate, award, closeTier, Query, limitOf, heldOn, netOn}
 use Rattle.ledger.specs.Ledger.{Ledger}
 use Rattle.ledger.specs.Calendar.{tierIsOpen, beforeTier, loadInTime, migrationInTime, isNextTier}
-use Rattle.ledger.specs.Limits.{nominatedAt, tierLimit}
+use Rattle.ledger.specs.Limits.{longTermAt, nominatedAt, tierLimit}
+use Rattle.ledger.specs.TenYear.{hasTenYear}
 use Rattle.ledger.specs.Verification.{verifiedKw, sourceUsage}
 use Rattle.ledger.specs.Migration.{loadBefore}
-use Rattle.ledger.specs.Numbers.{notInBook, outOfRange, notAtThisTime, postedBefore, brokenBlocks, hoursMissing, notBetweenLses, lossAboveLoad, sinkIneligible, aboveVerified, abovePrior, aboveLimit, aboveNominated, Cause, cause, firstMet}
+use Rattle.ledger.specs.Numbers.{notInBook, outOfRange, notAtThisTime, postedBefore, brokenBlocks, hoursMissing, notBetweenLses, lossAboveLoad, sinkIneligible, aboveVerified, abovePrior, aboveTier1Award, noTenYearEvidence, aboveLimit, aboveNominated, Cause, cause, firstMet}
 use Rattle.tariff.specs.Ranges.{kwOutOfRange, monthOutOfRange, evidenceOutOfRange}
 use Rattle.ledger.specs.Ranges.{unknownHolder, unknownSource, unknownSink, unknownPath, unknownHolderIn, loadOutOfRange, priorOutOfRange, migrationOutOfRange, tierOutOfRange}
 
@@ -39,14 +42,38 @@ kindIneligible o h s = cond (eqb (holderKind o h) lse) (eqb (sinkKind o s) sched
 unfoldable pub isSubLap : Opening → ℕ → Bool
 isSubLap o s = eqb (sinkKind o s) subLap
 
--- cause 11: with kw more, an OBAALSE uses more of the path's source than it has verified for the tier's term
+-- cause 11: with kw more, an OBAALSE uses more of the path's source than it has verified for the tier's term; not in the Long Term step (02, 1/14)
 unfoldable pub exceedsVerified : Opening → Ledger → ℕ → ℕ → ℕ → ℕ → Bool
 exceedsVerified o L tier h p kw =
-    eqb (holderKind o h) obaalse && ltb (verifiedKw L h (pathSource o p) (termOf tier)) (sourceUsage o L tier h (pathSource o p) + kw)
+    not (isLongTermStep tier)
+    && eqb (holderKind o h) obaalse
+    && ltb (verifiedKw L h (pathSource o p) (termOf tier)) (sourceUsage o L tier h (pathSource o p) + kw)
 
 -- cause 12: with kw more, the holder's tier 1 nominations on the path exceed its a − l
 unfoldable pub exceedsPrior : Ledger → ℕ → ℕ → ℕ → ℕ → Bool
 exceedsPrior L tier h p kw = eqb tier 1 && ltb (L .priors .remaining h p) (L .tiers .nominated h p tier + kw)
+
+-- cause 17: with kw more, the holder's nominations on the path in the Long Term step exceed its tier 1 award there (02, 1/14)
+unfoldable pub exceedsTier1Award : Ledger → ℕ → ℕ → ℕ → ℕ → Bool
+exceedsTier1Award L tier h p kw = isLongTermStep tier && ltb (L .tiers .awards h p 1) (L .tiers .nominated h p tier + kw)
+
+-- cause 18: ten-year evidence is needed by an OBAALSE, and by any other holder whose nominations at the base, kw more with them, plus LT of month 1 exceed
+-- a fifth of its load of the season (02, 1/14)
+unfoldable pub needsTenYear : Opening → Ledger → ℕ → ℕ → ℕ → ℕ → Bool
+needsTenYear o L tier h b kw =
+    eqb (holderKind o h) obaalse
+    || ltb (fifthOfLoad (L .loads .kw h b 0)) (nominatedAt o L h b tier + kw + longTermAt o L h b 1)
+
+-- it is needed at the source of this path, and of each path at its base that the holder has nominated on in the tier (02, 1/14)
+unfoldable pub needsEvidenceAt : Opening → Ledger → ℕ → ℕ → ℕ → ℕ → Bool
+needsEvidenceAt o L tier h p q = eqb q p || (hasBase o (pathBase o p) q && leb 1 (L .tiers .nominated h q tier))
+
+-- cause 18: in the Long Term step, ten-year evidence is needed at a source that has none (02, 1/14)
+unfoldable pub lacksTenYear : Opening → Ledger → ℕ → ℕ → ℕ → ℕ → Bool
+lacksTenYear o L tier h p kw =
+    isLongTermStep tier
+    && needsTenYear o L tier h (pathBase o p) kw
+    && anyBelow (o .paths) (λ q. needsEvidenceAt o L tier h p q && not (hasTenYear L h (pathSource o q)))
 
 -- cause 13: with kw more, the holder's nominations at the path's base exceed the limit
 unfoldable pub exceedsLimit : Opening → Ledger → ℕ → ℕ → ℕ → ℕ → Bool
@@ -86,10 +113,10 @@ module _ (o : Opening) (L : Ledger) where
       ∷ cause sinkIneligible (kindIneligible o h (pathSink o p))
       ∷ []
 
-  unfoldable pub verifyCauses : ℕ → ℕ → ℕ → ℕ → ℕ → ℕ → ℕ → List Cause
-  verifyCauses h s kind capacity right first last =
+  unfoldable pub verifyCauses : ℕ → ℕ → ℕ → ℕ → ℕ → ℕ → ℕ → ℕ → List Cause
+  verifyCauses h s kind capacity right first last mark =
       cause notInBook (unknownHolder o h || unknownSource o s)
-      ∷ cause outOfRange (evidenceOutOfRange kind capacity right first last)
+      ∷ cause outOfRange (evidenceOutOfRange kind capacity right first last mark)
       ∷ cause notAtThisTime (tierIsOpen L)
       ∷ cause postedBefore (L .evidence .posted h s kind)
       ∷ []
@@ -109,6 +136,7 @@ module _ (o : Opening) (L : Ledger) where
       ∷ cause notAtThisTime (not (isNextTier tier L))
       ∷ []
 
+  -- the step's 17 and 18 come straight after 12 (02, 1/14)
   unfoldable pub nominateCauses : ℕ → ℕ → ℕ → List Cause
   nominateCauses h p kw =
       let tier = L .tiers .currentTier in
@@ -118,6 +146,8 @@ module _ (o : Opening) (L : Ledger) where
       ∷ cause sinkIneligible (kindIneligible o h (pathSink o p) || (eqb tier 1 && isSubLap o (pathSink o p)))
       ∷ cause aboveVerified (exceedsVerified o L tier h p kw)
       ∷ cause abovePrior (exceedsPrior L tier h p kw)
+      ∷ cause aboveTier1Award (exceedsTier1Award L tier h p kw)
+      ∷ cause noTenYearEvidence (lacksTenYear o L tier h p kw)
       ∷ cause aboveLimit (exceedsLimit o L tier h p kw)
       ∷ []
 
@@ -136,7 +166,7 @@ module _ (o : Opening) (L : Ledger) where
   callCauses (load h s term contract n blocks) = loadCauses h s term contract n blocks
   callCauses (carry h p kw) = carryCauses h p kw
   callCauses (prior h p a l) = priorCauses h p a l
-  callCauses (verify h s kind capacity right first last) = verifyCauses h s kind capacity right first last
+  callCauses (verify h s kind capacity right first last mark) = verifyCauses h s kind capacity right first last mark
   callCauses (migrate term sink lines) = migrateCauses term sink lines
   callCauses (openTier tier) = openCauses tier
   callCauses (nominate h p kw) = nominateCauses h p kw

@@ -1,11 +1,11 @@
--- What an accepted call does to the ledger (01, The plain ledger).
+-- What an accepted call does to the ledger (01, The plain ledger; 02, 1/14).
 use Prim.Native.Nat.{ℕ, _+_, _-_}
 use mathlib.Core.Bool.{Bool, cond, _&&_, _||_}
 use lib.Dec.{eqb}
 use Rattle.tariff.specs.declared.evidence.Entry.{Entry}
 use Rattle.tariff.specs.Sum.{whenTrue}
 use Rattle.tariff.specs.Load.{loadPosted}
-use Rattle.tariff.specs.Terms.{termOf, hasMonth}
+use Rattle.tariff.specs.Terms.{termOf, hasMonth, isLongTermStep, enteringKw}
 use Rattle.tariff.specs.Evidence.{entryOf}
 use Rattle.ledger.specs.Opening.{Opening}
 use Rattle.ledger.specs.Call.{Call, load, carry, prior, verify, migrate, openTier, nominate, award, closeTier}
@@ -64,7 +64,7 @@ afterVerify x h s kind filed =
       posted = λ i j k. same3 h s kind i j k || x .posted i j k;
     }
 
--- open notes the tier
+-- open notes the tier, and the Long Term step as held
 unfoldable pub afterOpen : Tiers → ℕ → Tiers
 afterOpen x tier =
     record {
@@ -72,6 +72,7 @@ afterOpen x tier =
       awards = x .awards;
       lastClosed = x .lastClosed;
       currentTier = tier;
+      stepHeld = isLongTermStep tier || x .stepHeld;
     }
 
 -- nominate adds its kW in the open tier
@@ -82,6 +83,7 @@ afterNominate x h p kw =
       awards = x .awards;
       lastClosed = x .lastClosed;
       currentTier = x .currentTier;
+      stepHeld = x .stepHeld;
     }
 
 -- award adds its kW to the open tier's awards ..
@@ -92,25 +94,27 @@ awardsAfter x h p kw =
       awards = plusAt3 h p (x .currentTier) kw (x .awards);
       lastClosed = x .lastClosed;
       currentTier = x .currentTier;
+      stepHeld = x .stepHeld;
     }
 
--- .. and to the awarded holding of the tier's month, or of all three
+-- .. and to the awarded holding of the tier's month, or of all three; the Long Term step's award enters none
 unfoldable pub holdingsAfter : Rights → ℕ → ℕ → ℕ → ℕ → Rights
 holdingsAfter x tier h p kw =
     record {
       carried = x .carried;
-      awarded = plusInTerm (termOf tier) h p kw (x .awarded);
+      awarded = plusInTerm (termOf tier) h p (enteringKw tier kw) (x .awarded);
       posted = x .posted;
     }
 
--- close puts the open tier's nominated kW down to the awarded and notes the tier closed
+-- close puts the open tier's nominated kW down to the awarded and notes the tier closed; the Long Term step does not count as last closed
 unfoldable pub afterClose : Tiers → Tiers
 afterClose x =
     record {
       nominated = λ h p t. cond (eqb t (x .currentTier)) (x .awards h p t) (x .nominated h p t);
       awards = x .awards;
-      lastClosed = x .currentTier;
+      lastClosed = cond (isLongTermStep (x .currentTier)) (x .lastClosed) (x .currentTier);
       currentTier = 0;
+      stepHeld = x .stepHeld;
     }
 
 -- the ledger after an accepted call
@@ -118,8 +122,8 @@ unfoldable pub effect : Opening → Ledger → Call → Ledger
 effect o L (load h s term contract n blocks) = withLoads L (afterLoad (L .loads) h s term (loadPosted contract blocks))
 effect o L (carry h p kw) = withRights L (afterCarry (L .rights) h p kw)
 effect o L (prior h p a l) = withPriors L (afterPrior (L .priors) h p a l)
-effect o L (verify h s kind capacity right first last) =
-    withEvidence L (afterVerify (L .evidence) h s kind (entryOf kind capacity right first last))
+effect o L (verify h s kind capacity right first last mark) =
+    withEvidence L (afterVerify (L .evidence) h s kind (entryOf kind capacity right first last mark))
 effect o L (migrate term sink lines) = migrated o L term sink lines
 effect o L (openTier tier) = withTiers L (afterOpen (L .tiers) tier)
 effect o L (nominate h p kw) = withTiers L (afterNominate (L .tiers) h p kw)

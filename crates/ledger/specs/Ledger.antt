@@ -1,4 +1,4 @@
--- The plain ledger's figures (01, The plain ledger), as functions of the holder and of what the figure is kept for.
+-- The plain ledger's figures (01, The plain ledger; 02, 1/14), as functions of the holder and of what the figure is kept for.
 use Prim.Native.Nat.{ℕ}
 use mathlib.Core.Bool.{Bool, false}
 use Rattle.tariff.specs.declared.evidence.Entry.{Entry}
@@ -26,12 +26,14 @@ pub record EvidenceRecord : Type 0 where
   pub entry : ℕ → ℕ → ℕ → Entry
   pub posted : ℕ → ℕ → ℕ → Bool
 
--- by holder, path and tier: the kW nominated and the kW awarded; the tier last closed, and the open one. 0 is none
+-- by holder, path and tier: the kW nominated and the kW awarded, where tier 10 is the Long Term step's own record; the tier last closed, and the open one
+-- (0 is none), and whether the step was held
 pub record Tiers : Type 0 where
   pub nominated : ℕ → ℕ → ℕ → ℕ
   pub awards : ℕ → ℕ → ℕ → ℕ
   pub lastClosed : ℕ
   pub currentTier : ℕ
+  pub stepHeld : Bool
 
 pub record Ledger : Type 0 where
   pub loads : Loads
@@ -48,7 +50,7 @@ emptyLedger =
       rights = record { carried = λ h p m. 0; awarded = λ h p m. 0; posted = λ h p. false };
       priors = record { allocated = λ h p. 0; remaining = λ h p. 0; posted = λ h p. false };
       evidence = record { entry = λ h s k. emptyEntry; posted = λ h s k. false };
-      tiers = record { nominated = λ h p t. 0; awards = λ h p t. 0; lastClosed = 0; currentTier = 0 };
+      tiers = record { nominated = λ h p t. 0; awards = λ h p t. 0; lastClosed = 0; currentTier = 0; stepHeld = false };
     }
 
 -- a ledger with one of its parts replaced

@@ -1,11 +1,13 @@
--- The sums that a limit is made of, and the limit of a holder at a base in a tier (01, Limits).
+-- The sums that a limit is made of, and the limit of a holder at a base in a tier (01, Limits; 02, 1/14).
 use Prim.Native.Nat.{ℕ, _-_}
+use lib.Dec.{eqb}
 use Rattle.tariff.specs.Sum.{whenTrue, sumTo}
-use Rattle.tariff.specs.Terms.{termOf, carriedMonth}
+use Rattle.tariff.specs.Terms.{termOf, carriedMonth, isLongTermStep}
 use Rattle.tariff.specs.declared.limit.Sums.{Sums}
 use Rattle.tariff.specs.Limit.{limitOfSums}
-use Rattle.ledger.specs.Opening.{Opening, hasBase}
+use Rattle.ledger.specs.Opening.{Opening, obaalse, holderKind, hasBase}
 use Rattle.ledger.specs.Ledger.{Ledger}
+use Rattle.ledger.specs.TenYear.{tenYearSum}
 
 -- f summed over the paths whose sink has this base
 unfoldable pub sumAtBase : Opening → ℕ → (ℕ → ℕ) → ℕ
@@ -27,6 +29,7 @@ awardsAt o L h b tier = sumAtBase o b (λ p. L .tiers .awards h p tier)
 unfoldable pub nominatedAt : Opening → Ledger → ℕ → ℕ → ℕ → ℕ
 nominatedAt o L h b tier = sumAtBase o b (λ p. L .tiers .nominated h p tier)
 
+-- ten-year evidence counts in the Long Term step alone
 unfoldable pub limitSums : Opening → Ledger → ℕ → ℕ → ℕ → Sums
 limitSums o L tier h b =
     record {
@@ -37,6 +40,8 @@ limitSums o L tier h b =
       tier2 = awardsAt o L h b 2;
       tier3 = awardsAt o L h b 3;
       before = awardsAt o L h b (tier - 1);
+      «ten_year_kw» = whenTrue (isLongTermStep tier) (tenYearSum o L h);
+      obaalse = eqb (holderKind o h) obaalse;
     }
 
 -- the limit on what a holder nominates at a base in a tier

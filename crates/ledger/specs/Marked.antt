@@ -13,8 +13,8 @@ use Rattle.ledger.specs.Season.{Request, call, query, Answer, done, valu
 pub record Case : Type 0 where
   -- what the definitions give
   pub given : List Answer
-  -- what 01 marks
-  pub marked : List Answer
+  -- the answers that 01 marks, or that the sentences of 02 come to
+  pub expected : List Answer
 
 unfoldable pub upTo : ℕ → List ℕ
 upTo zero = []
@@ -80,7 +80,7 @@ unfoldable pub answers1 : List Answer
 answers1 = done ∷ done ∷ done ∷ done ∷ done ∷ value 200 ∷ refused 13 ∷ done ∷ done ∷ refused 14 ∷ done ∷ value 150 ∷ []
 
 unfoldable pub case1 : Case
-case1 = record { given = season opening1 (requests1 ++ rest1); marked = answers1 }
+case1 = record { given = season opening1 (requests1 ++ rest1); expected = answers1 }
 
 -- case 2: 397 hours at 1,000 kW and 3 at 5,000: the metric is 5,000, and so is the month's limit
 unfoldable pub blocks2 : List Block
@@ -93,7 +93,7 @@ case2 =
           value (metric blocks2)
           ∷ season (oneSink (lse ∷ []) 0 defaultLap)
           (call (load 0 0 1 0 400 blocks2) ∷ (passTier 1 ++ passTier 2 ++ passTier 3 ++ (call (openTier 4) ∷ query (limitOf 0 0) ∷ [])));
-      marked = value 5000 ∷ (replicate 9 done ++ (value 5000 ∷ []));
+      expected = value 5000 ∷ (replicate 9 done ++ (value 5000 ∷ []));
     }
 
 -- case 3: of 100 hours 2 may be missing, and 3 are 7
@@ -103,12 +103,12 @@ case3 =
       given =
           season (oneSink (lse ∷ lse ∷ []) 0 defaultLap)
           (call (load 0 0 0 0 100 (block 0 98 1000 ∷ [])) ∷ call (load 1 0 0 0 100 (block 0 97 1000 ∷ [])) ∷ []);
-      marked = done ∷ done ∷ refused 7 ∷ [];
+      expected = done ∷ done ∷ refused 7 ∷ [];
     }
 
 -- case 4: a metric of 1,000 and a contract of 1,200 post 0
 unfoldable pub case4 : Case
-case4 = record { given = value (loadPosted 1200 (block 0 100 1000 ∷ [])) ∷ []; marked = value 0 ∷ [] }
+case4 = record { given = value (loadPosted 1200 (block 0 100 1000 ∷ [])) ∷ []; expected = value 0 ∷ [] }
 
 -- case 5: a load of 3 has S 2 and P 1: with nothing awarded or carried these are the limits of tiers 3 and 2
 unfoldable pub case5 : Case
@@ -120,19 +120,19 @@ case5 =
           ∷ season (oneSink (lse ∷ []) 0 defaultLap)
           (steadyLoad 0 0 3
           ∷ (passTier 1 ++ (call (openTier 2) ∷ query (limitOf 0 0) ∷ call closeTier ∷ call (openTier 3) ∷ query (limitOf 0 0) ∷ [])));
-      marked = value 2 ∷ value 1 ∷ (replicate 5 done ++ (value 1 ∷ done ∷ done ∷ value 2 ∷ []));
+      expected = value 2 ∷ value 1 ∷ (replicate 5 done ++ (value 1 ∷ done ∷ done ∷ value 2 ∷ []));
     }
 
 -- case 6: in case 1's tier 1, 281 on path 1 is above a − l and above the limit: 12, not 13
 unfoldable pub case6 : Case
-case6 = record { given = season opening1 (requests1 ++ (call (nominate 0 1 281) ∷ [])); marked = replicate 5 done ++ (refused 12 ∷ []) }
+case6 = record { given = season opening1 (requests1 ++ (call (nominate 0 1 281) ∷ [])); expected = replicate 5 done ++ (refused 12 ∷ []) }
 
 -- case 7: after case 1, tier 2's limit is 250
 unfoldable pub case7 : Case
 case7 =
     record {
       given = season opening1 (requests1 ++ rest1 ++ (call (openTier 2) ∷ query (limitOf 0 0) ∷ []));
-      marked = answers1 ++ (done ∷ value 250 ∷ []);
+      expected = answers1 ++ (done ∷ value 250 ∷ []);
     }
 
 -- case 8: held 100, L 1,000, 500 to each of two: keeps 0
@@ -148,7 +148,7 @@ case8 =
           ∷ query (heldOn 1 0 1)
           ∷ query (heldOn 2 0 1)
           ∷ []);
-      marked = replicate 4 done ++ (value 0 ∷ value 50 ∷ value 50 ∷ []);
+      expected = replicate 4 done ++ (value 0 ∷ value 50 ∷ value 50 ∷ []);
     }
 
 -- case 9: held 1, m 999, L 1,000: keeps 1
@@ -163,7 +163,7 @@ case9 =
           ∷ query (heldOn 0 0 1)
           ∷ query (heldOn 1 0 1)
           ∷ []);
-      marked = replicate 4 done ++ (value 1 ∷ value 0 ∷ []);
+      expected = replicate 4 done ++ (value 1 ∷ value 0 ∷ []);
     }
 
 -- case 10: 1,500 W against 501 W: m is 0, and nothing moves
@@ -177,10 +177,10 @@ case10 =
           value (netted lines10 0 1)
           ∷ season (oneSink (lse ∷ lse ∷ []) 1 defaultLap)
           (steadyLoad 0 0 1000 ∷ call (carry 0 0 1000) ∷ call (migrate 0 0 lines10) ∷ query (heldOn 0 0 1) ∷ []);
-      marked = value 0 ∷ (replicate 4 done ++ (value 1000 ∷ []));
+      expected = value 0 ∷ (replicate 4 done ++ (value 1000 ∷ []));
     }
 
--- case 11: capacity 1,000 and right 3,333: 334 is 11, 333 is taken
+-- case 11: capacity 1,000 and right 3,333, not marked ten-year (02, 1/14): 334 is 11, 333 is taken
 unfoldable pub case11 : Case
 case11 =
     record {
@@ -188,12 +188,12 @@ case11 =
           season (oneSink (obaalse ∷ []) 1 schedulingPoint)
           (steadyLoad 0 0 1000
           ∷ call (prior 0 0 1000 0)
-          ∷ call (verify 0 0 1 1000 3333 1 3)
+          ∷ call (verify 0 0 1 1000 3333 1 3 0)
           ∷ call (openTier 1)
           ∷ call (nominate 0 0 334)
           ∷ call (nominate 0 0 333)
           ∷ []);
-      marked = replicate 5 done ++ (refused 11 ∷ done ∷ []);
+      expected = replicate 5 done ++ (refused 11 ∷ done ∷ []);
     }
 
 -- case 12: a month's load of 700 with awards of 650 in the season and 100 carried: limit 0
@@ -206,7 +206,7 @@ case12 =
           ∷ steadyLoad 0 1 700
           ∷ call (carry 0 0 100)
           ∷ (passTier 1 ++ fullTier 2 0 400 ++ fullTier 3 0 250 ++ (call (openTier 4) ∷ query (limitOf 0 0) ∷ [])));
-      marked = replicate 15 done ++ (value 0 ∷ []);
+      expected = replicate 15 done ++ (value 0 ∷ []);
     }
 
 unfoldable pub markedCases : List Case

@@ -1,4 +1,4 @@
--- The numbers of the causes that a call or a query can meet (01, Refusals by cause), and the first cause of a list that is met.
+-- The numbers of the causes that a call or a query can meet (01, Refusals by cause; 02), and the first cause of a list that is met.
 -- 1 is met by lists of unequal length and by the script; 15 belongs to the host; 16 is the opening's.
 use Prim.Native.Nat.{ℕ}
 use mathlib.Core.Bool.{Bool, cond}
@@ -45,6 +45,14 @@ aboveLimit = 13
 -- an award above what is nominated and unawarded
 abbrev pub aboveNominated : ℕ
 aboveNominated = 14
+
+-- in the Long Term step, above the holder's tier 1 award on the path (02, 1/14)
+abbrev pub aboveTier1Award : ℕ
+aboveTier1Award = 17
+
+-- in the Long Term step, a source without ten-year evidence (02, 1/14)
+abbrev pub noTenYearEvidence : ℕ
+noTenYearEvidence = 18
 
 -- a kind, parent, path or count of the opening breaks the rules
 abbrev pub breaksRules : ℕ

@@ -5,7 +5,7 @@ use mathlib.Core.List.{List}
 use lib.ListN.{length}
 use lib.Dec.{leb, ltb}
 use Rattle.netting.specs.declared.netting.ClassLine.{ClassLine}
-use Rattle.tariff.specs.Sizes.{maxHours, lastTier, maxClassLines}
+use Rattle.tariff.specs.Sizes.{maxHours, longTermStep, maxClassLines}
 use Rattle.tariff.specs.Sum.{anyOf}
 use Rattle.tariff.specs.Load.{Block}
 use Rattle.tariff.specs.Ranges.{maxKw, within, kwOutOfRange, termOutOfRange}
@@ -49,5 +49,6 @@ priorOutOfRange a l = kwOutOfRange a || ltb a l
 unfoldable pub migrationOutOfRange : ℕ → List ClassLine → Bool
 migrationOutOfRange term lines = termOutOfRange term || ltb maxClassLines (length lines) || anyOf lines classLineOutOfRange
 
+-- open: a tier, 1 to 9, or the Long Term step, 10 (02, 1/14)
 unfoldable pub tierOutOfRange : ℕ → Bool
-tierOutOfRange tier = not (within 1 lastTier tier)
+tierOutOfRange tier = not (within 1 longTermStep tier)

@@ -1,11 +1,11 @@
--- Sums over the accepted calls of a list (01, The plain ledger): what the holdings, loads and nominations are held against.
+-- Sums over the accepted calls of a list (01, The plain ledger; 02, 1/14): what the holdings, loads and nominations are held against.
 use Prim.Native.Nat.{ℕ, _+_}
 use mathlib.Core.Bool.{Bool, true, false, cond, _&&_}
 use mathlib.Core.List.{List, [], _∷_}
 use lib.Dec.{eqb}
 use Rattle.tariff.specs.Sum.{whenTrue}
 use Rattle.tariff.specs.Load.{loadPosted}
-use Rattle.tariff.specs.Terms.{termOf, hasMonth}
+use Rattle.tariff.specs.Terms.{termOf, hasMonth, enteringKw}
 use Rattle.ledger.specs.Opening.{Opening, hasBase}
 use Rattle.ledger.specs.Call.{Call, load, carry, prior, verify, migrate, openTier, nominate, award, closeTier}
 use Rattle.ledger.specs.Ledger.{Ledger, emptyLedger}
@@ -39,16 +39,16 @@ unfoldable pub noContribution : Contribution
 noContribution = record { carried = none; awarded = neither; posted = neither; nominated = neither; closes = false }
 
 -- 01, The plain ledger: a load posts at its sink and term, a carry brings in on its path, an award counts on its path in tiers 1 to 3 for every month and else for
--- the tier's own, a nomination counts at its path's base, a close ends the tier; the other calls add nothing
+-- the tier's own, but in the Long Term step for none; a nomination counts at its path's base, a close ends the tier; the other calls add nothing
 unfoldable pub contribution : Opening → Ledger → Call → Contribution
 contribution o L (load h s term contract n blocks) = record { carried = none; awarded = neither; posted = λ q t. whenTrue (eqb q s && eqb t term) (loadPosted contract blocks); nominated = neither; closes = false }
 contribution o L (carry h p kw) = record { carried = λ q. whenTrue (eqb q p) kw; awarded = neither; posted = neither; nominated = neither; closes = false }
 contribution o L (prior h p a l) = noContribution
-contribution o L (verify h s kind capacity right first last) = noContribution
+contribution o L (verify h s kind capacity right first last mark) = noContribution
 contribution o L (migrate term sink lines) = noContribution
 contribution o L (openTier tier) = noContribution
 contribution o L (nominate h p kw) = record { carried = none; awarded = neither; posted = neither; nominated = λ x b. whenTrue (eqb x h && hasBase o b p) kw; closes = false }
-contribution o L (award h p kw) = record { carried = none; awarded = λ q m. whenTrue (eqb q p && hasMonth (termOf (L .tiers .currentTier)) m) kw; posted = neither; nominated = neither; closes = false }
+contribution o L (award h p kw) = record { carried = none; awarded = λ q m. whenTrue (eqb q p && hasMonth (termOf (L .tiers .currentTier)) m) (enteringKw (L .tiers .currentTier) kw); posted = neither; nominated = neither; closes = false }
 contribution o L closeTier = record { carried = none; awarded = neither; posted = neither; nominated = neither; closes = true }
 
 -- MW carried in on a path, MW awarded on a path for a month, load posted at a sink and term, from the book's opening on

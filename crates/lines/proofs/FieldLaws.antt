@@ -6,7 +6,7 @@ use mathlib.Core.List.{List, [], _∷_, _++_, map}
 use mathlib.Core.Logic.{_⊎_, inl, inr, ⊎-elim}
 use native.Mathlib.Numerals.{add-one}
 use native.Mathlib.Omega.{arith}
-use borrow.Author.Tests.{le-leb, lt-leb, leb-true, ltb-true, ltb-false, ne-eqb}
+use borrow.Author.Tests.{le-leb, lt-leb, leb-true, ltb-true, ltb-false, eqb-true, eqb-false, ne-eqb}
 use lib.ListN.{length, getD, take, drop, set, length-map, length-drop, drop-of-length-le, List·getD-eq-default, List·getD-append}
 use lib.Seq.{take-all, sets, sets-eq, length-sets, getD-append-add, getD-drop, drop-drop}
 use lib.Dec.{eqb, leb, ltb}
@@ -165,6 +165,23 @@ module _ (count : ℕ) (numbers : List ℕ) (at : ℕ) (bytes : List ℕ) where
           ∙ ap₂ (λ t n. restIf t (count + 1) (set numbers count (valueOf digits)) (fieldsAfter (lineText (drop (length digits) bytes))) n) (feed-after bytes ∙ ap (λ n. hasLineFeed (drop n bytes)) width ∙ sym (ap (λ t. t && hasLineFeed (drop (length digits) bytes)) q)) place
       go false q = at-comma ∙ field-refused _ count numbers _ _ _ (number-ends q) ∙ sym (rest-refused _ _ _ _ _ (and-left-false _ q))
 
+-- a byte that is not 0 stands inside the bytes
+pub byte-inside : (rest : List ℕ) (at b : ℕ) → 0 < b → getD rest at 0 ≡ b → at < length rest
+byte-inside rest at b some e = go (decided (ltb at (length rest)))
+  where
+    go : (ltb at (length rest) ≡ true) ⊎ (ltb at (length rest) ≡ false) → at < length rest
+    go (inl t) = ltb-true at (length rest) t
+    go (inr t) =
+        let none : getD rest at 0 ≡ 0 = List·getD-eq-default rest 0 {n = at} (ltb-false at (length rest) t) in
+        absurd (let z : ⊥ = omega (arith, e) in z)
+
+-- what the test of the loop over the fields says where it passes, and of the byte that stands there where it does not
+pub field-follows : (byte count : ℕ) → (eqb byte comma && ltb count maxFields) ≡ true → (byte ≡ comma) × (count < maxFields)
+field-follows byte count t = let both = and-both (eqb byte comma) (ltb count maxFields) t in (eqb-true byte comma (both .0), ltb-true count maxFields (both .1))
+
+pub none-follows : (byte there count : ℕ) → byte ≡ there → (eqb byte comma && ltb count maxFields) ≡ false → (eqb there comma && ltb count maxFields) ≡ false
+none-follows byte there count is t = ap (λ n. eqb n comma && ltb count maxFields) (sym is) ∙ t
+
 -- a turn of the reading: from one comma of a line to the next
 module _ (rest : List ℕ) (start at count : ℕ) (numbers : List ℕ) (passed : fieldsRead start (drop start rest) ≡ readFrom count numbers at (drop at rest)) where
   here : (b : ℕ) → at < length rest → getD rest at 0 ≡ b → fieldsRead start (drop start rest) ≡ readFrom count numbers at (b ∷ drop (at + 1) rest)
@@ -174,21 +191,26 @@ module _ (rest : List ℕ) (start at count : ℕ) (numbers : List ℕ) (passed :
   unfolding readFrom fieldEnds hasLineFeed anyOf lineText bytesBefore fieldsAfter
   line-ends l e few = sym (here lineFeed l e ∙ reading-ends count numbers at few)
 
-  pub stops-at-byte : at < length rest → (getD rest at 0 ≡ lineFeed → ⊥) → (getD rest at 0 ≡ comma → ⊥) → noFields ≡ fieldsRead start (drop start rest)
+  stops-at-byte : at < length rest → (getD rest at 0 ≡ lineFeed → ⊥) → (getD rest at 0 ≡ comma → ⊥) → noFields ≡ fieldsRead start (drop start rest)
   unfolding readFrom fieldEnds
   stops-at-byte l p q =
       let b = getD rest at 0 in
       let other : (eqb b comma || eqb b lineFeed) ≡ false = rw (ne-eqb b comma q, ne-eqb b lineFeed p) in
       sym (here b l refl ∙ rest-refused _ count numbers _ _ (and-left-false _ other))
 
-  pub stops-at-end : length rest ≤ at → noFields ≡ fieldsRead start (drop start rest)
+  stops-at-end : length rest ≤ at → noFields ≡ fieldsRead start (drop start rest)
   unfolding readFrom hasLineFeed anyOf
   stops-at-end l = sym (passed ∙ ap (readFrom count numbers at) (drop-of-length-le rest l) ∙ rest-refused _ count numbers _ _ (and-right-false (fieldEnds []) refl))
 
-  module _ (l : at < length rest) (e : getD rest at 0 ≡ comma) where
-    pub stops-at-many : count ≡ maxFields → noFields ≡ fieldsRead start (drop start rest)
-    stops-at-many m = sym (here comma l e ∙ comma-too-many count numbers at _ m)
+  -- fields end at a byte that is no LF: another one than a comma, none at all, or a comma after as many as a row has room for
+  pub stops : (getD rest at 0 ≡ lineFeed → ⊥) → (eqb (getD rest at 0) comma && ltb count maxFields) ≡ false → count ≤ maxFields → noFields ≡ fieldsRead start (drop start rest)
+  stops open-still test few = ⊎-elim (λ t. inside (ltb-true at (length rest) t) (eqb (getD rest at 0) comma) refl test) (λ t. stops-at-end (ltb-false at (length rest) t)) (decided (ltb at (length rest)))
+    where
+      inside : at < length rest → (b : Bool) → eqb (getD rest at 0) comma ≡ b → (b && ltb count maxFields) ≡ false → noFields ≡ fieldsRead start (drop start rest)
+      inside l true e t = let past = ltb-false count maxFields t in sym (here comma l (eqb-true (getD rest at 0) comma e) ∙ comma-too-many count numbers at _ (omega arith))
+      inside l false e t = stops-at-byte l open-still (eqb-false (getD rest at 0) comma e)
 
+  module _ (l : at < length rest) (e : getD rest at 0 ≡ comma) where
     module _ (f : Field) (read : f ≡ fieldAt (at + 1) (drop (at + 1) rest)) where
       pub stops-at-none : f .valid ≡ false → noFields ≡ fieldsRead start (drop start rest)
       stops-at-none v = sym (here comma l e ∙ comma-no-number count numbers at _ (field-invalid _ _ f read v))

@@ -9,6 +9,7 @@ use borrow.Author.Tests.{eq-eqb, ne-eqb, leb-true, leb-false, le-leb}
 use lib.ListN.{length, getD, drop}
 use lib.Dec.{leb}
 use Rattle.tariff.specs.Sum.{tabulate}
+use Rattle.tariff.proofs.Lists.{length-tabulate, list-is}
 use Rattle.tariff.proofs.Tests.{decided, both-ways, and-both, and-join}
 use Rattle.lines.specs.declared.text.Token.{Token}
 use Rattle.lines.specs.declared.rows.Fields.{Fields}
@@ -163,8 +164,13 @@ module _ (rest : List ℕ) (word : Token) (f : Fields) (spelt : word ≡ wordAt 
       unfolding unreadableLine nextRow
       word-unknown z = ap (λ q. record { row = q; consumed = firstBytes (linesOf rest) }) (sym (first ∙ no-kind kind (map valueOf fields) (sym z)))
 
-      pub row-read : (kind ≡ 0 → ⊥) → record { row = record { kind = kind; fields = f .numbers }; consumed = f .end + 1 } ≡ nextRow rest
+      -- the numbers, one by one
+      each : f .numbers ≡ tabulate maxFields (λ k. getD (f .numbers) k 0)
+      unfolding values
+      each = list-is maxFields (λ k. getD (f .numbers) k 0) (f .numbers) (ap length (facts .valued) ∙ length-tabulate maxFields _) (λ k l. refl)
+
+      pub row-read : (kind ≡ 0 → ⊥) → record { row = record { kind = kind; fields = tabulate maxFields (λ k. getD (f .numbers) k 0) }; consumed = f .end + 1 } ≡ nextRow rest
       unfolding nextRow rowIf row values
       row-read z =
-          ap₂ (λ ns n. record { row = record { kind = kind; fields = ns }; consumed = n }) (facts .valued) (ended-bytes rest (f .end) at-feed end-within)
+          ap₂ (λ ns n. record { row = record { kind = kind; fields = ns }; consumed = n }) (sym each ∙ facts .valued) (ended-bytes rest (f .end) at-feed end-within)
           ∙ ap (λ q. record { row = q; consumed = firstBytes (linesOf rest) }) (sym (first ∙ ap (λ t. cond t unreadableRow (row kind (map valueOf fields))) (ne-eqb kind 0 z)))

@@ -71,7 +71,7 @@ netLine = 18
 pub data Form : Type 0 where
   form : String → (fields kind : ℕ) → Form
 
--- the forms of lines
+-- the forms of lines; a verify line ends in the ten-year mark (02, 1/14)
 unfoldable pub forms : List Form
 forms =
     form "book" 4 bookLine
@@ -82,7 +82,7 @@ forms =
     ∷ form "block" 3 blockLine
     ∷ form "carry" 3 carryLine
     ∷ form "prior" 4 priorLine
-    ∷ form "verify" 7 verifyLine
+    ∷ form "verify" 8 verifyLine
     ∷ form "migrate" 3 migrateLine
     ∷ form "class" 5 classLine
     ∷ form "open" 1 openLine
@@ -116,7 +116,7 @@ allNumbers (field ∷ fields) = isNumber field && allNumbers fields
 
 -- no line has more fields
 abbrev pub maxFields : ℕ
-maxFields = 7
+maxFields = 8
 
 -- a line's kind and its numbers, 0 past the last
 unfoldable pub row : ℕ → List ℕ → Row

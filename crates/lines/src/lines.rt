@@ -46,7 +46,9 @@ pub fn next_row(rest: &[u8]) -> NextRow
     if kind == UNREADABLE_KIND {
         return unreadable_line(rest);
     }
-    let numbers = fields.numbers;
+    // Number by number, out of registers: a copy of the whole array would wait for the numbers that were just stored in it.
+    let n = fields.numbers;
+    let numbers = [n[0], n[1], n[2], n[3], n[4], n[5], n[6], n[7]];
     NextRow {
         row: Row {
             kind,

@@ -2,7 +2,7 @@
 use crate::text::LINE_FEED;
 use crate::text::read_field;
 ghost use mathlib.Core.Path.{_≡_};
-ghost use lib.ListN.{drop};
+ghost use lib.ListN.{getD, drop};
 ghost use Rattle.lines.specs.Rows.{unreadableRow};
 ghost use Rattle.lines.specs.Reading.{fieldsRead, noFields};
 
@@ -48,7 +48,7 @@ pub const NET_LINE: u64 = 18;
 const COMMA: u8 = b',';
 
 // No line has more fields.
-pub const MAX_FIELDS: usize = 7;
+pub const MAX_FIELDS: usize = 8;
 
 // A line's kind, 0 for one that cannot be read, and its numbers, 0 past the last.
 pub struct Row {
@@ -85,28 +85,23 @@ fn no_fields() -> Fields
     }
 }
 
-// The fields of a line after the word that ends at `start`, up to its LF. One more than a line can have ends the reading.
+// The byte at a place, 0 past the last.
+fn byte_at(rest: &[u8], at: usize) -> u8
+    ensures { λ r. ⌜ r ≡ getD (now (rest .entry)) at 0 ⌝ }
+{
+    if at < rest.len() { rest[at] } else { 0 }
+}
+
+// The fields of a line after the word that ends at `start`, up to its LF. One more than a line can have ends the reading. The loop makes no more
+// passes than there can be fields, and little in each, so that the compiler writes them out and the numbers stay in registers.
 pub fn read_fields(rest: &[u8], start: usize) -> Fields
     ensures { λ r. ⌜ r ≡ fieldsRead start (drop start (now (rest .entry))) ⌝ }
 {
     let mut numbers = [0u64; MAX_FIELDS];
     let mut count: usize = 0;
     let mut at = start;
-    while at < rest.len() {
-        if rest[at] == LINE_FEED {
-            return Fields {
-                readable: true,
-                count: count as u64,
-                numbers,
-                end: at,
-            };
-        }
-        if rest[at] != COMMA {
-            return no_fields();
-        }
-        if count == MAX_FIELDS {
-            return no_fields();
-        }
+    let mut byte = byte_at(rest, start);
+    while (byte == COMMA) & (count < MAX_FIELDS) {
         let field = read_field(rest, at + 1);
         if !field.valid {
             return no_fields();
@@ -114,6 +109,15 @@ pub fn read_fields(rest: &[u8], start: usize) -> Fields
         numbers[count] = field.value;
         count += 1;
         at = field.end;
+        byte = byte_at(rest, at);
     }
-    no_fields()
+    if byte != LINE_FEED {
+        return no_fields();
+    }
+    Fields {
+        readable: true,
+        count: count as u64,
+        numbers,
+        end: at,
+    }
 }

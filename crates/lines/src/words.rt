@@ -35,8 +35,8 @@ const FORMS: [u64; KINDS] = [
     3_197_529 * COUNT_LIMIT + 3,
     // prior
     17_376_754 * COUNT_LIMIT + 4,
-    // verify
-    744_039_641 * COUNT_LIMIT + 7,
+    // verify, which ends in the ten-year mark (02, 1/14)
+    744_039_641 * COUNT_LIMIT + 8,
     // migrate
     14_268_565_125 * COUNT_LIMIT + 3,
     // class

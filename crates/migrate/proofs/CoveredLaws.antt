@@ -1,5 +1,5 @@
 -- An accepted migration: no holder gives more than its load, and every column that moves fits 64 bits with its shares. Assumes nothing.
-use Prim.Native.Nat.{ℕ, _+_, _-_, _*_, _≤_, _<_, zero-le}
+use Prim.Native.Nat.{ℕ, _+_, _-_, _≤_, _<_, zero-le}
 use mathlib.Core.Path.{_≡_, refl, sym, ap, ap₂, _∙_}
 use mathlib.Core.Bool.{Bool, true, false}
 use mathlib.Core.List.{List}
@@ -11,7 +11,6 @@ use borrow.Author.Tests.{ltb-true, ltb-false, ne-eqb}
 use Rattle.tariff.specs.Sizes.{lastMonth, lastTerm}
 use Rattle.tariff.specs.declared.evidence.Entry.{Entry}
 use Rattle.tariff.specs.Sum.{sumTo}
-use Rattle.tariff.specs.Ranges.{maxKw}
 use Rattle.tariff.proofs.Sums.{sum-ext}
 use Rattle.tariff.proofs.Tests.{and-right-false, decided}
 use Rattle.netting.specs.declared.netting.ClassLine.{ClassLine}
@@ -29,6 +28,7 @@ use Rattle.ledger.proofs.Outside.{awarded-outside, netted-outside}
 use Rattle.records.specs.Opening.{openingIn}
 use Rattle.slots.specs.Cells.{readAt}
 use Rattle.slots.specs.Layout.{loadSlot, priorAllocatedSlot, priorRemainingSlot, carriedSlot, awardedSlot, nominatedSlot, figureSlots, ledgerIn}
+use Rattle.slots.specs.Sums.{maxFigure}
 use Rattle.slots.specs.Steps.{Reachable}
 use Rattle.slots.proofs.Reachable.{bases-known, known, counts, fits, figures-long}
 use Rattle.slots.proofs.Figures.{by-number, from-zero}
@@ -97,14 +97,14 @@ module _ (o f : List ℕ) (m : List Bool) (e : List Entry) (r : Reachable o f m 
       λ i. v h - sum-ext {f = λ j. share (v h) (pairAt (x .m) h j) (holderAt (x .load) h)} {g = λ j. share (v h) (netted lines h j) (loadBefore L term sink h)} (O .holders) (λ j k. ap₂ (share (v h)) (m-is h j l (let n = few in omega arith)) (load-is h l)) i + sum-ext {f = λ j. share (v j) (pairAt (x .m) j h) (holderAt (x .load) j)} {g = λ j. share (v j) (netted lines j h) (loadBefore L term sink j)} (O .holders) (λ j k. ap₂ (share (v j)) (m-is j h (let n = few in omega arith) l) (load-is j (let n = few in omega arith))) i
 
   -- the holders' records at one place together
-  together : (p slot : ℕ) (v : ℕ → ℕ) (most : ℕ) → ((i : ℕ) → i < 8 → inColumn f p slot i ≡ v i) → sumTo (O .holders) v ≤ most → most ≤ 80 * maxKw → ColumnFits x (inColumn f p slot)
+  together : (p slot : ℕ) (v : ℕ → ℕ) (most : ℕ) → ((i : ℕ) → i < 8 → inColumn f p slot i ≡ v i) → sumTo (O .holders) v ≤ most → most ≤ maxFigure → ColumnFits x (inColumn f p slot)
   unfolding transferOf
   together p slot v most is within l = le-trans (le-of-eq (sum-ext {f = inColumn f p slot} {g = v} (O .holders) (λ i k. is i (let n = few in omega arith)))) (le-trans within l)
 
-  awarded-sum : (p k : ℕ) → awardedSum O p k L ≤ 10 * maxTogether
-  awarded-sum p k = known o f m e r (λ O L. awardedSum O p k L ≤ 10 * maxTogether) (λ O ok cs. go O cs (decided (ltb p (O .paths))) (λ l. figures-fit O ok cs .awardedFit p k l))
+  awarded-sum : (p k : ℕ) → awardedSum O p k L ≤ maxFigure
+  awarded-sum p k = known o f m e r (λ O L. awardedSum O p k L ≤ maxFigure) (λ O ok cs. go O cs (decided (ltb p (O .paths))) (λ l. figures-fit O ok cs .awardedFit p k l))
     where
-      go : (O : Opening) (cs : List Call) → (ltb p (O .paths) ≡ true) ⊎ (ltb p (O .paths) ≡ false) → (p < O .paths → awardedSum O p k (after O cs) ≤ 10 * maxTogether) → awardedSum O p k (after O cs) ≤ 10 * maxTogether
+      go : (O : Opening) (cs : List Call) → (ltb p (O .paths) ≡ true) ⊎ (ltb p (O .paths) ≡ false) → (p < O .paths → awardedSum O p k (after O cs) ≤ maxFigure) → awardedSum O p k (after O cs) ≤ maxFigure
       go O cs (inl t) inside = inside (ltb-true p (O .paths) t)
       go O cs (inr t) inside = le-trans (le-of-eq (awarded-outside O p k (ltb-false p (O .paths) t) cs)) zero-le
 
@@ -126,7 +126,7 @@ module _ (o f : List ℕ) (m : List Bool) (e : List Entry) (r : Reachable o f m 
           together p slot (λ i. L .rights .carried i p (slot + 1 - carriedSlot)) maxTogether (λ i k. ap (readAt figureSlots 0 f i p) (let s : slot ≡ carriedSlot + (slot + 1 - carriedSlot - 1) = omega arith in s) ∙ by-number f carriedSlot lastMonth i p (slot + 1 - carriedSlot) k place 1 (omega arith) (omega arith)) (fits o f m e r .carriedFit p (slot + 1 - carriedSlot)) (omega arith)
       go (inr a) (inr b) (inr c) =
           let g = ltb-false slot awardedSlot c in
-          together p slot (λ i. L .rights .awarded i p (slot + 1 - awardedSlot)) (10 * maxTogether) (λ i k. ap (readAt figureSlots 0 f i p) (let s : slot ≡ awardedSlot + (slot + 1 - awardedSlot - 1) = omega arith in s) ∙ by-number f awardedSlot lastMonth i p (slot + 1 - awardedSlot) k place 1 (omega arith) (omega arith)) (awarded-sum p (slot + 1 - awardedSlot)) (omega arith)
+          together p slot (λ i. L .rights .awarded i p (slot + 1 - awardedSlot)) maxFigure (λ i k. ap (readAt figureSlots 0 f i p) (let s : slot ≡ awardedSlot + (slot + 1 - awardedSlot - 1) = omega arith in s) ∙ by-number f awardedSlot lastMonth i p (slot + 1 - awardedSlot) k place 1 (omega arith) (omega arith)) (awarded-sum p (slot + 1 - awardedSlot)) (omega arith)
 
   -- the loads are transferred, and the rights are as they were
   pub rights-fit : (next : List ℕ) → ColumnTransfer (columnWhere (loadAt term sink) (loadColumn x)) f next → RightsFit o next term sink x

@@ -19,6 +19,7 @@ use Rattle.tariff.proofs.Lists.{at-tabulate}
 use Rattle.netting.proofs.Pairs.{pair-of-cells}
 use Rattle.ledger.proofs.Bounds.{one-fits, share-product-fits}
 use Rattle.slots.specs.Layout.{figureSlots}
+use Rattle.slots.specs.Sums.{maxFigure}
 use Rattle.slots.proofs.CellLaws.{shows-agree}
 use Rattle.migrate.specs.declared.transfers.Transfer.{Transfer}
 use Rattle.netting.proofs.ShareCells.{share-with-nothing}
@@ -87,7 +88,7 @@ module _ (x : Transfer) (ok : LossesWithinLoads x) where
       go (inl a) (inl b) =
           let ri = ltb-true i (x .holders) a in
           let rj = ltb-true j (x .holders) b in
-          share-product-fits (holderAt column i) (pairAt (x .m) i j) (one-fits (holderAt column) (x .holders) (80 * maxKw) i ri fits) (m-fits i j ri rj)
+          share-product-fits (holderAt column i) (pairAt (x .m) i j) (one-fits (holderAt column) (x .holders) maxFigure i ri fits) (m-fits i j ri rj)
       go (inr a) b = none (ok .others i j li lj (inl (ltb-false i (x .holders) a)))
       go (inl a) (inr b) = none (ok .others i j li lj (inr (ltb-false j (x .holders) b)))
 

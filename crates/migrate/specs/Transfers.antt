@@ -14,6 +14,7 @@ use Rattle.netting.specs.Netting.{pairAt, holderAt}
 use Rattle.ledger.specs.Opening.{Opening, hasBase}
 use Rattle.records.specs.Opening.{openingIn, KeepsBases}
 use Rattle.slots.specs.Layout.{figureCount, loadSlot, priorAllocatedSlot, carriedSlot, awardedSlot, nominatedSlot}
+use Rattle.slots.specs.Sums.{maxFigure}
 use Rattle.migrate.specs.declared.transfers.Transfer.{Transfer}
 use Rattle.migrate.specs.Columns.{HasColumn, inColumn}
 
@@ -50,7 +51,7 @@ pub record LossesWithinLoads (x : Transfer) : Type 0 where
 
 -- the most kW that a column has together
 abbrev pub ColumnFits : Transfer → (ℕ → ℕ) → Type 0
-ColumnFits x v = sumTo (x .holders) v ≤ 80 * maxKw
+ColumnFits x v = sumTo (x .holders) v ≤ maxFigure
 
 -- a slot of a path whose column fits, if a migration moves it
 pub record SlotFits (f : List ℕ) (term p slot : ℕ) (x : Transfer) : Type 0 where

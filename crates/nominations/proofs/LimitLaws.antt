@@ -8,18 +8,19 @@ use native.Mathlib.Omega.{arith}
 use lib.ListN.{length}
 use lib.Dec.{leb, eqb}
 use borrow.Author.Tests.{leb-true, leb-false, eqb-false}
-use Rattle.tariff.specs.Sizes.{lastMonth, lastTerm, terms, lastTier}
+use Rattle.tariff.specs.Sizes.{lastMonth, lastTerm, terms, longTermStep}
 use Rattle.tariff.specs.declared.evidence.Entry.{Entry}
 use Rattle.tariff.specs.declared.limit.Sums.{Sums}
 use Rattle.tariff.specs.declared.limit.TierRule.{TierRule}
 use Rattle.tariff.specs.Limit.{ruleOf}
 use Rattle.tariff.specs.Sum.{whenTrue, allBelow}
-use Rattle.tariff.specs.Terms.{termTable, termOf, carriedMonth}
+use Rattle.tariff.specs.Terms.{termTable, termOf, carriedMonth, isLongTermStep}
 use Rattle.tariff.proofs.Sums.{sum-ext}
 use Rattle.tariff.proofs.Tests.{all-below, or-unmet}
 use Rattle.ledger.specs.Opening as opening
 use Rattle.ledger.specs.Ledger.{Ledger}
 use Rattle.ledger.specs.Ranges.{unknownHolder, unknownSink}
+use Rattle.ledger.specs.TenYear.{tenYearSum}
 use Rattle.ledger.specs.Limits.{sumAtBase, longTermAt, priorYearAt, awardsAt, limitSums, tierLimit}
 use Rattle.ledger.specs.Call.{limitOf}
 use Rattle.ledger.specs.Causes.{limitCauses, queryCauses, queryRefusal}
@@ -35,18 +36,19 @@ use Rattle.slots.proofs.Reachable.{counts, sound, figures-long}
 use Rattle.slots.proofs.Figures.{by-number, from-zero, summable}
 use Rattle.slots.proofs.Places.{base-place}
 use Rattle.slots.proofs.StepLaws.{query-answered}
+use Rattle.nominations.specs.declared.limits.PathSums.{PathSums}
 use Rattle.nominations.specs.Inputs.{LimitInputs}
 use Rattle.nominations.specs.PathSums.{slotTo, sumsTo, PathsSummable}
 
--- the open tier is none past the last
-pub open-last : (o f : List ℕ) (m : List Bool) (x : List Entry) → Reachable o f m x → (tier : ℕ) → tier ≡ currentTierIn f → tier ≤ lastTier
+-- the open tier is none past the Long Term step
+pub open-last : (o f : List ℕ) (m : List Bool) (x : List Entry) → Reachable o f m x → (tier : ℕ) → tier ≡ currentTierIn f → tier ≤ longTermStep
 unfolding ledgerIn
 open-last o f m x r tier e = le-trans (le-of-eq e) (sound o f m x r .openLast)
 
 -- a tier's term is a term
-pub term-below : (tier : ℕ) → tier ≤ lastTier → termOf tier < terms
+pub term-below : (tier : ℕ) → tier ≤ longTermStep → termOf tier < terms
 unfolding termOf termTable allBelow
-term-below tier l = let fits = leb-true (termOf tier) lastTerm (all-below (1 + lastTier) (λ t. leb (termOf t) lastTerm) refl tier (omega arith)) in omega arith
+term-below tier l = let fits = leb-true (termOf tier) lastTerm (all-below (1 + longTermStep) (λ t. leb (termOf t) lastTerm) refl tier (omega arith)) in omega arith
 
 -- and the month whose carried rights count in it a month
 carried-range : (term : ℕ) → term < terms → (1 ≤ carriedMonth term) × (carriedMonth term ≤ lastMonth)
@@ -107,21 +109,23 @@ module _ (o f : List ℕ) (tier h base month last : ℕ) (rule : TierRule) (inpu
     awards-at t l = at-base (awardsSlot + t) _ (λ p k. from-zero f awardsSlot tierSlots h p t holder k l)
 
     -- the sums over all paths are those of the limit
-    pub limit-sums-are : (load : ℕ) (sums : Sums) → month ≡ carriedMonth (rule .term) → last ≡ tier - 1 → load ≡ readAt figureSlots 0 f h base (loadSlot + rule .term) → sums ≡ sumsTo O f h base load (carriedSlot + (month - 1)) (awardsSlot + last) (O .paths) → sums ≡ limitSums O L tier h base
+    pub limit-sums-are : (load tenYear kind : ℕ) (sums : PathSums) → month ≡ carriedMonth (rule .term) → last ≡ tier - 1 → load ≡ readAt figureSlots 0 f h base (loadSlot + rule .term) → sums ≡ sumsTo O f h base (carriedSlot + (month - 1)) (awardsSlot + last) (O .paths) → tenYear ≡ whenTrue (isLongTermStep tier) (tenYearSum O L h) → kind ≡ opening.holderKind O h → _≡_ {A = Sums} (record { load = load; carried = sums .carried; prior = sums .prior; tier1 = sums .tier1; tier2 = sums .tier2; tier3 = sums .tier3; before = sums .before; «ten_year_kw» = tenYear; obaalse = eqb kind opening.obaalse }) (limitSums O L tier h base)
     unfolding sumsTo limitSums longTermAt priorYearAt ledgerIn
-    limit-sums-are load sums ofTerm before ofLoad is =
+    limit-sums-are load tenYear kind sums ofTerm before ofLoad is ofEvidence ofKind =
         let months = month-range ofTerm in
         let final = inputs .last in
-        is ∙ (λ i.
+        λ i.
         record {
           load = (ofLoad ∙ from-zero f loadSlot terms h base (rule .term) holder (inputs .place) term-fits ∙ ap (L .loads .kw h base) term-is) i;
-          carried = (at-base (carriedSlot + (month - 1)) _ (λ p k. by-number f carriedSlot lastMonth h p month holder k 1 (months .0) (omega arith)) ∙ ap (longTermAt O L h base) (ofTerm ∙ ap carriedMonth term-is)) i;
-          prior = at-base priorAllocatedSlot _ (λ p k. from-zero f priorAllocatedSlot 1 h p 0 holder k (omega arith)) i;
-          tier1 = awards-at 1 (omega arith) i;
-          tier2 = awards-at 2 (omega arith) i;
-          tier3 = awards-at 3 (omega arith) i;
-          before = (awards-at last (omega arith) ∙ ap (awardsAt O L h base) before) i;
-        })
+          carried = (ap (λ (s : PathSums). s .carried) is ∙ at-base (carriedSlot + (month - 1)) _ (λ p k. by-number f carriedSlot lastMonth h p month holder k 1 (months .0) (omega arith)) ∙ ap (longTermAt O L h base) (ofTerm ∙ ap carriedMonth term-is)) i;
+          prior = (ap (λ (s : PathSums). s .prior) is ∙ at-base priorAllocatedSlot _ (λ p k. from-zero f priorAllocatedSlot 1 h p 0 holder k (omega arith))) i;
+          tier1 = (ap (λ (s : PathSums). s .tier1) is ∙ awards-at 1 (omega arith)) i;
+          tier2 = (ap (λ (s : PathSums). s .tier2) is ∙ awards-at 2 (omega arith)) i;
+          tier3 = (ap (λ (s : PathSums). s .tier3) is ∙ awards-at 3 (omega arith)) i;
+          before = (ap (λ (s : PathSums). s .before) is ∙ awards-at last (omega arith) ∙ ap (awardsAt O L h base) before) i;
+          «ten_year_kw» = ofEvidence i;
+          obaalse = eqb (ofKind i) opening.obaalse;
+        }
 
 -- a limit query that meets no cause is of a holder and a sink in the book
 query-facts : (o : opening.Opening) (L : Ledger) (h s : ℕ) → queryRefusal o L (limitOf h s) ≡ 0 → (h < o .holders) × (s < o .sinks)

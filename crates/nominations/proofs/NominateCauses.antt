@@ -1,5 +1,5 @@
 -- The causes of a nomination as code finds them, but for what it has verified. Assumes nothing.
-use Prim.Native.Nat.{ℕ, _+_, _^_, _<_}
+use Prim.Native.Nat.{ℕ, _+_, _*_, _^_, _≤_, _<_}
 use mathlib.Core.Path.{_≡_, sym, ap, _∙_}
 use mathlib.Core.Bool.{Bool, false, _&&_, _||_}
 use mathlib.Core.List.{List}
@@ -9,7 +9,7 @@ use lib.ListN.{length}
 use lib.Dec.{ltb, eqb}
 use borrow.Author.Tests.{leb-false}
 use Rattle.tariff.specs.declared.evidence.Entry.{Entry}
-use Rattle.tariff.specs.Ranges.{kwOutOfRange}
+use Rattle.tariff.specs.Ranges.{maxKw, kwOutOfRange}
 use Rattle.tariff.specs.Sum.{whenTrue}
 use Rattle.tariff.proofs.Sums.{sum-ext}
 use Rattle.tariff.proofs.Tests.{or-unmet}
@@ -22,7 +22,7 @@ use Rattle.ledger.proofs.Unmet.{kw-in-range}
 use Rattle.records.specs.Opening.{openingIn}
 use Rattle.slots.specs.Cells.{HasCell, readAt}
 use Rattle.slots.specs.Layout.{priorRemainingSlot, nominatedSlot, figureSlots, figureCount, currentTierIn, ledgerIn}
-use Rattle.slots.specs.Sums.{onPath}
+use Rattle.slots.specs.Sums.{onPath, maxFigure}
 use Rattle.slots.specs.Steps.{Reachable, ReachableFigures}
 use Rattle.slots.proofs.Reachable.{counts, figures-long}
 use Rattle.slots.proofs.Figures.{from-zero, figure-fits, summable, room-for-more}
@@ -41,6 +41,18 @@ in-book o f h p kw unknown-holder unknown-path wrong k a b known c range =
       path = leb-false _ _ (sym b ∙ both .1);
       high = kw-in-range kw (sym c ∙ range) .1;
     }
+
+-- what a holder nominates at a base in the open tier, and that it leaves room
+module _ (o f : List ℕ) (m : List Bool) (x : List Entry) (r : Reachable o f m x) (h : ℕ) (l : h < openingIn o .holders) where
+  pub nominated-at : (base : ℕ) → sumAtBase (openingIn o) base (onPath f h nominatedSlot) ≡ nominatedAt (openingIn o) (ledgerIn f m x) h base (ledgerIn f m x .tiers .currentTier)
+  unfolding sumAtBase nominatedAt
+  nominated-at base = sum-ext (openingIn o .paths) (λ q k. ap (whenTrue (hasBase (openingIn o) base q)) (nominated-now f m x h q (le-trans l (counts o f m x r .0)) (le-trans k (counts o f m x r .3))))
+
+  pub base-fits : (slot base v : ℕ) → slot < figureSlots → v ≡ sumAtBase (openingIn o) base (onPath f h slot) → v ≤ 16 * maxFigure
+  base-fits slot base v k e = le-trans (le-of-eq e) (base-sum-fits o f h slot base (summable o f m x r h slot l k))
+
+  pub base-room : (base kw v : ℕ) → kw ≤ maxKw → v ≡ sumAtBase (openingIn o) base (onPath f h nominatedSlot) → v + kw < 2 ^ 64
+  base-room base kw v high e = let fits = base-fits nominatedSlot base v (omega arith) e in omega arith
 
 module _ (o f : List ℕ) (m : List Bool) (x : List Entry) (h p : ℕ) where
   abbrev O : Opening
@@ -73,19 +85,8 @@ module _ (o f : List ℕ) (m : List Bool) (x : List Entry) (h p : ℕ) where
     unfolding exceedsPrior ledgerIn
     prior-test tier remaining nominated t e n = λ i. eqb (t i) 1 && ltb ((e ∙ from-zero f priorRemainingSlot 1 h p 0 holder path (omega arith)) i) ((n ∙ nominated-now f m x h p holder path) i + kw)
 
-    -- what the holder nominates at a base
-    nominated-at : (base : ℕ) → sumAtBase O base (onPath f h nominatedSlot) ≡ nominatedAt O L h base (L .tiers .currentTier)
-    unfolding sumAtBase nominatedAt
-    nominated-at base = sum-ext (O .paths) (λ q l. ap (whenTrue (hasBase O base q)) (nominated-now f m x h q holder (le-trans l (counts o f m x r .3))))
-
-    pub base-room : (base v : ℕ) → v ≡ sumAtBase O base (onPath f h nominatedSlot) → v + kw < 2 ^ 64
-    base-room base v e =
-        let fits = base-sum-fits o f h nominatedSlot base (summable o f m x r h nominatedSlot (inputs .holder) (omega arith)) in
-        let high = inputs .high in
-        omega arith
-
     -- cause 13
     pub limit-test : (tier base limit nominated : ℕ) → tier ≡ currentTierIn f → base ≡ pathBase O p → limit ≡ tierLimit O L tier h base → nominated ≡ sumAtBase O base (onPath f h nominatedSlot) → ltb limit (nominated + kw) ≡ exceedsLimit O L (L .tiers .currentTier) h p kw
     unfolding exceedsLimit ledgerIn
     limit-test tier base limit nominated t e l n =
-        λ i. ltb ((l ∙ (λ j. tierLimit O L (t j) h (e j))) i) ((n ∙ nominated-at base ∙ ap (λ b. nominatedAt O L h b (L .tiers .currentTier)) e) i + kw)
+        λ i. ltb ((l ∙ (λ j. tierLimit O L (t j) h (e j))) i) ((n ∙ nominated-at o f m x r h (inputs .holder) base ∙ ap (λ b. nominatedAt O L h b (L .tiers .currentTier)) e) i + kw)

@@ -7,7 +7,7 @@ use native.Mathlib.Nat.{le-trans}
 use native.Mathlib.Omega.{arith}
 use lib.Dec.{eqb}
 use borrow.Author.Tests.{not-true, not-false}
-use Rattle.tariff.specs.declared.limit.Sums.{Sums}
+use Rattle.nominations.specs.declared.limits.PathSums.{PathSums}
 use Rattle.tariff.specs.Sum.{whenTrue, sumTo}
 use Rattle.tariff.proofs.Sums.{when-is-true, when-is-false, when-le, sum-more}
 use Rattle.ledger.specs.Opening.{Opening, pathBase, hasBase}
@@ -17,7 +17,7 @@ use Rattle.slots.specs.Layout.{priorAllocatedSlot, awardsSlot, figureSlots}
 use Rattle.slots.specs.Sums.{onPath, maxFigure}
 use Rattle.nominations.specs.PathSums.{withPath, slotTo, sumsTo, PathsSummable, SumsFit, PathSummable}
 
-module _ (f : List ℕ) (h p carried before : ℕ) (s : Sums) where
+module _ (f : List ℕ) (h p carried before : ℕ) (s : PathSums) where
   -- a path that does not count leaves the sums
   pub left-out : (counts : Bool) → not counts ≡ true → s ≡ withPath f h p carried before counts s
   unfolding withPath
@@ -25,7 +25,6 @@ module _ (f : List ℕ) (h p carried before : ℕ) (s : Sums) where
       let none = not-true counts e in
       λ i.
       record {
-        load = s .load;
         carried = same (s .carried) (onPath f h carried p) none i;
         prior = same (s .prior) (onPath f h priorAllocatedSlot p) none i;
         tier1 = same (s .tier1) (onPath f h (awardsSlot + 1) p) none i;
@@ -38,12 +37,11 @@ module _ (f : List ℕ) (h p carried before : ℕ) (s : Sums) where
       same sum v none = let zero = when-is-false v none in omega arith
 
   -- one that counts adds its figures
-  pub added : (counts : Bool) (a b c d e g : ℕ) → not counts ≡ false → a ≡ onPath f h carried p → b ≡ onPath f h priorAllocatedSlot p → c ≡ onPath f h (awardsSlot + 1) p → d ≡ onPath f h (awardsSlot + 2) p → e ≡ onPath f h (awardsSlot + 3) p → g ≡ onPath f h before p → _≡_ {A = Sums} (record { load = s .load; carried = s .carried + a; prior = s .prior + b; tier1 = s .tier1 + c; tier2 = s .tier2 + d; tier3 = s .tier3 + e; before = s .before + g }) (withPath f h p carried before counts s)
+  pub added : (counts : Bool) (a b c d e g : ℕ) → not counts ≡ false → a ≡ onPath f h carried p → b ≡ onPath f h priorAllocatedSlot p → c ≡ onPath f h (awardsSlot + 1) p → d ≡ onPath f h (awardsSlot + 2) p → e ≡ onPath f h (awardsSlot + 3) p → g ≡ onPath f h before p → _≡_ {A = PathSums} (record { carried = s .carried + a; prior = s .prior + b; tier1 = s .tier1 + c; tier2 = s .tier2 + d; tier3 = s .tier3 + e; before = s .before + g }) (withPath f h p carried before counts s)
   unfolding withPath
   added counts a b c d e g some ea eb ec ed ee eg =
       λ i.
       record {
-        load = s .load;
         carried = more (s .carried) a (onPath f h carried p) ea i;
         prior = more (s .prior) b (onPath f h priorAllocatedSlot p) eb i;
         tier1 = more (s .tier1) c (onPath f h (awardsSlot + 1) p) ec i;
@@ -59,9 +57,9 @@ module _ (f : List ℕ) (h p carried before : ℕ) (s : Sums) where
 pub has-room : (sum v w : ℕ) → sum ≤ 16 * maxFigure → v ≡ w → w ≤ maxFigure → sum + v < 2 ^ 64
 has-room sum v w a e b = omega arith
 
-module _ (O : Opening) (f : List ℕ) (h base load carried before : ℕ) where
+module _ (O : Opening) (f : List ℕ) (h base carried before : ℕ) where
   -- the sums that a loop forms: nothing yet, one path more, all
-  pub sums-none : _≡_ {A = Sums} (record { load = load; carried = 0; prior = 0; tier1 = 0; tier2 = 0; tier3 = 0; before = 0 }) (sumsTo O f h base load carried before 0)
+  pub sums-none : _≡_ {A = PathSums} (record { carried = 0; prior = 0; tier1 = 0; tier2 = 0; tier3 = 0; before = 0 }) (sumsTo O f h base carried before 0)
   unfolding sumsTo slotTo sumTo
   sums-none = refl
 
@@ -69,12 +67,11 @@ module _ (O : Opening) (f : List ℕ) (h base load carried before : ℕ) where
   unfolding slotTo
   slot-more slot p = sum-more (λ p. whenTrue (hasBase O base p) (onPath f h slot p)) p _ _ refl refl
 
-  one-more : (p : ℕ) → withPath f h p carried before (hasBase O base p) (sumsTo O f h base load carried before p) ≡ sumsTo O f h base load carried before (p + 1)
+  one-more : (p : ℕ) → withPath f h p carried before (hasBase O base p) (sumsTo O f h base carried before p) ≡ sumsTo O f h base carried before (p + 1)
   unfolding withPath sumsTo
   one-more p =
       λ i.
       record {
-        load = load;
         carried = slot-more carried p i;
         prior = slot-more priorAllocatedSlot p i;
         tier1 = slot-more (awardsSlot + 1) p i;
@@ -83,14 +80,14 @@ module _ (O : Opening) (f : List ℕ) (h base load carried before : ℕ) where
         before = slot-more before p i;
       }
 
-  pub sums-more : (p there : ℕ) (sums next : Sums) → next ≡ withPath f h p carried before (eqb there base) sums → there ≡ pathBase O p → sums ≡ sumsTo O f h base load carried before p → next ≡ sumsTo O f h base load carried before (p + 1)
+  pub sums-more : (p there : ℕ) (sums next : PathSums) → next ≡ withPath f h p carried before (eqb there base) sums → there ≡ pathBase O p → sums ≡ sumsTo O f h base carried before p → next ≡ sumsTo O f h base carried before (p + 1)
   unfolding hasBase
   sums-more p there sums next e t s = e ∙ (λ i. withPath f h p carried before (eqb (t i) base) (s i)) ∙ one-more p
 
-  pub sums-whole : (p n : ℕ) (sums : Sums) → p ≤ n → n ≤ p → sums ≡ sumsTo O f h base load carried before p → sums ≡ sumsTo O f h base load carried before n
-  sums-whole p n sums below above e = e ∙ ap (sumsTo O f h base load carried before) (let same : p ≡ n = omega arith in same)
+  pub sums-whole : (p n : ℕ) (sums : PathSums) → p ≤ n → n ≤ p → sums ≡ sumsTo O f h base carried before p → sums ≡ sumsTo O f h base carried before n
+  sums-whole p n sums below above e = e ∙ ap (sumsTo O f h base carried before) (let same : p ≡ n = omega arith in same)
 
-module _ (o f : List ℕ) (h base load carried before : ℕ) (all : PathsSummable o f h carried before) where
+module _ (o f : List ℕ) (h base carried before : ℕ) (all : PathsSummable o f h carried before) where
   abbrev O : Opening
   O = openingIn o
 
@@ -100,7 +97,7 @@ module _ (o f : List ℕ) (h base load carried before : ℕ) (all : PathsSummabl
       let s = all .slots slot l in
       paths-fit (λ p. whenTrue (hasBase O base p) (onPath f h slot p)) n maxFigure (le-trans k (s .few)) (λ p i. le-trans (when-le (hasBase O base p) (onPath f h slot p)) (s .each p (le-trans i k)))
 
-  sums-fit : (n : ℕ) → n ≤ O .paths → SumsFit (sumsTo O f h base load carried before n)
+  sums-fit : (n : ℕ) → n ≤ O .paths → SumsFit (sumsTo O f h base carried before n)
   unfolding sumsTo
   sums-fit n k =
       record {
@@ -113,7 +110,7 @@ module _ (o f : List ℕ) (h base load carried before : ℕ) (all : PathsSummabl
       }
 
   -- the next path's figures can be added
-  pub path-fits : (p n : ℕ) (sums : Sums) → n ≡ O .paths → p < n → sums ≡ sumsTo O f h base load carried before p → PathSummable f h p carried before sums
+  pub path-fits : (p n : ℕ) (sums : PathSums) → n ≡ O .paths → p < n → sums ≡ sumsTo O f h base carried before p → PathSummable f h p carried before sums
   path-fits p n sums e l is =
       let s = all .slots 0 (omega arith) in
       let there : p < O .paths = omega arith in

@@ -7,7 +7,7 @@ use native.Mathlib.Nat.{le-trans, le-of-eq, mul-le-mul-right}
 use native.Mathlib.Omega.{arith}
 use lib.Dec.{leb, eqb}
 use borrow.Author.Tests.{eq-eqb, not-true, not-false}
-use Rattle.tariff.specs.Sizes.{lastTier, lastSeasonTier}
+use Rattle.tariff.specs.Sizes.{longTermStep, lastSeasonTier}
 use Rattle.tariff.specs.declared.evidence.Entry.{Entry}
 use Rattle.tariff.specs.Sum.{whenTrue, sumTo}
 use Rattle.tariff.specs.Terms.{termOf}
@@ -52,7 +52,7 @@ module _ (o f : List ℕ) (m : List Bool) (x : List Entry) (r : Reachable o f m 
   unfolding sumFromSource
   from-source slot v e = sum-ext (O .paths) (λ p k. ap (whenTrue (hasSource O s p)) (e p (le-trans k (counts o f m x r .3))))
 
-  awards-from : (n : ℕ) → n ≤ lastTier → sumFromSource O s (onPath f h (awardsSlot + n)) ≡ sumFromSource O s (λ p. L .tiers .awards h p n)
+  awards-from : (n : ℕ) → n ≤ longTermStep → sumFromSource O s (onPath f h (awardsSlot + n)) ≡ sumFromSource O s (λ p. L .tiers .awards h p n)
   unfolding ledgerIn
   awards-from n k = from-source (awardsSlot + n) _ (λ p i. from-zero f awardsSlot tierSlots h p n holder i (omega arith))
 
@@ -71,20 +71,20 @@ module _ (o f : List ℕ) (m : List Bool) (x : List Entry) (r : Reachable o f m 
     unfolding awardsUsed
     awards-left-out n same e none = sym (when-is-false _ (sym e ∙ not-true same none))
 
-    pub awards-summed : (n sum : ℕ) (same : Bool) → n ≤ lastTier → same ≡ usesSameEvidence tier n → not same ≡ false → sum ≡ sumFromSource O s (onPath f h (awardsSlot + n)) → sum ≡ awardsUsed O L tier h s n
+    pub awards-summed : (n sum : ℕ) (same : Bool) → n ≤ longTermStep → same ≡ usesSameEvidence tier n → not same ≡ false → sum ≡ sumFromSource O s (onPath f h (awardsSlot + n)) → sum ≡ awardsUsed O L tier h s n
     unfolding awardsUsed
     awards-summed n sum same k e some is = is ∙ awards-from n k ∙ sym (when-is-true _ (sym e ∙ not-false same some))
 
-    awards-fit : (n : ℕ) → n ≤ lastTier → awardsUsed O L tier h s n ≤ 16 * maxFigure
+    awards-fit : (n : ℕ) → n ≤ longTermStep → awardsUsed O L tier h s n ≤ 16 * maxFigure
     unfolding awardsUsed
     awards-fit n k = le-trans (when-le (usesSameEvidence tier n) _) (le-trans (le-of-eq (sym (awards-from n k))) (source-fits (awardsSlot + n) (omega arith)))
 
     -- those of all earlier tiers
-    pub before-fits : tier ≤ lastTier → usedBefore O L tier h s ≤ lastTier * (16 * maxFigure)
+    pub before-fits : tier ≤ longTermStep → usedBefore O L tier h s ≤ longTermStep * (16 * maxFigure)
     unfolding usedBefore awardsUsed
     before-fits k = le-trans (sum-bound {f = awardsUsed O L tier h s} (16 * maxFigure) tier (λ n i. awards-fit n (omega arith))) (mul-le-mul-right (16 * maxFigure) k)
 
-    pub before-room : tier ≤ lastTier → (n sum v : ℕ) → n < tier → sum ≡ sumTo n (awardsUsed O L tier h s) → v ≡ awardsUsed O L tier h s n → sum + v ≤ lastTier * (16 * maxFigure)
+    pub before-room : tier ≤ longTermStep → (n sum v : ℕ) → n < tier → sum ≡ sumTo n (awardsUsed O L tier h s) → v ≡ awardsUsed O L tier h s n → sum + v ≤ longTermStep * (16 * maxFigure)
     unfolding usedBefore awardsUsed
     before-room k n sum v i e g =
         let part = sum-part-le (awardsUsed O L tier h s) tier n i in
@@ -92,7 +92,7 @@ module _ (o f : List ℕ) (m : List Bool) (x : List Entry) (r : Reachable o f m 
         omega arith
 
   -- all that the holder uses in the open tier
-  pub usage-fits : sourceUsage O L (L .tiers .currentTier) h s ≤ (1 + lastTier) * (16 * maxFigure)
+  pub usage-fits : sourceUsage O L (L .tiers .currentTier) h s ≤ (1 + longTermStep) * (16 * maxFigure)
   unfolding sourceUsage
   usage-fits =
       let one = nominated-fits in

@@ -1,20 +1,20 @@
 -- What a holder has verified of a source, read in two slots, and cause 11 as code finds it. Assumes nothing.
 use Prim.Native.Nat.{ℕ, _+_, _-_, _≤_, _<_}
 use mathlib.Core.Path.{_≡_, sym, ap, _∙_}
-use mathlib.Core.Bool.{Bool, true, false, _&&_}
+use mathlib.Core.Bool.{Bool, true, false, not, _&&_}
 use mathlib.Core.List.{List}
 use mathlib.Core.Logic.{_⊎_, inl, inr}
 use native.Mathlib.Nat.{le-trans, le-of-eq}
 use native.Mathlib.Omega.{arith}
 use lib.ListN.{length}
-use lib.Dec.{ltb}
+use lib.Dec.{ltb, eqb}
 use borrow.Author.Tests.{eq-eqb, ne-eqb, ltb-true, ltb-false}
 use Rattle.tariff.specs.Sizes.{terms, ownership, contract}
 use Rattle.tariff.specs.declared.evidence.Entry.{Entry}
 use Rattle.tariff.specs.Evidence.{entryKw}
 use Rattle.tariff.specs.Ranges.{maxKw}
-use Rattle.tariff.specs.Terms.{termOf}
-use Rattle.tariff.proofs.Tests.{decided, and-left-false}
+use Rattle.tariff.specs.Terms.{termOf, isLongTermStep}
+use Rattle.tariff.proofs.Tests.{decided, and-left-false, and-right-false}
 use Rattle.ledger.specs.Opening.{Opening, holderKind, pathSource}
 use Rattle.ledger.specs.Ledger.{Ledger}
 use Rattle.ledger.specs.Causes.{exceedsVerified}
@@ -69,15 +69,20 @@ module _ (o f : List ℕ) (m : List Bool) (x : List Entry) (r : Reachable o f m 
         let k = term-fits tier term now ofTier in
         (λ i. (owned ∙ owned-is term k) i + (contracted ∙ contracted-is term k) i) ∙ ap (verifiedKw L h s) (ofTier ∙ ap termOf now)
 
+-- cause 11 is not of the Long Term step ..
+pub not-in-step : (O : Opening) (L : Ledger) (tier h p kw : ℕ) → tier ≡ 10 → false ≡ exceedsVerified O L tier h p kw
+unfolding exceedsVerified isLongTermStep
+not-in-step O L tier h p kw e = sym (ap (λ t. not t && eqb (holderKind O h) 2 && ltb (verifiedKw L h (pathSource O p) (termOf tier)) (sourceUsage O L tier h (pathSource O p) + kw)) (eq-eqb tier 10 e))
+
 module _ (O : Opening) (L : Ledger) (tier h p kw kind : ℕ) (is : kind ≡ holderKind O h) where
-  -- cause 11 is of an OBAALSE ..
+  -- .. it is of an OBAALSE ..
   pub not-obaalse : (kind ≡ 2 → ⊥) → false ≡ exceedsVerified O L tier h p kw
   unfolding exceedsVerified
-  not-obaalse ne = sym (and-left-false _ (ne-eqb (holderKind O h) 2 (λ q. ne (is ∙ q))))
+  not-obaalse ne = sym (and-left-false _ (and-right-false (not (isLongTermStep tier)) (ne-eqb (holderKind O h) 2 (λ q. ne (is ∙ q)))))
 
   -- .. that with kw more uses more than it has verified
-  pub verified-test : (source verified usage : ℕ) → kind ≡ 2 → source ≡ pathSource O p → verified ≡ verifiedKw L h source (termOf tier) → usage ≡ sourceUsage O L tier h source → ltb verified (usage + kw) ≡ exceedsVerified O L tier h p kw
-  unfolding exceedsVerified
-  verified-test source verified usage outside s v u =
+  pub verified-test : (source verified usage : ℕ) → (tier ≡ 10 → ⊥) → kind ≡ 2 → source ≡ pathSource O p → verified ≡ verifiedKw L h source (termOf tier) → usage ≡ sourceUsage O L tier h source → ltb verified (usage + kw) ≡ exceedsVerified O L tier h p kw
+  unfolding exceedsVerified isLongTermStep
+  verified-test source verified usage other outside s v u =
       (λ i. ltb ((v ∙ ap (λ z. verifiedKw L h z (termOf tier)) s) i) ((u ∙ ap (sourceUsage O L tier h) s) i + kw))
-      ∙ sym (ap (λ t. t && ltb (verifiedKw L h (pathSource O p) (termOf tier)) (sourceUsage O L tier h (pathSource O p) + kw)) (eq-eqb (holderKind O h) 2 (sym is ∙ outside)))
+      ∙ sym (λ i. not (ne-eqb tier 10 other i) && eq-eqb (holderKind O h) 2 (sym is ∙ outside) i && ltb (verifiedKw L h (pathSource O p) (termOf tier)) (sourceUsage O L tier h (pathSource O p) + kw))

@@ -2,3 +2,4 @@
 pub mod Inputs
 pub mod PathSums
 pub mod Usage
+pub mod CauseOrder

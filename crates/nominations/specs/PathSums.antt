@@ -4,7 +4,7 @@ use mathlib.Core.Path.{_≡_}
 use mathlib.Core.Bool.{Bool}
 use mathlib.Core.List.{List}
 use lib.ListN.{length}
-use Rattle.tariff.specs.declared.limit.Sums.{Sums}
+use Rattle.nominations.specs.declared.limits.PathSums.{PathSums}
 use Rattle.tariff.specs.Sum.{whenTrue, sumTo}
 use Rattle.ledger.specs.Opening.{Opening, hasBase}
 use Rattle.slots.specs.Cells.{maxHolders, maxPlaces}
@@ -15,10 +15,9 @@ use Rattle.slots.specs.Sums.{onPath, maxFigure, Summable}
 -- its month, and that of the awards of the tier before.
 
 -- the sums with the figures of one path more, where it counts
-unfoldable pub withPath : List ℕ → (h p carried before : ℕ) → Bool → Sums → Sums
+unfoldable pub withPath : List ℕ → (h p carried before : ℕ) → Bool → PathSums → PathSums
 withPath f h p carried before counts s =
     record {
-      load = s .load;
       carried = s .carried + whenTrue counts (onPath f h carried p);
       prior = s .prior + whenTrue counts (onPath f h priorAllocatedSlot p);
       tier1 = s .tier1 + whenTrue counts (onPath f h (awardsSlot + 1) p);
@@ -32,10 +31,9 @@ unfoldable pub slotTo : Opening → List ℕ → (h base slot n : ℕ) → ℕ
 slotTo O f h base slot n = sumTo n (λ p. whenTrue (hasBase O base p) (onPath f h slot p))
 
 -- the sums after n paths
-unfoldable pub sumsTo : Opening → List ℕ → (h base load carried before n : ℕ) → Sums
-sumsTo O f h base load carried before n =
+unfoldable pub sumsTo : Opening → List ℕ → (h base carried before n : ℕ) → PathSums
+sumsTo O f h base carried before n =
     record {
-      load = load;
       carried = slotTo O f h base carried n;
       prior = slotTo O f h base priorAllocatedSlot n;
       tier1 = slotTo O f h base (awardsSlot + 1) n;
@@ -51,7 +49,7 @@ pub record PathsSummable (o f : List ℕ) (h carried before : ℕ) : Type 0 wher
   pub beforeInRow : before < figureSlots
 
 -- no sum is above what all paths can come to
-pub record SumsFit (s : Sums) : Type 0 where
+pub record SumsFit (s : PathSums) : Type 0 where
   pub carried : s .carried ≤ maxPlaces * maxFigure
   pub prior : s .prior ≤ maxPlaces * maxFigure
   pub tier1 : s .tier1 ≤ maxPlaces * maxFigure
@@ -60,7 +58,7 @@ pub record SumsFit (s : Sums) : Type 0 where
   pub before : s .before ≤ maxPlaces * maxFigure
 
 -- a path's figures are there and small, and so are the sums that they are added to
-pub record PathSummable (f : List ℕ) (h p carried before : ℕ) (s : Sums) : Type 0 where
+pub record PathSummable (f : List ℕ) (h p carried before : ℕ) (s : PathSums) : Type 0 where
   pub long : length f ≡ figureCount
   pub holder : h < maxHolders
   pub place : p < maxPlaces

@@ -1,9 +1,12 @@
-// The limit of a tier: the sums that it is made of, added up in one pass over the paths, and the limit itself (01, Limits).
+// The limit of a tier: the sums that it is made of, added up in one pass over the paths, and the limit itself (01, Limits; 02, 1/14).
+use crate::ten_year::ten_year_in;
 use records::answers::Answer;
 use records::calendar::tier_is_open;
+use records::kinds::OBAALSE;
 use records::numbers::NOT_AT_THIS_TIME;
 use records::numbers::NOT_IN_BOOK;
 use records::refusals::refuse;
+use records::setup::holder_kind;
 use records::setup::path_base;
 use records::setup::paths;
 use records::setup::sink_base;
@@ -28,17 +31,34 @@ ghost use Rattle.slots.specs.Steps.{ReachableFigures, InFigures, queryAnswer};
 ghost use Rattle.nominations.specs.Inputs.{LimitInputs};
 ghost use Rattle.nominations.specs.PathSums.{withPath, sumsTo, PathSummable, PathsSummable};
 
+// The sums of a limit that run over paths.
+pub struct PathSums {
+    pub carried: u64,
+    pub prior: u64,
+    pub tier1: u64,
+    pub tier2: u64,
+    pub tier3: u64,
+    pub before: u64,
+}
+
 // The sums with the figures of one path more, where it counts. `carried` is the slot of the month's carried holding, `before` that of the awards of
 // the tier before.
-fn with_path(f: &[u64], h: u64, p: u64, carried: u64, before: u64, counts: bool, sums: Sums) -> Sums
+fn with_path(
+    f: &[u64],
+    h: u64,
+    p: u64,
+    carried: u64,
+    before: u64,
+    counts: bool,
+    sums: PathSums,
+) -> PathSums
     requires { ⌜ PathSummable (now f) h p carried before sums ⌝ }
     ensures { λ r. ⌜ r ≡ withPath (now (f .entry)) h p carried before counts sums ⌝ }
 {
     if !counts {
         return sums;
     }
-    Sums {
-        load: sums.load,
+    PathSums {
         carried: sums.carried + read(f, h, p, carried),
         prior: sums.prior + read(f, h, p, PRIOR_ALLOCATED_SLOT),
         tier1: sums.tier1 + read(f, h, p, AWARDS_SLOT + 1),
@@ -48,14 +68,13 @@ fn with_path(f: &[u64], h: u64, p: u64, carried: u64, before: u64, counts: bool,
     }
 }
 
-// The sums over all paths whose sink has this base, beside the load there.
-fn sum_paths(o: &[u64], f: &[u64], h: u64, base: u64, load: u64, carried: u64, before: u64) -> Sums
+// The sums over all paths whose sink has this base.
+fn sum_paths(o: &[u64], f: &[u64], h: u64, base: u64, carried: u64, before: u64) -> PathSums
     requires { ⌜ PathsSummable (now o) (now f) h carried before ⌝ }
-    ensures { λ r. ⌜ r ≡ sumsTo (openingOf (o .entry)) (now (f .entry)) h base load carried before (openingOf (o .entry) .paths) ⌝ }
+    ensures { λ r. ⌜ r ≡ sumsTo (openingOf (o .entry)) (now (f .entry)) h base carried before (openingOf (o .entry) .paths) ⌝ }
 {
     let past = paths(o);
-    let mut sums = Sums {
-        load,
+    let mut sums = PathSums {
         carried: 0,
         prior: 0,
         tier1: 0,
@@ -80,15 +99,21 @@ fn limit_sums(o: &[u64], f: &[u64], tier: u64, h: u64, base: u64) -> Sums
     let month = carried_month(term);
     let last = saturating_sub(tier, 1);
     let load = read(f, h, base, LOAD_SLOT + term);
-    sum_paths(
-        o,
-        f,
-        h,
-        base,
+    let carried = CARRIED_SLOT + (month - 1);
+    let sums = sum_paths(o, f, h, base, carried, AWARDS_SLOT + last);
+    let ten_year_kw = ten_year_in(o, f, tier, h);
+    let obaalse = holder_kind(o, h) == OBAALSE;
+    Sums {
         load,
-        CARRIED_SLOT + (month - 1),
-        AWARDS_SLOT + last,
-    )
+        carried: sums.carried,
+        prior: sums.prior,
+        tier1: sums.tier1,
+        tier2: sums.tier2,
+        tier3: sums.tier3,
+        before: sums.before,
+        ten_year_kw,
+        obaalse,
+    }
 }
 
 // The limit on what a holder nominates at a base in a tier.

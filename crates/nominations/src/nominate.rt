@@ -1,5 +1,7 @@
-// Nominate: what a holder asks for in the open tier (01, Tiers, Nominate).
+// Nominate: what a holder asks for in the open tier (01, Tiers, Nominate; 02, 1/14).
 use crate::limits::tier_limit;
+use crate::long_term_step::exceeds_tier_1_award;
+use crate::long_term_step::lacks_ten_year;
 use crate::source_usage::source_usage;
 use crate::source_usage::verified_kw;
 use records::answers::Answer;
@@ -7,7 +9,9 @@ use records::calendar::tier_is_open;
 use records::kinds::OBAALSE;
 use records::numbers::ABOVE_LIMIT;
 use records::numbers::ABOVE_PRIOR;
+use records::numbers::ABOVE_TIER_1_AWARD;
 use records::numbers::ABOVE_VERIFIED;
+use records::numbers::NO_TEN_YEAR_EVIDENCE;
 use records::numbers::NOT_AT_THIS_TIME;
 use records::numbers::NOT_IN_BOOK;
 use records::numbers::OUT_OF_RANGE;
@@ -28,6 +32,7 @@ use slots::cells::read;
 use slots::layout::NOMINATED_SLOT;
 use slots::layout::PRIOR_REMAINING_SLOT;
 use slots::sums::sum_at_base;
+use tariff::sizes::LONG_TERM_STEP;
 ghost use mathlib.Core.Path.{_≡_};
 ghost use mathlib.Core.Bool.{_||_, _&&_};
 ghost use lib.ListN.{drop};
@@ -38,6 +43,7 @@ ghost use Rattle.ledger.specs.Numbers.{firstMet};
 ghost use Rattle.ledger.specs.Causes.{kindIneligible, isSubLap, exceedsVerified, exceedsPrior, exceedsLimit, nominateCauses, refusal};
 ghost use Rattle.slots.specs.Steps.{ReachableFigures, InFigures, FiguresStep};
 ghost use Rattle.nominations.specs.Inputs.{NominationInputs};
+ghost use Rattle.nominations.specs.CauseOrder.{causesBeforeTier, causesBeforeStep};
 
 // Cause 10: the path's sink is not for the holder, or is a Sub-LAP in tier 1.
 fn sink_ineligible(o: &[u64], f: &[u64], h: u64, p: u64) -> bool
@@ -48,11 +54,14 @@ fn sink_ineligible(o: &[u64], f: &[u64], h: u64, p: u64) -> bool
     kind_ineligible(o, h, sink) | sub_lap
 }
 
-// Cause 11: with kw more, an OBAALSE uses more of the path's source than it has verified.
+// Cause 11: with kw more, an OBAALSE uses more of the path's source than it has verified; not in the Long Term step.
 fn exceeds_verified(o: &[u64], f: &[u64], h: u64, p: u64, kw: u64) -> bool
     requires { ⌜ NominationInputs (now o) (now f) h p kw ⌝ }
     ensures { λ r. ⌜ InFigures (now (o .entry)) (now (f .entry)) (λ O L. r ≡ exceedsVerified O L (L .tiers .currentTier) h p kw) ⌝ }
 {
+    if current_tier(f) == LONG_TERM_STEP {
+        return false;
+    }
     let kind = holder_kind(o, h);
     if kind != OBAALSE {
         return false;
@@ -84,10 +93,25 @@ fn exceeds_limit(o: &[u64], f: &[u64], h: u64, p: u64, kw: u64) -> bool
     limit < wanted
 }
 
-// The first of causes 10 to 13 that a nomination meets in the open tier, 0 for none.
+// The first of causes 17, 18 and 13 that a nomination meets, 0 for none: those of the Long Term step come before the limit.
+fn refusal_by_limit(o: &[u64], f: &[u64], h: u64, p: u64, kw: u64) -> u64
+    requires { ⌜ NominationInputs (now o) (now f) h p kw ⌝ }
+    ensures { λ r. ⌜ InFigures (now (o .entry)) (now (f .entry)) (λ O L. r ≡ firstMet (drop causesBeforeStep (nominateCauses O L h p kw))) ⌝ }
+{
+    if exceeds_tier_1_award(o, f, h, p, kw) {
+        return ABOVE_TIER_1_AWARD;
+    }
+    if lacks_ten_year(o, f, h, p, kw) {
+        return NO_TEN_YEAR_EVIDENCE;
+    }
+    let limit = exceeds_limit(o, f, h, p, kw);
+    refuse(ABOVE_LIMIT, limit, 0)
+}
+
+// The first cause that a nomination meets in the open tier, 0 for none: 10, 11, 12 and then those above.
 fn refusal_in_tier(o: &[u64], f: &[u64], h: u64, p: u64, kw: u64) -> u64
     requires { ⌜ NominationInputs (now o) (now f) h p kw ⌝ }
-    ensures { λ r. ⌜ InFigures (now (o .entry)) (now (f .entry)) (λ O L. r ≡ firstMet (drop 3 (nominateCauses O L h p kw))) ⌝ }
+    ensures { λ r. ⌜ InFigures (now (o .entry)) (now (f .entry)) (λ O L. r ≡ firstMet (drop causesBeforeTier (nominateCauses O L h p kw))) ⌝ }
 {
     if sink_ineligible(o, f, h, p) {
         return SINK_INELIGIBLE;
@@ -98,8 +122,7 @@ fn refusal_in_tier(o: &[u64], f: &[u64], h: u64, p: u64, kw: u64) -> u64
     if exceeds_prior(o, f, h, p, kw) {
         return ABOVE_PRIOR;
     }
-    let limit = exceeds_limit(o, f, h, p, kw);
-    refuse(ABOVE_LIMIT, limit, 0)
+    refusal_by_limit(o, f, h, p, kw)
 }
 
 // The first cause that a nomination meets, 0 for none. Each is looked for only where none before it is met.

@@ -1,6 +1,6 @@
--- What an entry gives for terms 0 to 3, stored term by term: the array that four stores leave, and what it then shows. Assumes nothing.
-use Prim.Native.Nat.{ℕ, zero, suc, _+_, _≤_, _<_}
-use mathlib.Core.Path.{_≡_, refl, _∙_, subst}
+-- What an entry gives for terms 0 to 3, stored term by term, and then its flag: the array that the stores leave, and what the terms' slots show. Assumes nothing.
+use Prim.Native.Nat.{ℕ, zero, suc, _+_, _*_, _≤_, _<_}
+use mathlib.Core.Path.{_≡_, refl, ap, _∙_, subst}
 use mathlib.Core.Bool.{Bool, true, false, cond, _&&_}
 use mathlib.Core.List.{List, _∷_, _++_}
 use native.Mathlib.Nat.{add-zero}
@@ -8,13 +8,14 @@ use native.Mathlib.Omega.{arith}
 use lib.Dec.{eqb}
 use Rattle.tariff.specs.declared.evidence.Entry.{Entry}
 use Rattle.tariff.specs.Sizes.{terms}
-use Rattle.tariff.specs.Evidence.{entryKw}
+use Rattle.tariff.specs.Sum.{whenTrue}
+use Rattle.tariff.specs.Evidence.{entryKw, isTenYear}
 use Rattle.ledger.specs.Effects.{same2, same3}
 use Rattle.slots.specs.Cells.{storedAt, Shows}
 use Rattle.slots.specs.Groups.{SlotGroup, slotGroup, slotsOf, inSlot}
-use Rattle.slots.specs.Layout.{figureSlots}
+use Rattle.slots.specs.Layout.{figureSlots, ownershipSlot, tenYearSlot, flag}
 use Rattle.slots.proofs.StoreLaws.{slot-stored}
-use Rattle.postings.specs.VerifiedKw.{storedByTerm}
+use Rattle.postings.specs.VerifiedKw.{storedByTerm, storedEntry}
 
 -- the array after four stores
 pub terms-are : (f one two three four : List ℕ) (h s from : ℕ) (entry : Entry) (a b c d : ℕ) → a ≡ entryKw 0 entry → b ≡ entryKw 1 entry → c ≡ entryKw 2 entry → d ≡ entryKw 3 entry → one ≡ storedAt figureSlots f h s from a → two ≡ storedAt figureSlots one h s (from + 1) b → three ≡ storedAt figureSlots two h s (from + 2) c → four ≡ storedAt figureSlots three h s (from + 3) d → four ≡ storedByTerm f h s from entry
@@ -25,6 +26,11 @@ terms-are f one two three four h s from entry a b c d ea eb ec ed e1 e2 e3 e4 =
     ∙ (λ i. storedAt figureSlots (storedAt figureSlots (e2 i) h s (from + 2) (ec i)) h s (from + 3) (entryKw 3 entry))
     ∙ (λ i. storedAt figureSlots (storedAt figureSlots (storedAt figureSlots (e1 i) h s (from + 1) (eb i)) h s (from + 2) (entryKw 2 entry)) h s (from + 3) (entryKw 3 entry))
     ∙ (λ i. storedAt figureSlots (storedAt figureSlots (storedAt figureSlots (storedAt figureSlots f h s from (ea i)) h s (from + 1) (entryKw 1 entry)) h s (from + 2) (entryKw 2 entry)) h s (from + 3) (entryKw 3 entry))
+
+-- .. and after the store of the flag
+pub entry-is : (f one two : List ℕ) (h s slot : ℕ) (entry : Entry) (test : Bool) (v : ℕ) → test ≡ isTenYear entry → v ≡ whenTrue test 1 → one ≡ storedByTerm f h s (ownershipSlot + terms * slot) entry → two ≡ storedAt figureSlots one h s (tenYearSlot + slot) v → two ≡ storedEntry f h s slot entry
+unfolding storedEntry flag
+entry-is f one two h s slot entry test v et ev e1 e2 = e2 ∙ (λ i. storedAt figureSlots (e1 i) h s (tenYearSlot + slot) ((ev ∙ ap (λ t. whenTrue t 1) et) i))
 
 -- four values, one to a term, are the value of the term
 by-term : (here : Bool) (v : ℕ → ℕ) (old t : ℕ) → t < 4 → cond here (v t) old ≡ cond (here && eqb t 3) (v 3) (cond (here && eqb t 2) (v 2) (cond (here && eqb t 1) (v 1) (cond (here && eqb t 0) (v 0) old)))

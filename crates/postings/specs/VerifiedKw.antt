@@ -1,13 +1,13 @@
--- Verified kW term by term: what an entry gives for terms 0 to 3 stands in four slots side by side.
-use Prim.Native.Nat.{ℕ, _+_, _≤_, _<_}
+-- What is stored of an entry: its verified kW for terms 0 to 3, in four slots side by side, and whether it is ten-year evidence.
+use Prim.Native.Nat.{ℕ, _+_, _*_, _≤_, _<_}
 use mathlib.Core.Path.{_≡_}
 use mathlib.Core.List.{List}
 use lib.ListN.{length}
 use Rattle.tariff.specs.declared.evidence.Entry.{Entry}
 use Rattle.tariff.specs.Sizes.{terms}
-use Rattle.tariff.specs.Evidence.{entryKw}
+use Rattle.tariff.specs.Evidence.{entryKw, isTenYear}
 use Rattle.slots.specs.Cells.{maxHolders, maxPlaces, storedAt}
-use Rattle.slots.specs.Layout.{figureSlots, figureCount}
+use Rattle.slots.specs.Layout.{figureSlots, figureCount, ownershipSlot, tenYearSlot, flag}
 
 -- figures with what an entry gives for each term stored in the slots that begin at `from`
 unfoldable pub storedByTerm : List ℕ → (h s from : ℕ) → Entry → List ℕ
@@ -26,3 +26,8 @@ pub record HasTerms (f : List ℕ) (h s from : ℕ) : Type 0 where
   pub holder : h < maxHolders
   pub place : s < maxPlaces
   pub inRow : from + terms ≤ figureSlots
+
+-- figures with what is kept of an entry stored in the slots of its kind, 0 for ownership and 1 for a contract
+unfoldable pub storedEntry : List ℕ → (h s slot : ℕ) → Entry → List ℕ
+storedEntry f h s slot entry =
+    storedAt figureSlots (storedByTerm f h s (ownershipSlot + terms * slot) entry) h s (tenYearSlot + slot) (flag (isTenYear entry))

@@ -9,6 +9,7 @@ use records::numbers::POSTED_BEFORE;
 use records::refusals::refuse;
 use records::setup::unknown_holder;
 use records::setup::unknown_source;
+use records::sums::when_true;
 use slots::calendar::current_tier;
 use slots::cells::cell;
 use slots::cells::is_posted;
@@ -17,6 +18,7 @@ use slots::cells::store;
 use slots::layout::EVIDENCE_COUNT;
 use slots::layout::EVIDENCE_POSTED_SLOT;
 use slots::layout::EVIDENCE_SLOTS;
+use slots::layout::TEN_YEAR_SLOT;
 use slots::layout::VERIFIED_SLOT;
 use tariff::evidence::Entry;
 use tariff::evidence::Evidence;
@@ -24,11 +26,13 @@ use tariff::evidence::Filing;
 use tariff::evidence::entry_kw;
 use tariff::evidence::evidence_in_range;
 use tariff::evidence::file_evidence;
+use tariff::evidence::is_ten_year;
 use tariff::sizes::EVIDENCE_KINDS;
 use tariff::sizes::OWNERSHIP;
 use tariff::sizes::TERMS;
 ghost use mathlib.Core.Path.{_≡_};
 ghost use mathlib.Core.Bool.{false};
+ghost use lib.ListN.{length};
 ghost use Rattle.tariff.specs.Evidence.{entryOf};
 ghost use Rattle.tariff.specs.Ranges.{evidenceOutOfRange};
 ghost use Rattle.ledger.specs.Call.{verify};
@@ -36,9 +40,9 @@ ghost use Rattle.ledger.specs.Causes.{refusal};
 ghost use Rattle.ledger.specs.Season.{step};
 ghost use Rattle.records.specs.Opening.{openingOf};
 ghost use Rattle.slots.specs.Cells.{HasCell, storedAt};
-ghost use Rattle.slots.specs.Layout.{evidenceSlots, evidenceOf, ledgerIn};
+ghost use Rattle.slots.specs.Layout.{figureCount, evidenceSlots, evidenceOf, ledgerIn};
 ghost use Rattle.slots.specs.Steps.{Reachable, ReachablePostings, InPostings, EvidenceStep, Steps};
-ghost use Rattle.postings.specs.VerifiedKw.{storedByTerm, HasTerms};
+ghost use Rattle.postings.specs.VerifiedKw.{storedByTerm, HasTerms, storedEntry};
 
 // An answer beside the book's evidence after it.
 pub struct VerifyOutcome {
@@ -58,12 +62,13 @@ fn verify_refusal(
     right: u64,
     first: u64,
     last: u64,
+    mark: u64,
 ) -> u64
     requires { ⌜ ReachablePostings (now o) (now f) (now m) ⌝ }
-    ensures { λ r. ⌜ InPostings (now (o .entry)) (now (f .entry)) (now (m .entry)) (λ O L. r ≡ refusal O L (verify h s kind capacity right first last)) ⌝ }
+    ensures { λ r. ⌜ InPostings (now (o .entry)) (now (f .entry)) (now (m .entry)) (λ O L. r ≡ refusal O L (verify h s kind capacity right first last mark)) ⌝ }
 {
     let unknown = unknown_holder(o, h) | unknown_source(o, s);
-    let range = !evidence_in_range(kind, capacity, right, first, last);
+    let range = !evidence_in_range(kind, capacity, right, first, last, mark);
     let open = tier_is_open(current_tier(f));
     let posted = is_posted(
         m,
@@ -78,16 +83,17 @@ fn verify_refusal(
 }
 
 // The entry that evidence in range comes to.
-fn entry_in_range(kind: u64, capacity: u64, right: u64, first: u64, last: u64) -> Entry
-    requires { ⌜ evidenceOutOfRange kind capacity right first last ≡ false ⌝ }
-    ensures { λ r. ⌜ r ≡ entryOf kind capacity right first last ⌝ }
+fn entry_in_range(kind: u64, capacity: u64, right: u64, first: u64, last: u64, mark: u64) -> Entry
+    requires { ⌜ evidenceOutOfRange kind capacity right first last mark ≡ false ⌝ }
+    ensures { λ r. ⌜ r ≡ entryOf kind capacity right first last mark ⌝ }
 {
-    match file_evidence(kind, capacity, right, first, last) {
+    match file_evidence(kind, capacity, right, first, last, mark) {
         Filing::Valid(entry) => entry,
         Filing::OutOfRange => Entry {
             evidence: Evidence::Empty,
             first: 0,
             last: 0,
+            ten_year: false,
         },
     }
 }
@@ -101,6 +107,16 @@ fn store_by_term(f: &mut [u64], h: u64, s: u64, from: u64, entry: Entry)
     store(f, h, s, from + 1, entry_kw(entry, 1));
     store(f, h, s, from + 2, entry_kw(entry, 2));
     store(f, h, s, from + 3, entry_kw(entry, 3));
+}
+
+// What an entry gives for each term and whether it is ten-year evidence, stored at a source in the slots of a kind, 0 for ownership.
+fn store_entry(f: &mut [u64], h: u64, s: u64, slot: u64, entry: Entry)
+    requires { ⌜ HasCell evidenceSlots h s slot × (length (now f) ≡ figureCount) ⌝ }
+    ensures { λ r. ⌜ now (f .exit) ≡ storedEntry (now (f .entry)) h s slot entry ⌝ }
+{
+    store_by_term(f, h, s, VERIFIED_SLOT + TERMS * slot, entry);
+    let flag = when_true(is_ten_year(entry), 1);
+    store(f, h, s, TEN_YEAR_SLOT + slot, flag);
 }
 
 // An entry put in the cell of a holder, a source and a slot.
@@ -120,7 +136,7 @@ fn file(
     evidence
 }
 
-// Posts evidence of a holder for a source: what it gives for each term is stored, and it is noted as posted.
+// Posts evidence of a holder for a source: what it gives for each term and whether it is ten-year evidence is stored, and it is noted as posted.
 pub fn verify(
     o: &[u64],
     f: &mut [u64],
@@ -132,17 +148,18 @@ pub fn verify(
     right: u64,
     first: u64,
     last: u64,
+    mark: u64,
 ) -> Answer
     requires { ⌜ ReachablePostings (now o) (now f) (now m) ⌝ }
-    ensures { λ r. ⌜ EvidenceStep (now (o .entry)) (now (f .entry)) (now (m .entry)) (verify h s kind capacity right first last) r (now (f .exit)) (now (m .exit)) ⌝ }
+    ensures { λ r. ⌜ EvidenceStep (now (o .entry)) (now (f .entry)) (now (m .entry)) (verify h s kind capacity right first last mark) r (now (f .exit)) (now (m .exit)) ⌝ }
 {
-    let number = verify_refusal(o, f, m, h, s, kind, capacity, right, first, last);
+    let number = verify_refusal(o, f, m, h, s, kind, capacity, right, first, last, mark);
     if number != 0 {
         return Answer::Refused(number);
     }
-    let entry = entry_in_range(kind, capacity, right, first, last);
+    let entry = entry_in_range(kind, capacity, right, first, last, mark);
     let slot = kind - 1;
-    store_by_term(f, h, s, VERIFIED_SLOT + TERMS * slot, entry);
+    store_entry(f, h, s, slot, entry);
     set_posted(m, h, s, EVIDENCE_POSTED_SLOT + slot);
     Answer::Done
 }
@@ -160,14 +177,15 @@ fn with_filed(
     right: u64,
     first: u64,
     last: u64,
+    mark: u64,
 ) -> [Entry; EVIDENCE_COUNT]
     requires { ⌜ Reachable (now o) (now f) (now m) evidence ⌝ }
-    ensures { λ r. ⌜ r ≡ evidenceOf (step (openingOf (o .entry)) (ledgerIn (now (f .entry)) (now (m .entry)) evidence) (verify h s kind capacity right first last)) ⌝ }
+    ensures { λ r. ⌜ r ≡ evidenceOf (step (openingOf (o .entry)) (ledgerIn (now (f .entry)) (now (m .entry)) evidence) (verify h s kind capacity right first last mark)) ⌝ }
 {
-    if verify_refusal(o, f, m, h, s, kind, capacity, right, first, last) != 0 {
+    if verify_refusal(o, f, m, h, s, kind, capacity, right, first, last, mark) != 0 {
         return evidence;
     }
-    let entry = entry_in_range(kind, capacity, right, first, last);
+    let entry = entry_in_range(kind, capacity, right, first, last, mark);
     file(evidence, h, s, kind - 1, entry)
 }
 
@@ -184,12 +202,26 @@ pub fn verify_and_file(
     right: u64,
     first: u64,
     last: u64,
+    mark: u64,
 ) -> VerifyOutcome
     requires { ⌜ Reachable (now o) (now f) (now m) evidence ⌝ }
-    ensures { λ r. ⌜ Steps (openingOf (o .entry)) (ledgerIn (now (f .entry)) (now (m .entry)) evidence) (verify h s kind capacity right first last) (r .answer) (now (f .exit)) (now (m .exit)) (r .evidence) ⌝ }
+    ensures { λ r. ⌜ Steps (openingOf (o .entry)) (ledgerIn (now (f .entry)) (now (m .entry)) evidence) (verify h s kind capacity right first last mark) (r .answer) (now (f .exit)) (now (m .exit)) (r .evidence) ⌝ }
 {
-    let filed = with_filed(o, f, m, evidence, h, s, kind, capacity, right, first, last);
-    let answer = verify(o, f, m, h, s, kind, capacity, right, first, last);
+    let filed = with_filed(
+        o,
+        f,
+        m,
+        evidence,
+        h,
+        s,
+        kind,
+        capacity,
+        right,
+        first,
+        last,
+        mark,
+    );
+    let answer = verify(o, f, m, h, s, kind, capacity, right, first, last, mark);
     VerifyOutcome {
         answer,
         evidence: filed,

@@ -1,11 +1,12 @@
-// When a call can run, by the tier last closed and the open one (01, Tiers; cause 4).
+// When a call can run, by the tier last closed, the open one, and whether the Long Term step was held (01, Tiers; 02, 1/14; cause 4).
 use tariff::sizes::LAST_SEASON_TIER;
+use tariff::sizes::LONG_TERM_STEP;
 ghost use mathlib.Core.Path.{_≡_};
-ghost use mathlib.Core.Bool.{not, _&&_, _||_};
+ghost use mathlib.Core.Bool.{cond, not, _&&_, _||_};
 ghost use lib.Dec.{leb, ltb, eqb};
 ghost use Prim.Native.Nat.{suc};
 ghost use Rattle.tariff.specs.Sizes.{lastSeasonTier};
-ghost use Rattle.tariff.specs.Terms.{firstTierOf};
+ghost use Rattle.tariff.specs.Terms.{firstTierOf, isLongTermStep};
 
 // A tier is open.
 pub fn tier_is_open(current_tier: u64) -> bool
@@ -50,9 +51,19 @@ pub fn follows(tier: u64, last_closed: u64) -> bool
     false
 }
 
-// No tier is open, and this is the one after the last closed.
-pub fn is_next_tier(tier: u64, last_closed: u64, current_tier: u64) -> bool
-    ensures { λ r. ⌜ r ≡ (not (not (eqb «current_tier» 0)) && eqb tier (suc «last_closed»)) ⌝ }
+// A tier comes in its order: the Long Term step between tiers 1 and 2, and once; any other tier after the last closed.
+fn is_in_order(tier: u64, last_closed: u64, step_held: bool) -> bool
+    ensures { λ r. ⌜ r ≡ cond (isLongTermStep tier) (eqb «last_closed» 1 && not «step_held») (eqb tier (suc «last_closed»)) ⌝ }
 {
-    !tier_is_open(current_tier) & follows(tier, last_closed)
+    if tier == LONG_TERM_STEP {
+        return (last_closed == 1) & !step_held;
+    }
+    follows(tier, last_closed)
+}
+
+// No tier is open, and this one comes in its order.
+pub fn is_next_tier(tier: u64, last_closed: u64, current_tier: u64, step_held: bool) -> bool
+    ensures { λ r. ⌜ r ≡ (not (not (eqb «current_tier» 0)) && cond (isLongTermStep tier) (eqb «last_closed» 1 && not «step_held») (eqb tier (suc «last_closed»))) ⌝ }
+{
+    !tier_is_open(current_tier) & is_in_order(tier, last_closed, step_held)
 }

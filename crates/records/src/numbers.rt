@@ -31,3 +31,7 @@ pub const ABOVE_NOMINATED: u64 = 14;
 pub const OUTPUT_TOO_SHORT: u64 = 15;
 
 pub const BREAKS_RULES: u64 = 16;
+
+pub const ABOVE_TIER_1_AWARD: u64 = 17;
+
+pub const NO_TEN_YEAR_EVIDENCE: u64 = 18;

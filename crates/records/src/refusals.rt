@@ -1,7 +1,7 @@
 // Tests that causes are made of, and the first cause that is met (01, Refusals by cause).
 use tariff::sizes::LAST_MONTH;
 use tariff::sizes::LAST_TERM;
-use tariff::sizes::LAST_TIER;
+use tariff::sizes::LONG_TERM_STEP;
 use tariff::sizes::MAX_KW;
 ghost use mathlib.Core.Path.{_≡_};
 ghost use mathlib.Core.Bool.{cond};
@@ -42,5 +42,5 @@ pub fn prior_out_of_range(allocated: u64, long_term: u64) -> bool
 pub fn tier_out_of_range(tier: u64) -> bool
     ensures { λ r. ⌜ r ≡ tierOutOfRange tier ⌝ }
 {
-    !((1 <= tier) & (tier <= LAST_TIER))
+    !((1 <= tier) & (tier <= LONG_TERM_STEP))
 }

@@ -52,7 +52,7 @@ unfolding twoDigits callCauses loadCauses carryCauses priorCauses verifyCauses m
 call-numbers o L (load h s term contract n blocks) = refl
 call-numbers o L (carry h p kw) = refl
 call-numbers o L (prior h p a l) = refl
-call-numbers o L (verify h s kind capacity right first last) = refl
+call-numbers o L (verify h s kind capacity right first last mark) = refl
 call-numbers o L (migrate term sink lines) = refl
 call-numbers o L (openTier tier) = refl
 call-numbers o L (nominate h p kw) = refl

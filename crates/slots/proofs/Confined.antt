@@ -7,7 +7,7 @@ use native.Mathlib.Nat.{le-trans}
 use native.Mathlib.Omega.{arith}
 use lib.Dec.{eqb}
 use Rattle.tariff.specs.Load.{loadPosted}
-use Rattle.tariff.specs.Terms.{termOf, hasMonth}
+use Rattle.tariff.specs.Terms.{termOf, hasMonth, enteringKw}
 use Rattle.tariff.specs.Evidence.{emptyEntry, entryOf}
 use Rattle.tariff.specs.Sizes.{lastMonth, terms, evidenceKinds}
 use Rattle.ledger.specs.Opening.{Opening, legal, hasBase}
@@ -73,7 +73,7 @@ module _ (o : Opening) (ok : legal o ≡ true) (L : Ledger) (k : Confined L) whe
       record { kw = added-inside terms 0 h s term (loadPosted contract blocks) (L .loads .kw) there (k .loads .kw); posted = posted-inside terms 0 h s term (L .loads .posted) there (k .loads .posted) }
   in-loads (carry h p kw) e = k .loads
   in-loads (prior h p a l) e = k .loads
-  in-loads (verify h s kind capacity right first last) e = k .loads
+  in-loads (verify h s kind capacity right first last mark) e = k .loads
   in-loads (migrate term sink lines) e = record { kw = loads-inside o L term sink lines (counts .0) (migrate-facts o L term sink lines e) (counts .2) (k .loads .kw); posted = k .loads .posted }
   in-loads (openTier tier) e = k .loads
   in-loads (nominate h p kw) e = k .loads
@@ -91,7 +91,7 @@ module _ (o : Opening) (ok : legal o ≡ true) (L : Ledger) (k : Confined L) whe
         posted = posted-inside2 h p (L .rights .posted) (two-cell h p (f .holder) (f .path)) (k .rights .posted);
       }
   in-rights (prior h p a l) e = k .rights
-  in-rights (verify h s kind capacity right first last) e = k .rights
+  in-rights (verify h s kind capacity right first last mark) e = k .rights
   in-rights (migrate term sink lines) e =
       let f = migrate-facts o L term sink lines e in
       record {
@@ -105,7 +105,7 @@ module _ (o : Opening) (ok : legal o ≡ true) (L : Ledger) (k : Confined L) whe
       let f = award-facts o L h p kw e in
       record {
         carried = k .rights .carried;
-        awarded = term-inside (termOf (L .tiers .currentTier)) h p kw (L .rights .awarded) (le-trans (f .holder) (counts .0)) (le-trans (f .path) (counts .3)) (k .rights .awarded);
+        awarded = term-inside (termOf (L .tiers .currentTier)) h p (enteringKw (L .tiers .currentTier) kw) (L .rights .awarded) (le-trans (f .holder) (counts .0)) (le-trans (f .path) (counts .3)) (k .rights .awarded);
         posted = k .rights .posted;
       }
   in-rights closeTier e = k .rights
@@ -122,7 +122,7 @@ module _ (o : Opening) (ok : legal o ≡ true) (L : Ledger) (k : Confined L) whe
         remaining = added-inside2 h p (a - l) (L .priors .remaining) there (k .priors .remaining);
         posted = posted-inside2 h p (L .priors .posted) there (k .priors .posted);
       }
-  in-priors (verify h s kind capacity right first last) e = k .priors
+  in-priors (verify h s kind capacity right first last mark) e = k .priors
   in-priors (migrate term sink lines) e =
       let f = migrate-facts o L term sink lines e in
       record {
@@ -140,11 +140,11 @@ module _ (o : Opening) (ok : legal o ≡ true) (L : Ledger) (k : Confined L) whe
   in-evidence (load h s term contract n blocks) e = k .evidence
   in-evidence (carry h p kw) e = k .evidence
   in-evidence (prior h p a l) e = k .evidence
-  in-evidence (verify h s kind capacity right first last) e =
-      let f = verify-facts o L h s kind capacity right first last e in
+  in-evidence (verify h s kind capacity right first last mark) e =
+      let f = verify-facts o L h s kind capacity right first last mark e in
       let there = in-group evidenceKinds 1 h s kind (le-trans (f .holder) (counts .0)) (le-trans (f .source) (counts .1)) (f .kinds .0) (let t = f .kinds .1 in omega arith) in
       record {
-        entry = λ i j m none. ap (λ t. cond t (entryOf kind capacity right first last) (L .evidence .entry i j m)) (not-there evidenceKinds 1 h s kind i j m there none) ∙ k .evidence .entry i j m none;
+        entry = λ i j m none. ap (λ t. cond t (entryOf kind capacity right first last mark) (L .evidence .entry i j m)) (not-there evidenceKinds 1 h s kind i j m there none) ∙ k .evidence .entry i j m none;
         posted = posted-inside evidenceKinds 1 h s kind (L .evidence .posted) there (k .evidence .posted);
       }
   in-evidence (migrate term sink lines) e = k .evidence
@@ -161,7 +161,7 @@ module _ (o : Opening) (ok : legal o ≡ true) (L : Ledger) (k : Confined L) whe
   in-tiers (load h s term contract n blocks) e = k .tiers
   in-tiers (carry h p kw) e = k .tiers
   in-tiers (prior h p a l) e = k .tiers
-  in-tiers (verify h s kind capacity right first last) e = k .tiers
+  in-tiers (verify h s kind capacity right first last mark) e = k .tiers
   in-tiers (migrate term sink lines) e = k .tiers
   in-tiers (openTier tier) e = record { nominated = k .tiers .nominated; awards = k .tiers .awards }
   in-tiers (nominate h p kw) e =

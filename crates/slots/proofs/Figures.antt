@@ -11,10 +11,10 @@ use lib.Dec.{ltb, eqb}
 use borrow.Author.Tests.{eq-eqb, ltb-true}
 use Rattle.tariff.specs.declared.evidence.Entry.{Entry}
 use Rattle.tariff.specs.Sum.{whenTrue, sumTo}
-use Rattle.tariff.specs.Sizes.{terms, ownership, contract}
+use Rattle.tariff.specs.Sizes.{terms, evidenceKinds, ownership, contract}
 use Rattle.tariff.specs.Ranges.{maxKw}
-use Rattle.tariff.specs.Evidence.{entryKw}
-use Rattle.tariff.proofs.Sums.{when-is-true, term-le-sum}
+use Rattle.tariff.specs.Evidence.{entryKw, isTenYear}
+use Rattle.tariff.proofs.Sums.{when-is-true, when-le, term-le-sum}
 use Rattle.tariff.proofs.Tests.{decided}
 use Rattle.tariff.proofs.EvidenceBounds.{entry-le}
 use Rattle.ledger.specs.Opening.{Opening, pathBase, hasBase}
@@ -26,7 +26,7 @@ use Rattle.ledger.proofs.Bounds.{maxTogether, one-fits}
 use Rattle.records.specs.Opening.{openingIn}
 use Rattle.slots.specs.Cells.{readAt}
 use Rattle.slots.specs.Groups.{SlotGroup, slotGroup, slotsOf, inSlot, figureFrom}
-use Rattle.slots.specs.Layout.{figureSlots, figureGroups, calendarOf, figureIn, ledgerIn, ownershipSlot, contractSlot}
+use Rattle.slots.specs.Layout.{figureSlots, figureGroups, calendarOf, figureIn, ledgerIn, flag, ownershipSlot, contractSlot, tenYearSlot}
 use Rattle.slots.specs.Sums.{maxFigure, Summable}
 use Rattle.slots.specs.Steps.{Reachable}
 use Rattle.slots.proofs.GroupLaws.{in-group}
@@ -47,6 +47,11 @@ within-slot most (slotGroup count low figure ∷ later) h p slot w = go (decided
     go : (ltb slot count ≡ true) ⊎ (ltb slot count ≡ false) → inSlot 0 later h p (slot - count) ≤ most → cond (ltb slot count) (figure h p (slot + low)) (inSlot 0 later h p (slot - count)) ≤ most
     go (inl t) ih = le-trans (le-of-eq (ap (λ u. cond u (figure h p (slot + low)) (inSlot 0 later h p (slot - count))) t)) (w .0 slot (ltb-true slot count t))
     go (inr t) ih = le-trans (le-of-eq (ap (λ u. cond u (figure h p (slot + low)) (inSlot 0 later h p (slot - count))) t)) ih
+
+-- a flag is at most 1
+flag-le : (test : Bool) → flag test ≤ 1
+unfolding flag
+flag-le test = when-le test 1
 
 -- a figure within the bound has room for the kW of one call more
 pub room-for-more : (x kw : ℕ) → x ≤ maxFigure → kw ≤ maxKw → x + kw < 2 ^ 64
@@ -96,6 +101,11 @@ module _ (o f : List ℕ) (m : List Bool) (x : List Entry) (r : Reachable o f m 
   unfolding figureGroups slotsOf
   contract-read h s term a b l = shown 8 contractSlot terms 0 (λ h s n. entryKw n (L .evidence .entry h s contract)) refl (omega arith) refl h s term a b l ∙ ap (λ n. entryKw n (L .evidence .entry h s contract)) (add-zero term)
 
+  -- whether it is ten-year evidence, ownership first
+  pub ten-year-read : (h s j : ℕ) → h < 8 → s < 16 → j < evidenceKinds → readAt figureSlots 0 f h s (tenYearSlot + j) ≡ flag (isTenYear (L .evidence .entry h s (j + 1)))
+  unfolding figureGroups slotsOf
+  ten-year-read h s j a b l = shown 9 tenYearSlot evidenceKinds 1 (λ h s kind. flag (isTenYear (L .evidence .entry h s kind))) refl (omega arith) refl h s j a b l
+
   pub evidence-fits : (h s kind term : ℕ) → entryKw term (L .evidence .entry h s kind) ≤ maxKw
   evidence-fits h s kind term = entry-le maxKw term (L .evidence .entry h s kind) (fits o f m x r .evidenceFits h s kind)
 
@@ -129,7 +139,10 @@ module _ (o f : List ℕ) (m : List Bool) (x : List Entry) (r : Reachable o f m 
                       λ j i. le-trans (evidence-fits h p ownership (j + 0)) (omega arith),
                       (
                         λ j i. le-trans (evidence-fits h p contract (j + 0)) (omega arith),
-                        tt,
+                        (
+                          λ j i. le-trans (flag-le (isTenYear (L .evidence .entry h p (j + 1)))) (omega arith),
+                          tt,
+                        ),
                       ),
                     ),
                   ),

@@ -6,16 +6,16 @@ use mathlib.Core.List.{List, [], _∷_, _++_}
 use mathlib.Core.Logic.{_⊎_, inl, inr}
 use native.Mathlib.Omega.{arith}
 use lib.ListN.{take, drop}
-use lib.Dec.{leb, eqb}
-use borrow.Author.Tests.{eqb-true, eqb-false, leb-true, leb-false}
+use lib.Dec.{eqb}
+use borrow.Author.Tests.{eqb-true, eqb-false}
 use Rattle.tariff.proofs.Tests.{decided, both-ways}
+use Rattle.tariff.specs.Sum.{whenTrue}
 use Rattle.tariff.specs.Evidence.{emptyEntry}
 use Rattle.tariff.specs.Sizes.{lastMonth, terms, evidenceKinds}
-use Rattle.ledger.specs.Ledger.{Ledger, Tiers}
-use Rattle.ledger.proofs.TiersSound.{TiersSound}
+use Rattle.ledger.specs.Ledger.{Ledger}
 use Rattle.slots.specs.Cells.{readAt, arrayOf}
 use Rattle.slots.specs.Groups.{SlotGroup, slotGroup, slotsOf, inSlot, inGroup, figureFrom}
-use Rattle.slots.specs.Layout.{figureSlots, postedSlots, evidenceSlots, figureGroups, postedGroups, evidenceGroups, calendarOf, figuresOf, postedOf, evidenceOf, lastClosedIn, currentTierIn, figureIn, isPostedIn, ledgerIn, loadSlot, priorAllocatedSlot, priorRemainingSlot, carriedSlot, awardedSlot, nominatedSlot, awardsSlot, tierSlots, loadPostedSlot, carryPostedSlot, priorPostedSlot, evidencePostedSlot}
+use Rattle.slots.specs.Layout.{figureSlots, postedSlots, evidenceSlots, figureGroups, postedGroups, evidenceGroups, calendarOf, figuresOf, postedOf, evidenceOf, lastClosedIn, currentTierIn, stepHeldIn, flag, figureIn, isPostedIn, ledgerIn, loadSlot, priorAllocatedSlot, priorRemainingSlot, carriedSlot, awardedSlot, nominatedSlot, awardsSlot, tierSlots, loadPostedSlot, carryPostedSlot, priorPostedSlot, evidencePostedSlot}
 use Rattle.slots.proofs.CellLaws.{array-shows}
 use Rattle.slots.proofs.GroupLaws.{group-facts, in-group, group-slot}
 use Rattle.slots.proofs.Confined.{Confined}
@@ -38,16 +38,11 @@ group-back {A} none width rest before after from count low figure at fits h p k 
         ∙ ap (figure h p) (let same : k - low + low ≡ k = omega arith in same)
     go (inr e) = ap (λ t. cond t (readAt width none (arrayOf width (inSlot none groups) rest) h p (from + (k - low))) none) e ∙ sym (inside e)
 
--- in a tier that is not open the nominations are the awards
-pub settled-even : (T : Tiers) → TiersSound T → (h p t : ℕ) → (t ≡ T .currentTier → ⊥) → T .awards h p t ≡ T .nominated h p t
-settled-even T s h p t ne = go (leb t (T .lastClosed)) refl
-  where
-    go : (b : Bool) → leb t (T .lastClosed) ≡ b → T .awards h p t ≡ T .nominated h p t
-    go true e = sym (s .closedEven h p t (leb-true t (T .lastClosed) e))
-    go false e =
-        let fresh = s .fresh h p t (leb-false t (T .lastClosed) e) ne in
-        let within = s .awardsWithin h p t in
-        omega arith
+-- a test is read back from its flag
+pub flag-back : (test : Bool) → eqb (flag test) 1 ≡ test
+unfolding flag whenTrue
+flag-back true = refl
+flag-back false = refl
 
 module _ (L : Ledger) (k : Confined L) where
   -- group i of the figures, and of what was posted
@@ -72,6 +67,10 @@ module _ (L : Ledger) (k : Confined L) where
   unfolding currentTierIn figuresOf calendarOf
   current-back = array-shows figureSlots 0 (inSlot 0 (figureGroups L)) (calendarOf L) .tail 1
 
+  pub step-back : stepHeldIn (figuresOf L) ≡ L .tiers .stepHeld
+  unfolding stepHeldIn figuresOf calendarOf
+  step-back = ap (λ n. eqb n 1) (array-shows figureSlots 0 (inSlot 0 (figureGroups L)) (calendarOf L) .tail 2) ∙ flag-back (L .tiers .stepHeld)
+
   nominated-back : (h p t : ℕ) → cond (eqb t (currentTierIn (figuresOf L))) (figureIn (figuresOf L) nominatedSlot 1 0 h p 0) (figureIn (figuresOf L) awardsSlot tierSlots 0 h p t) ≡ L .tiers .nominated h p t
   unfolding figureGroups slotsOf
   nominated-back h p t = ap (λ n. cond (eqb t n) (figureIn (figuresOf L) nominatedSlot 1 0 h p 0) (figureIn (figuresOf L) awardsSlot tierSlots 0 h p t)) current-back ∙ go (eqb t (L .tiers .currentTier)) refl
@@ -85,7 +84,7 @@ module _ (L : Ledger) (k : Confined L) where
 
       go : (b : Bool) → eqb t (L .tiers .currentTier) ≡ b → cond b (figureIn (figuresOf L) nominatedSlot 1 0 h p 0) (figureIn (figuresOf L) awardsSlot tierSlots 0 h p t) ≡ L .tiers .nominated h p t
       go true e = figure-back 5 nominatedSlot 1 0 (λ h p n. L .tiers .nominated h p (L .tiers .currentTier)) refl (omega arith) refl h p 0 opened ∙ ap (L .tiers .nominated h p) (sym (eqb-true t (L .tiers .currentTier) e))
-      go false e = figure-back 6 awardsSlot tierSlots 0 (L .tiers .awards) refl (omega arith) refl h p t (k .tiers .awards h p t) ∙ settled-even (L .tiers) (k .sound) h p t (eqb-false t (L .tiers .currentTier) e)
+      go false e = figure-back 6 awardsSlot tierSlots 0 (L .tiers .awards) refl (omega arith) refl h p t (k .tiers .awards h p t) ∙ sym (k .sound .notOpenIsAwards h p t (eqb-false t (L .tiers .currentTier) e))
 
   pub read-back : ledgerIn (figuresOf L) (postedOf L) (evidenceOf L) ≡ L
   unfolding ledgerIn figureGroups postedGroups evidenceGroups evidenceOf slotsOf
@@ -96,5 +95,5 @@ module _ (L : Ledger) (k : Confined L) where
         rights = record { carried = λ h p m. figure-back 3 carriedSlot lastMonth 1 (L .rights .carried) refl (omega arith) refl h p m (k .rights .carried h p m) i; awarded = λ h p m. figure-back 4 awardedSlot lastMonth 1 (L .rights .awarded) refl (omega arith) refl h p m (k .rights .awarded h p m) i; posted = λ h p. posted-back 1 carryPostedSlot 1 0 (λ h p n. L .rights .posted h p) refl (omega arith) refl h p 0 (k .rights .posted h p) i };
         priors = record { allocated = λ h p. figure-back 1 priorAllocatedSlot 1 0 (λ h p n. L .priors .allocated h p) refl (omega arith) refl h p 0 (k .priors .allocated h p) i; remaining = λ h p. figure-back 2 priorRemainingSlot 1 0 (λ h p n. L .priors .remaining h p) refl (omega arith) refl h p 0 (k .priors .remaining h p) i; posted = λ h p. posted-back 2 priorPostedSlot 1 0 (λ h p n. L .priors .posted h p) refl (omega arith) refl h p 0 (k .priors .posted h p) i };
         evidence = record { entry = λ h s n. group-back emptyEntry evidenceSlots [] [] [] 0 evidenceKinds 1 (L .evidence .entry) refl (omega arith) h s n (k .evidence .entry h s n) i; posted = λ h s n. posted-back 3 evidencePostedSlot evidenceKinds 1 (L .evidence .posted) refl (omega arith) refl h s n (k .evidence .posted h s n) i };
-        tiers = record { nominated = λ h p t. nominated-back h p t i; awards = λ h p t. figure-back 6 awardsSlot tierSlots 0 (L .tiers .awards) refl (omega arith) refl h p t (k .tiers .awards h p t) i; lastClosed = closed-back i; currentTier = current-back i };
+        tiers = record { nominated = λ h p t. nominated-back h p t i; awards = λ h p t. figure-back 6 awardsSlot tierSlots 0 (L .tiers .awards) refl (omega arith) refl h p t (k .tiers .awards h p t) i; lastClosed = closed-back i; currentTier = current-back i; stepHeld = step-back i };
       }

@@ -4,9 +4,10 @@ use mathlib.Core.Bool.{Bool, false, cond}
 use mathlib.Core.List.{List, [], _∷_}
 use lib.ListN.{getD}
 use lib.Dec.{eqb}
-use Rattle.tariff.specs.Sizes.{terms, lastMonth, lastTier, evidenceKinds, ownership, contract}
+use Rattle.tariff.specs.Sizes.{terms, lastMonth, longTermStep, evidenceKinds, ownership, contract}
 use Rattle.tariff.specs.declared.evidence.Entry.{Entry}
-use Rattle.tariff.specs.Evidence.{emptyEntry, entryKw}
+use Rattle.tariff.specs.Evidence.{emptyEntry, entryKw, isTenYear}
+use Rattle.tariff.specs.Sum.{whenTrue}
 use Rattle.ledger.specs.Ledger.{Ledger}
 use Rattle.slots.specs.Cells.{rows, arrayOf}
 use Rattle.slots.specs.Groups.{SlotGroup, slotGroup, inSlot, figureFrom}
@@ -33,9 +34,9 @@ nominatedSlot = awardedSlot + lastMonth
 abbrev pub awardsSlot : ℕ
 awardsSlot = nominatedSlot + 1
 
--- the awards have a slot for each tier, and one for tier 0, which is none
+-- the awards have a slot for each tier up to the Long Term step, and one for tier 0, which is none
 abbrev pub tierSlots : ℕ
-tierSlots = lastTier + 1
+tierSlots = longTermStep + 1
 
 abbrev pub ownershipSlot : ℕ
 ownershipSlot = awardsSlot + tierSlots
@@ -43,19 +44,26 @@ ownershipSlot = awardsSlot + tierSlots
 abbrev pub contractSlot : ℕ
 contractSlot = ownershipSlot + terms
 
+-- whether evidence is ten-year evidence, by kind (02, 1/14)
+abbrev pub tenYearSlot : ℕ
+tenYearSlot = contractSlot + terms
+
 -- how many slots a row of figures has
 abbrev pub figureSlots : ℕ
-figureSlots = contractSlot + terms
+figureSlots = tenYearSlot + evidenceKinds
 
--- after the figures stand the tier last closed and the open one
+-- after the figures stand the tier last closed, the open one, and whether the Long Term step was held
 abbrev pub lastClosedAt : ℕ
 lastClosedAt = rows * figureSlots
 
 abbrev pub currentTierAt : ℕ
 currentTierAt = lastClosedAt + 1
 
+abbrev pub stepHeldAt : ℕ
+stepHeldAt = currentTierAt + 1
+
 abbrev pub figureCount : ℕ
-figureCount = currentTierAt + 1
+figureCount = stepHeldAt + 1
 
 -- the same of what was posted
 abbrev pub loadPostedSlot : ℕ
@@ -83,9 +91,13 @@ evidenceSlots = evidenceKinds
 abbrev pub evidenceCount : ℕ
 evidenceCount = rows * evidenceSlots
 
+-- a test is kept as 1 where it holds, else as 0
+unfoldable pub flag : Bool → ℕ
+flag test = whenTrue test 1
+
 module _ (L : Ledger) where
   -- load by term, at a sink; prior's a, and its a − l; carried and awarded holdings by month; what the open tier has nominated, and awards by
-  -- tier, all at a path; and at a source what evidence gives for a term, ownership and contract apart.
+  -- tier, all at a path; and at a source what evidence gives for a term, ownership and contract apart, and by kind whether it is ten-year evidence.
   -- In a closed tier the nominations are the awards, so they are kept once
   unfoldable pub figureGroups : List (SlotGroup ℕ)
   figureGroups =
@@ -98,6 +110,7 @@ module _ (L : Ledger) where
       ∷ slotGroup tierSlots 0 (L .tiers .awards)
       ∷ slotGroup terms 0 (λ h s term. entryKw term (L .evidence .entry h s ownership))
       ∷ slotGroup terms 0 (λ h s term. entryKw term (L .evidence .entry h s contract))
+      ∷ slotGroup evidenceKinds 1 (λ h s kind. flag (isTenYear (L .evidence .entry h s kind)))
       ∷ []
 
   -- whether a load was posted, by term; a carry; a prior; evidence, by kind
@@ -113,9 +126,9 @@ module _ (L : Ledger) where
   unfoldable pub evidenceGroups : List (SlotGroup Entry)
   evidenceGroups = slotGroup evidenceKinds 1 (L .evidence .entry) ∷ []
 
-  -- after the figures stand the tier last closed and the open one, 0 for none
+  -- after the figures stand the tier last closed and the open one, 0 for none, and whether the step was held
   unfoldable pub calendarOf : List ℕ
-  calendarOf = L .tiers .lastClosed ∷ L .tiers .currentTier ∷ []
+  calendarOf = L .tiers .lastClosed ∷ L .tiers .currentTier ∷ flag (L .tiers .stepHeld) ∷ []
 
   unfoldable pub figuresOf : List ℕ
   figuresOf = arrayOf figureSlots (inSlot 0 figureGroups) calendarOf
@@ -126,12 +139,15 @@ module _ (L : Ledger) where
   unfoldable pub evidenceOf : List Entry
   evidenceOf = arrayOf evidenceSlots (inSlot emptyEntry evidenceGroups) []
 
--- the tier last closed and the open one
+-- the tier last closed, the open one, and whether the step was held
 unfoldable pub lastClosedIn : List ℕ → ℕ
 lastClosedIn f = getD f lastClosedAt 0
 
 unfoldable pub currentTierIn : List ℕ → ℕ
 currentTierIn f = getD f currentTierAt 0
+
+unfoldable pub stepHeldIn : List ℕ → Bool
+stepHeldIn f = eqb (getD f stepHeldAt 0) 1
 
 -- the figures of a group that begins at a slot, with so many numbers from the lowest on
 unfoldable pub figureIn : List ℕ → (from count low : ℕ) → ℕ → ℕ → ℕ → ℕ
@@ -154,5 +170,6 @@ ledgerIn f m x =
             awards = figureIn f awardsSlot tierSlots 0;
             lastClosed = lastClosedIn f;
             currentTier = currentTierIn f;
+            stepHeld = stepHeldIn f;
           };
     }

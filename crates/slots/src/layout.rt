@@ -1,8 +1,8 @@
-// The slots of a book's arrays: what is kept for a holder at a place, and where. A place is a sink for loads, a source for verified kW, else a path.
+// The slots of a book's arrays: what is kept for a holder at a place, and where. A place is a sink for loads, a source for evidence, else a path.
 // Each slot stands after the one before it, so that a figure more moves those that follow it.
 use tariff::sizes::EVIDENCE_KINDS;
 use tariff::sizes::LAST_MONTH;
-use tariff::sizes::LAST_TIER;
+use tariff::sizes::LONG_TERM_STEP;
 use tariff::sizes::MAX_HOLDERS;
 use tariff::sizes::MAX_PLACES;
 use tariff::sizes::TERMS;
@@ -26,20 +26,25 @@ pub const AWARDED_SLOT: u64 = CARRIED_SLOT + LAST_MONTH;
 // What the open tier has nominated.
 pub const NOMINATED_SLOT: u64 = AWARDED_SLOT + LAST_MONTH;
 
-// Awards, by tier 0 to 9; 0 is no tier, and has none.
+// Awards, by tier 0 to 10; 0 is no tier, and has none, and 10 is the Long Term step (02, 1/14).
 pub const AWARDS_SLOT: u64 = NOMINATED_SLOT + 1;
 
 // Verified kW, by kind of evidence 1 and 2, and in it by term 0 to 3.
-pub const VERIFIED_SLOT: u64 = AWARDS_SLOT + (LAST_TIER + 1);
+pub const VERIFIED_SLOT: u64 = AWARDS_SLOT + (LONG_TERM_STEP + 1);
 
-pub const FIGURE_SLOTS: u64 = VERIFIED_SLOT + EVIDENCE_KINDS * TERMS;
+// Whether evidence is ten-year evidence, 1 or 0, by kind of evidence 1 and 2 (02, 1/14).
+pub const TEN_YEAR_SLOT: u64 = VERIFIED_SLOT + EVIDENCE_KINDS * TERMS;
 
-// After the figures stand the tier last closed and the open one.
+pub const FIGURE_SLOTS: u64 = TEN_YEAR_SLOT + EVIDENCE_KINDS;
+
+// After the figures stand the tier last closed, the open one, and whether the Long Term step was held, 1 or 0.
 pub const LAST_CLOSED_AT: usize = (ROWS * FIGURE_SLOTS) as usize;
 
 pub const CURRENT_TIER_AT: usize = LAST_CLOSED_AT + 1;
 
-pub const FIGURE_COUNT: usize = CURRENT_TIER_AT + 1;
+pub const STEP_HELD_AT: usize = CURRENT_TIER_AT + 1;
+
+pub const FIGURE_COUNT: usize = STEP_HELD_AT + 1;
 
 // What was posted: load by term, carry, prior, evidence by kind.
 pub const LOAD_POSTED_SLOT: u64 = 0;

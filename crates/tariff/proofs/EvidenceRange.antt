@@ -2,7 +2,7 @@
 use Prim.Native.Nat.{ℕ, _≤_}
 use mathlib.Core.Path.{_≡_, sym}
 use mathlib.Core.Bool.{true, false, not, _&&_}
-use lib.Dec.{leb}
+use lib.Dec.{leb, eqb}
 use borrow.Author.Tests.{leb-true, ltb-false, eq-eqb, ne-eqb, not-false}
 use Rattle.tariff.specs.Terms.{isMonth}
 use Rattle.tariff.specs.declared.evidence.Evidence.the-variants.{Ownership, Contract}
@@ -20,21 +20,23 @@ pub is-month : (m : ℕ) → monthOutOfRange m ≡ false → (1 ≤ m) × (m ≤
 unfolding monthOutOfRange isMonth
 is-month m e = let both = and-both (leb 1 m) (leb m 3) (not-false (leb 1 m && leb m 3) e) in (leb-true 1 m (both .0), leb-true m 3 (both .1))
 
--- the six tests, as the code joins them, are those of the definition
-pub all-six : (kind capacity right first last : ℕ) → (within 1 2 kind && within 1 maxKw capacity && within 1 (highestRight kind capacity) right && within 1 3 first && within 1 3 last && leb first last) ≡ not (evidenceOutOfRange kind capacity right first last)
+-- the seven tests, as the code joins them, are those of the definition
+pub all-seven : (kind capacity right first last mark : ℕ) → (within 1 2 kind && within 1 maxKw capacity && within 1 (highestRight kind capacity) right && within 1 3 first && within 1 3 last && leb first last && leb mark 1) ≡ not (evidenceOutOfRange kind capacity right first last mark)
 unfolding evidenceOutOfRange kwOutOfRange monthOutOfRange isMonth within
-all-six kind capacity right first last = sym (simp (not-or, not-not, not-ltb))
+all-seven kind capacity right first last mark = sym (simp (not-or, not-not, not-ltb))
 
-pub record EvidenceFacts (kind capacity right first last : ℕ) : Type 0 where
+pub record EvidenceFacts (kind capacity right first last mark : ℕ) : Type 0 where
   pub kinds : (1 ≤ kind) × (kind ≤ 2)
   pub capacities : (1 ≤ capacity) × (capacity ≤ maxKw)
   pub rights : (1 ≤ right) × (right ≤ highestRight kind capacity)
   pub months : (1 ≤ first) × (first ≤ last) × (last ≤ 3)
+  pub marks : mark ≤ 1
 
-pub evidence-facts : (kind capacity right first last : ℕ) → evidenceOutOfRange kind capacity right first last ≡ false → EvidenceFacts kind capacity right first last
+pub evidence-facts : (kind capacity right first last mark : ℕ) → evidenceOutOfRange kind capacity right first last mark ≡ false → EvidenceFacts kind capacity right first last mark
 unfolding evidenceOutOfRange kwOutOfRange
-evidence-facts kind capacity right first last e =
-    let order = or-unmet _ _ e in
+evidence-facts kind capacity right first last mark e =
+    let marks = or-unmet _ _ e in
+    let order = or-unmet _ _ (marks .0) in
     let lastMonth = or-unmet _ _ (order .0) in
     let firstMonth = or-unmet _ _ (lastMonth .0) in
     let rightRange = or-unmet _ _ (firstMonth .0) in
@@ -44,17 +46,18 @@ evidence-facts kind capacity right first last e =
       capacities = within-bounds 1 maxKw capacity (not-false _ (kindRange .1));
       rights = within-bounds 1 (highestRight kind capacity) right (not-false _ (rightRange .1));
       months = (is-month first (firstMonth .1) .0, ltb-false _ _ (order .1), is-month last (lastMonth .1) .1);
+      marks = ltb-false _ _ (marks .1);
     }
 
 -- what a filing comes to
-pub filing-out-of-range : (kind capacity right first last : ℕ) → evidenceOutOfRange kind capacity right first last ≡ true → filingOf kind capacity right first last ≡ OutOfRange
+pub filing-out-of-range : (kind capacity right first last mark : ℕ) → evidenceOutOfRange kind capacity right first last mark ≡ true → filingOf kind capacity right first last mark ≡ OutOfRange
 unfolding filingOf filingBy
-filing-out-of-range kind capacity right first last w = rw w
+filing-out-of-range kind capacity right first last mark w = rw w
 
-pub filing-owned : (kind capacity right first last : ℕ) → evidenceOutOfRange kind capacity right first last ≡ false → kind ≡ 1 → filingOf kind capacity right first last ≡ Valid (record { evidence = Ownership capacity right; first = first; last = last })
+pub filing-owned : (kind capacity right first last mark : ℕ) → evidenceOutOfRange kind capacity right first last mark ≡ false → kind ≡ 1 → filingOf kind capacity right first last mark ≡ Valid (record { evidence = Ownership capacity right; first = first; last = last; «ten_year» = eqb mark 1 })
 unfolding filingOf entryOf evidenceOf filingBy
-filing-owned kind capacity right first last w k = rw (w, eq-eqb kind 1 k)
+filing-owned kind capacity right first last mark w k = rw (w, eq-eqb kind 1 k)
 
-pub filing-contract : (kind capacity right first last : ℕ) → evidenceOutOfRange kind capacity right first last ≡ false → (kind ≡ 1 → ⊥) → filingOf kind capacity right first last ≡ Valid (record { evidence = Contract right; first = first; last = last })
+pub filing-contract : (kind capacity right first last mark : ℕ) → evidenceOutOfRange kind capacity right first last mark ≡ false → (kind ≡ 1 → ⊥) → filingOf kind capacity right first last mark ≡ Valid (record { evidence = Contract right; first = first; last = last; «ten_year» = eqb mark 1 })
 unfolding filingOf entryOf evidenceOf filingBy
-filing-contract kind capacity right first last w k = rw (w, ne-eqb kind 1 k)
+filing-contract kind capacity right first last mark w k = rw (w, ne-eqb kind 1 k)

@@ -7,10 +7,10 @@ use lib.ListN.{List·getD-eq-default}
 use lib.Dec.{leb, eqb}
 use borrow.Author.Tests.{eq-eqb, ne-eqb, lt-leb, eqb-true}
 use Rattle.tariff.specs.declared.limit.Formula.{Formula}
-use Rattle.tariff.specs.declared.limit.Formula.the-variants.{First, Second, Third, Even, Odd}
+use Rattle.tariff.specs.declared.limit.Formula.the-variants.{First, Second, Third, Even, Odd, LongTerm}
 use Rattle.tariff.specs.declared.limit.TierRule.{TierRule}
 use Rattle.tariff.specs.Sum.{allBelow}
-use Rattle.tariff.specs.Terms.{termTable, termOf}
+use Rattle.tariff.specs.Terms.{termTable, termOf, isLongTermStep}
 use Rattle.tariff.specs.Ranges.{within}
 use Rattle.tariff.specs.Limit.{formulaOf, ruleOf}
 use Rattle.tariff.proofs.Tests.{all-below, and-right-false, and-left-false}
@@ -36,13 +36,17 @@ pub above-three : (tier : ℕ) → 4 ≤ tier → within 2 3 tier ≡ false
 unfolding within
 above-three tier l = and-right-false (leb 2 tier) (lt-leb tier 3 l)
 
-pub formula-even : (tier : ℕ) → (tier ≡ 1 → ⊥) → within 2 3 tier ≡ false → tier % 2 ≡ 0 → formulaOf tier ≡ Even
-unfolding formulaOf
-formula-even tier ne out e = rw (ne-eqb tier 1 ne, out, eq-eqb (tier % 2) 0 e)
+pub formula-long-term : (tier : ℕ) → tier ≡ 10 → formulaOf tier ≡ LongTerm
+unfolding formulaOf isLongTermStep within
+formula-long-term tier e = ap formulaOf e
 
-pub formula-odd : (tier : ℕ) → (tier ≡ 1 → ⊥) → within 2 3 tier ≡ false → (tier % 2 ≡ 0 → ⊥) → formulaOf tier ≡ Odd
-unfolding formulaOf
-formula-odd tier ne out e = rw (ne-eqb tier 1 ne, out, ne-eqb (tier % 2) 0 e)
+pub formula-even : (tier : ℕ) → (tier ≡ 1 → ⊥) → within 2 3 tier ≡ false → (tier ≡ 10 → ⊥) → tier % 2 ≡ 0 → formulaOf tier ≡ Even
+unfolding formulaOf isLongTermStep
+formula-even tier ne out step e = rw (ne-eqb tier 1 ne, out, ne-eqb tier 10 step, eq-eqb (tier % 2) 0 e)
+
+pub formula-odd : (tier : ℕ) → (tier ≡ 1 → ⊥) → within 2 3 tier ≡ false → (tier ≡ 10 → ⊥) → (tier % 2 ≡ 0 → ⊥) → formulaOf tier ≡ Odd
+unfolding formulaOf isLongTermStep
+formula-odd tier ne out step e = rw (ne-eqb tier 1 ne, out, ne-eqb tier 10 step, ne-eqb (tier % 2) 0 e)
 
 -- a rule is its formula and its term
 pub rule-is : (tier : ℕ) {f : Formula} {t : ℕ} → formulaOf tier ≡ f → t ≡ termOf tier → _≡_ {A = TierRule} (record { formula = f; term = t }) (ruleOf tier)

@@ -1,7 +1,9 @@
 pub mod RuledOut
 pub mod Sums
 pub mod Tests
+pub mod LongTerm
 pub mod Limits
+pub mod Entering
 pub mod Metric
 pub mod EvidenceBounds
 pub mod Products

@@ -1,4 +1,4 @@
--- What a caller's numbers for verify come to: an entry, or a field outside its range (01, Posting, Verify; cause 3).
+-- What a caller's numbers for verify come to: an entry, or a field outside its range (01, Posting, Verify; 02, 1/14; cause 3).
 use Prim.Native.Nat.{ℕ}
 use mathlib.Core.Bool.{cond}
 use lib.Dec.{eqb}
@@ -13,5 +13,6 @@ use Rattle.tariff.specs.Ranges.{evidenceOutOfRange}
 unfoldable pub filingBy : ℕ → Entry → Filing
 filingBy number e = cond (eqb number outOfRange) OutOfRange (Valid e)
 
-unfoldable pub filingOf : ℕ → ℕ → ℕ → ℕ → ℕ → Filing
-filingOf kind capacity right first last = filingBy (cond (evidenceOutOfRange kind capacity right first last) outOfRange 0) (entryOf kind capacity right first last)
+unfoldable pub filingOf : ℕ → ℕ → ℕ → ℕ → ℕ → ℕ → Filing
+filingOf kind capacity right first last mark =
+    filingBy (cond (evidenceOutOfRange kind capacity right first last mark) outOfRange 0) (entryOf kind capacity right first last mark)

@@ -17,9 +17,9 @@ lastTerm = 3
 abbrev pub terms : ℕ
 terms = 4
 
--- the tiers are 1 to 9 (01, The book)
-abbrev pub lastTier : ℕ
-lastTier = 9
+-- the tiers are 1 to 9 (01, The book), and the Long Term step is opened as tier 10 (02, 1/14)
+abbrev pub longTermStep : ℕ
+longTermStep = 10
 
 -- tiers 1 to 3 are the season's (01, The book)
 abbrev pub lastSeasonTier : ℕ
@@ -72,3 +72,7 @@ evidenceKinds = 2
 -- the right of one who owns a whole plant, in ten-thousandths (01, Posting, Verify)
 abbrev pub fullOwnership : ℕ
 fullOwnership = 10000
+
+-- the mark of evidence that runs for ten years; 0 is that of any other (02, 1/14)
+abbrev pub tenYear : ℕ
+tenYear = 1

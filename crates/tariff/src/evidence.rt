@@ -1,12 +1,13 @@
-// Evidence of a right to a source, and what it gives (01, Posting, Verify).
+// Evidence of a right to a source, and what it gives (01, Posting, Verify; 02, 1/14).
 use crate::sizes::CONTRACT;
 use crate::sizes::FULL_OWNERSHIP;
 use crate::sizes::LAST_MONTH;
 use crate::sizes::MAX_KW;
 use crate::sizes::OWNERSHIP;
+use crate::sizes::TEN_YEAR;
 ghost use mathlib.Core.Path.{_≡_};
 ghost use mathlib.Core.Bool.{not};
-ghost use Rattle.tariff.specs.Evidence.{evidenceKw, countsFor, entryKw, highestRight};
+ghost use Rattle.tariff.specs.Evidence.{evidenceKw, countsFor, entryKw, highestRight, isTenYear};
 ghost use Rattle.tariff.specs.Ranges.{evidenceOutOfRange, within};
 ghost use Rattle.tariff.specs.Filing.{filingOf};
 
@@ -19,11 +20,12 @@ pub enum Evidence {
     Contract { right: u32 },
 }
 
-// Evidence beside the first and the last month in which it holds.
+// Evidence beside the first and the last month in which it holds, and whether it is marked as running for ten years.
 pub struct Entry {
     pub evidence: Evidence,
     pub first: u8,
     pub last: u8,
+    pub ten_year: bool,
 }
 
 // What a caller's numbers come to: an entry, or a field outside its range.
@@ -51,8 +53,15 @@ fn highest_right(kind: u64, capacity: u64) -> u64
 }
 
 // Whether a caller's numbers are those of an evidence.
-pub fn evidence_in_range(kind: u64, capacity: u64, right: u64, first: u64, last: u64) -> bool
-    ensures { λ r. ⌜ r ≡ not (evidenceOutOfRange kind capacity right first last) ⌝ }
+pub fn evidence_in_range(
+    kind: u64,
+    capacity: u64,
+    right: u64,
+    first: u64,
+    last: u64,
+    mark: u64,
+) -> bool
+    ensures { λ r. ⌜ r ≡ not (evidenceOutOfRange kind capacity right first last mark) ⌝ }
 {
     let kind_fits = is_within(OWNERSHIP, CONTRACT, kind);
     let capacity_fits = is_within(1, MAX_KW, capacity);
@@ -60,16 +69,25 @@ pub fn evidence_in_range(kind: u64, capacity: u64, right: u64, first: u64, last:
     let first_fits = is_within(1, LAST_MONTH, first);
     let last_fits = is_within(1, LAST_MONTH, last);
     let ordered = first <= last;
-    kind_fits & capacity_fits & right_fits & first_fits & last_fits & ordered
+    let mark_fits = mark <= TEN_YEAR;
+    kind_fits & capacity_fits & right_fits & first_fits & last_fits & ordered & mark_fits
 }
 
 // The entry that a caller's numbers file.
-pub fn file_evidence(kind: u64, capacity: u64, right: u64, first: u64, last: u64) -> Filing
-    ensures { λ r. ⌜ r ≡ filingOf kind capacity right first last ⌝ }
+pub fn file_evidence(
+    kind: u64,
+    capacity: u64,
+    right: u64,
+    first: u64,
+    last: u64,
+    mark: u64,
+) -> Filing
+    ensures { λ r. ⌜ r ≡ filingOf kind capacity right first last mark ⌝ }
 {
-    if !evidence_in_range(kind, capacity, right, first, last) {
+    if !evidence_in_range(kind, capacity, right, first, last, mark) {
         return Filing::OutOfRange;
     }
+    let ten_year = mark == TEN_YEAR;
     if kind == OWNERSHIP {
         let evidence = Evidence::Ownership {
             capacity: capacity as u32,
@@ -79,6 +97,7 @@ pub fn file_evidence(kind: u64, capacity: u64, right: u64, first: u64, last: u64
             evidence,
             first: first as u8,
             last: last as u8,
+            ten_year,
         });
     }
     let evidence = Evidence::Contract {
@@ -88,6 +107,7 @@ pub fn file_evidence(kind: u64, capacity: u64, right: u64, first: u64, last: u64
         evidence,
         first: first as u8,
         last: last as u8,
+        ten_year,
     })
 }
 
@@ -124,4 +144,15 @@ pub fn entry_kw(e: Entry, term: u64) -> u64
         return evidence_kw(evidence);
     }
     0
+}
+
+// Whether an entry is ten-year evidence for the season.
+pub fn is_ten_year(e: Entry) -> bool
+    ensures { λ r. ⌜ r ≡ isTenYear e ⌝ }
+{
+    let marked = e.ten_year;
+    if marked {
+        return counts_for(e, 0);
+    }
+    false
 }

@@ -1,10 +1,11 @@
-// Eligible quantities and the limit by tier (01, Limits).
+// Eligible quantities and the limit by tier (01, Limits; 02, 1/14).
 use crate::sizes::LAST_SEASON_TIER;
+use crate::sizes::LONG_TERM_STEP;
 use crate::terms::term_of;
 ghost use mathlib.Core.Path.{_≡_};
 ghost use Prim.Native.Nat.{_-_};
-ghost use Rattle.tariff.specs.Eligible.{seasonalEligible, priorityEligible};
-ghost use Rattle.tariff.specs.Limit.{limitTier1, limitTier2, limitTier3, limitEvenTier, limitOddTier, limitBy, ruleOf, limitOfSums};
+ghost use Rattle.tariff.specs.Eligible.{seasonalEligible, priorityEligible, fifthOfLoad, halfOfLoad};
+ghost use Rattle.tariff.specs.Limit.{limitTier1, limitTier2, limitTier3, limitEvenTier, limitOddTier, longTermEligible, limitLongTerm, limitBy, ruleOf, limitOfSums};
 
 // What a limit is made of, for one holder, base and tier.
 pub struct Sums {
@@ -20,6 +21,10 @@ pub struct Sums {
     pub tier3: u64,
     // The awards in the tier just before.
     pub before: u64,
+    // E: the kW of the holder's ten-year evidence, in the Long Term step.
+    pub ten_year_kw: u64,
+    // Whether the holder is an OBAALSE.
+    pub obaalse: bool,
 }
 
 // The formulas that a limit can have.
@@ -29,6 +34,7 @@ pub enum Formula {
     Third,
     Even,
     Odd,
+    LongTerm,
 }
 
 // A tier's formula, and the term whose load it takes.
@@ -37,7 +43,7 @@ pub struct TierRule {
     pub term: u64,
 }
 
-// The formula and the term, by the tier's number. Tiers 1 to 3 are the season's.
+// The formula and the term, by the tier's number. Tiers 1 to 3 are the season's, and so is the Long Term step.
 pub fn tier_rule(tier: u64) -> TierRule
     ensures { λ r. ⌜ r ≡ ruleOf tier ⌝ }
 {
@@ -52,6 +58,10 @@ pub fn tier_rule(tier: u64) -> TierRule
             } else {
                 Formula::Third
             },
+            term: 0,
+        },
+        LONG_TERM_STEP => TierRule {
+            formula: Formula::LongTerm,
             term: 0,
         },
         _ => TierRule {
@@ -137,6 +147,46 @@ fn limit_odd_tier(s: Sums) -> u64
     saturating_sub(limit_even_tier(s), before)
 }
 
+// What the Long Term step needs no ten-year evidence for.
+pub fn fifth_of_load(load: u64) -> u64
+    ensures { λ r. ⌜ r ≡ fifthOfLoad load ⌝ }
+{
+    load / 5
+}
+
+// What the Long Term step can come to with such evidence.
+pub fn half_of_load(load: u64) -> u64
+    ensures { λ r. ⌜ r ≡ halfOfLoad load ⌝ }
+{
+    load / 2
+}
+
+// The part of a holder's load that the Long Term step is for.
+fn long_term_eligible(s: Sums) -> u64
+    ensures { λ r. ⌜ r ≡ longTermEligible s ⌝ }
+{
+    let fifth = fifth_of_load(s.load);
+    let half = half_of_load(s.load);
+    if s.obaalse {
+        return half;
+    }
+    if s.ten_year_kw <= fifth {
+        return fifth;
+    }
+    if s.ten_year_kw <= half {
+        s.ten_year_kw
+    } else {
+        half
+    }
+}
+
+fn limit_long_term(s: Sums) -> u64
+    ensures { λ r. ⌜ r ≡ limitLongTerm s ⌝ }
+{
+    let carried = s.carried;
+    saturating_sub(long_term_eligible(s), carried)
+}
+
 // The limit by a formula.
 pub fn limit_by(formula: Formula, s: Sums) -> u64
     ensures { λ r. ⌜ r ≡ limitBy formula s ⌝ }
@@ -147,6 +197,7 @@ pub fn limit_by(formula: Formula, s: Sums) -> u64
         Formula::Third => limit_tier_3(s),
         Formula::Even => limit_even_tier(s),
         Formula::Odd => limit_odd_tier(s),
+        Formula::LongTerm => limit_long_term(s),
     }
 }
 

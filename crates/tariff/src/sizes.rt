@@ -18,6 +18,9 @@ pub const TERMS: u64 = 4;
 // The tiers are 1 to 9 (01, The book).
 pub const LAST_TIER: u64 = 9;
 
+// The Long Term step is opened as tier 10 (02, 1/14).
+pub const LONG_TERM_STEP: u64 = 10;
+
 // Tiers 1 to 3 are the season's (01, The book).
 pub const LAST_SEASON_TIER: u64 = 3;
 
@@ -56,3 +59,6 @@ pub const EVIDENCE_KINDS: u64 = 2;
 
 // The right of one who owns a whole plant, in ten-thousandths (01, Posting, Verify).
 pub const FULL_OWNERSHIP: u64 = 10_000;
+
+// The mark of evidence that runs for ten years; 0 is that of any other (02, 1/14).
+pub const TEN_YEAR: u64 = 1;

@@ -8,9 +8,10 @@ use tariff::evidence::Filing;
 use tariff::evidence::entry_kw;
 use tariff::evidence::evidence_kw;
 use tariff::evidence::file_evidence;
+use tariff::evidence::is_ten_year;
 
 // How many numbers a row has.
-pub const WIDTH: usize = 5;
+pub const WIDTH: usize = 6;
 
 // What a row comes to.
 fn row_filed(row: usize) -> Filing
@@ -24,6 +25,7 @@ fn row_filed(row: usize) -> Filing
         at(rows, from + 2),
         at(rows, from + 3),
         at(rows, from + 4),
+        at(rows, from + 5),
     )
 }
 
@@ -34,6 +36,11 @@ fn write_entry(e: Entry) {
     write::field(entry_kw(e, 1));
     write::field(entry_kw(e, 2));
     write::field(entry_kw(e, 3));
+    if is_ten_year(e) {
+        write::field(entry_kw(e, 0));
+    } else {
+        write::field(0);
+    }
 }
 
 // The line of a row.

@@ -4,13 +4,15 @@ use crate::limit_rows;
 use crate::rows::at;
 use crate::write;
 use tariff::limit::Sums;
+use tariff::limit::fifth_of_load;
+use tariff::limit::half_of_load;
 use tariff::limit::limit_of_sums;
 use tariff::limit::priority_eligible;
 use tariff::limit::seasonal_eligible;
 use tariff::terms::term_of;
 
 // How many numbers a row has.
-pub const WIDTH: usize = 8;
+pub const WIDTH: usize = 10;
 
 // The line of a load.
 pub fn write_eligible(row: usize) {
@@ -18,6 +20,8 @@ pub fn write_eligible(row: usize) {
     write::word(b"eligible");
     write::field(seasonal_eligible(load));
     write::field(priority_eligible(load));
+    write::field(fifth_of_load(load));
+    write::field(half_of_load(load));
     write::end();
 }
 
@@ -34,6 +38,8 @@ fn sums_from(from: usize) -> Sums
         tier2: at(rows, from + 5),
         tier3: at(rows, from + 6),
         before: at(rows, from + 7),
+        ten_year_kw: at(rows, from + 8),
+        obaalse: at(rows, from + 9) == 1,
     }
 }
 

@@ -2,9 +2,10 @@
 // The numbers stand in *_rows.rt and class_lines.rt. The lines:
 //
 //   load,KW                 the load posted of a block list; load,no,N where it is refused: 6, 7, or 1 for slices of unequal length
-//   eligible,S,P            S and P of a load
-//   limit,TIER,TERM,KW      the term of a tier, and the limit in it
-//   evidence,KW,K0,..,K3    what evidence gives, and what it gives in each term; evidence,no,3 where a field is outside its range
+//   eligible,S,P,F,H        S and P of a load, a fifth and half of it
+//   limit,TIER,TERM,KW      the term of a tier or of the Long Term step, which is 10, and the limit in it
+//   evidence,KW,K0,..,K3,T  what evidence gives, what it gives in each term, and what as ten-year evidence; evidence,no,3 where a field is
+//                           outside its range
 //   netting,I,J,M,..        loser, gainer and m of each pair whose m is not 0; netting,no where the class lines are unfit
 //   given,G0,..,G7          what each holder gives of a column of records in a migration
 //   transfer,V0,..,V7       the column after it

@@ -29,7 +29,7 @@ fn postings() -> String {
         }
         text += &format!("carry,{holder},{sink},700\n");
         text += &format!("prior,{holder},{sink},9000,500\n");
-        text += &format!("verify,{holder},0,2,80000,70000,1,3\n");
+        text += &format!("verify,{holder},0,2,80000,70000,1,3,0\n");
     }
     text
 }

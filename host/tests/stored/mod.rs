@@ -17,7 +17,7 @@ pub fn examples() -> Vec<PathBuf> {
     };
     let mut scripts: Vec<PathBuf> = paths.filter(is_script).collect();
     scripts.sort();
-    assert!(scripts.len() >= 6);
+    assert!(scripts.len() >= 7);
     scripts
 }
 
@@ -26,7 +26,7 @@ pub fn vectors() -> Vec<(String, Vec<u8>)> {
     let text = std::fs::read(repository().join("crates/vectors/stdin")).expect("vectors");
     let vectors = model::vectors::vectors(&text).into_iter();
     let vectors: Vec<_> = vectors.map(|vector| (vector.name, vector.script)).collect();
-    assert!(vectors.len() >= 200);
+    assert!(vectors.len() >= 300);
     vectors
 }
 

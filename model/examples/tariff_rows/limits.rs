@@ -1,9 +1,11 @@
 //! Loads with their eligible quantities, and sums with their limits.
 
+use super::step;
 use super::table::{file, line, Table};
 use model::generate::Random;
 use model::rules::{self, Sums};
 use model::sizes::{MAX_KW, TIERS};
+use model::LONG_TERM_STEP;
 
 /// A load so large that not much more than 3 times it fits 64 bits.
 const HUGE: u64 = 1 << 62;
@@ -43,6 +45,7 @@ fn tiers() -> std::ops::RangeInclusive<u64> {
     1..=TIERS as u64
 }
 
+/// Limits of a load-serving holder without evidence.
 fn rows() -> Vec<Row> {
     let mut rows: Vec<Row> = tiers().flat_map(edges).collect();
     rows.extend(marked());
@@ -50,6 +53,7 @@ fn rows() -> Vec<Row> {
     for tier in tiers() {
         rows.extend((0..6).map(|_| row("drawn", tier, random_rows(&mut random))));
     }
+    rows.extend(edges(LONG_TERM_STEP));
     rows
 }
 
@@ -116,37 +120,43 @@ fn random_rows(random: &mut Random) -> Sums {
 /// What the program prints.
 pub fn lines() -> Vec<String> {
     let eligible = loads().into_iter().map(|load| {
-        let both = [
+        let parts = [
             rules::seasonal_eligible(load),
             rules::priority_eligible(load),
+            rules::fifth_of_load(load),
+            rules::half_of_load(load),
         ];
-        line("eligible", &both)
+        line("eligible", &parts)
     });
-    let limits = rows().into_iter().map(|row| {
-        let term = rules::term_of(row.tier) as u64;
-        let kw = rules::limit(row.tier, &row.sums);
-        line("limit", &[row.tier, term, kw])
-    });
-    eligible.chain(limits).collect()
+    let limit = |tier, kw| line("limit", &[tier, rules::term_of(tier) as u64, kw]);
+    let limits = rows().into_iter();
+    let limits = limits.map(|row| limit(row.tier, rules::limit(row.tier, &row.sums)));
+    let in_step = step::rows().into_iter();
+    let in_step = in_step.map(|(_, step)| limit(LONG_TERM_STEP, step.limit()));
+    eligible.chain(limits).chain(in_step).collect()
 }
 
 /// The table file.
 pub fn tables() -> String {
     let rows = rows();
-    let mut eligible = Table::new("LOADS", "Loads whose S and P are asked for.");
+    let mut eligible = Table::new(
+        "LOADS",
+        "Loads whose S and P, fifth and half are asked for.",
+    );
     for (k, load) in loads().into_iter().enumerate() {
         eligible.push(k.to_string(), vec![load]);
     }
     let mut table = Table::new(
         "ROWS",
-        "Of each row: the tier, A, LT, the sum of prior's a, T1, T2, T3 and the awards in the tier before.",
+        "Of each row: the tier, A, LT, the sum of prior's a, T1, T2, T3, the awards in the tier before, E, and 1 for an OBAALSE.",
     );
     for (k, Row { about, tier, sums }) in rows.iter().enumerate() {
         let mut numbers = vec![*tier, sums.load, sums.carried, sums.prior];
         numbers.extend(sums.season);
-        numbers.push(sums.before);
+        numbers.extend([sums.before, 0, 0]);
         table.push(format!("{k}: tier {tier}, {about}"), numbers);
     }
+    step::push(&mut table, rows.len());
     file(
         "Loads, and the sums that limits are made of.",
         &[eligible, table],

@@ -4,11 +4,11 @@ use super::draft::Draft;
 use super::random::Random;
 use super::writer::Writer;
 use super::{migrate, posting};
-use crate::calendar::first_tier_of;
+use crate::calendar::{first_tier_of, open_in_time, LONG_TERM_STEP};
 
 /// Writes one call that is wrong in some way, or likely so.
 pub(crate) fn fault(writer: &mut Writer) {
-    let draft = match writer.random.up_to(11) {
+    let draft = match writer.random.up_to(12) {
         0 | 1 => bent(writer),
         2 => again(writer),
         3 | 4 => bad_blocks(writer),
@@ -17,6 +17,7 @@ pub(crate) fn fault(writer: &mut Writer) {
         8 => return unreadable(writer),
         9 => untimely(writer),
         10 => return far_migration(writer),
+        11 => bad_mark(writer),
         _ => Some(any_call(writer)),
     };
     if let Some(draft) = draft {
@@ -169,14 +170,34 @@ fn ineligible_sink(writer: &mut Writer) -> Option<Draft> {
 
 /// An opening or a close that is not due.
 fn untimely(writer: &mut Writer) -> Option<Draft> {
-    let due = writer.book.last_closed + 1;
-    let tier = writer.random.up_to(10);
+    let tier = match writer.random.one_in(3) {
+        true => LONG_TERM_STEP,
+        false => writer.random.up_to(LONG_TERM_STEP + 1),
+    };
     let open = writer.book.open_tier.is_some();
     match writer.random.one_in(3) {
         true if !open => Some(Draft::line("close", &[])),
-        _ if open || tier != due => Some(Draft::line("open", &[tier])),
+        _ if !open_in_time(&writer.book, tier) => Some(Draft::line("open", &[tier])),
         _ => None,
     }
+}
+
+/// Evidence with a ten-year mark that is neither 0 nor 1, or with none at all.
+fn bad_mark(writer: &mut Writer) -> Option<Draft> {
+    if writer.book.holders == 0 || writer.book.sources == 0 {
+        return None;
+    }
+    let holder = writer.random.below(writer.book.holders) as u64;
+    let source = writer.random.below(writer.book.sources) as u64;
+    let kind = writer.random.between(1, 2);
+    let mut draft = posting::verify(writer, holder, source, kind);
+    draft.fields.pop();
+    if writer.random.one_in(2) {
+        draft
+            .fields
+            .push(writer.random.select(&[2, 3, 10, 999_999_999]));
+    }
+    Some(draft)
 }
 
 /// A group with one line that cannot be read, or a line that no head counts.

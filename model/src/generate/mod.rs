@@ -18,13 +18,14 @@ pub use damage::damaged;
 pub use random::Random;
 
 use crate::book::Book;
+use crate::calendar::LONG_TERM_STEP;
 use writer::Writer;
 
 /// A whole season: an opening, postings, nine tiers with migrations between
-/// them, queries, and faulty calls here and there.
+/// them, the Long Term step, queries, and faulty calls here and there.
 ///
-/// Now and then the opening breaks the rules or cannot be read, and now and
-/// then the season ends before tier 9.
+/// Now and then the opening breaks the rules or cannot be read, now and then
+/// the step is skipped, and now and then the season ends before tier 9.
 pub fn season(seed: u64) -> Vec<u8> {
     let mut random = Random::new(seed);
     let opening = openings::opening(&mut random);
@@ -54,7 +55,18 @@ fn write_season(mut writer: Writer) -> Vec<u8> {
         posting::before_tier(&mut writer, tier, &mut later);
         migrate::before_tier(&mut writer, tier);
         tiers::hold(&mut writer, tier);
+        if tier == 1 {
+            hold_step(&mut writer, &mut later);
+        }
     }
     faults::tail(&mut writer);
     writer.text.into_bytes()
+}
+
+/// What is posted between tier 1 and the Long Term step, and mostly the step.
+fn hold_step(writer: &mut Writer, later: &mut posting::Later) {
+    posting::before_tier(writer, LONG_TERM_STEP, later);
+    if writer.random.percent(85) {
+        tiers::hold(writer, LONG_TERM_STEP);
+    }
 }

@@ -4,7 +4,7 @@ use super::draft::Draft;
 use super::random::Random;
 use super::writer::Writer;
 use super::{faults, migrate, tiers};
-use crate::calendar::first_tier_of;
+use crate::calendar::{first_tier_of, LONG_TERM_STEP};
 use crate::sizes::MAX_KW;
 
 /// A posting and the tier before which it is to be posted.
@@ -45,14 +45,24 @@ fn plan_loads(writer: &mut Writer, later: &mut Later) {
     }
 }
 
-/// Carries and priors, on paths whose sink is for the holder.
+/// Carries and priors, on paths whose sink is for the holder, mostly where it
+/// has load in the season.
 fn plan_rights(writer: &mut Writer, later: &mut Later) {
     let mut pairs = writer.fitting_paths();
+    if writer.random.percent(70) {
+        pairs.sort_by_key(|&(holder, path)| {
+            let base = writer.book.base_of_path(path) as u64;
+            let load = [holder as u64, base, 0];
+            !later
+                .iter()
+                .any(|(_, draft)| draft.fields.starts_with(&load))
+        });
+    }
     pairs.truncate(24);
     for (holder, path) in pairs {
         let on_path = [holder as u64, path as u64];
         if writer.random.percent(35) {
-            let part = writer.random.select(&[1, 6, 12, 12, 30]);
+            let part = writer.random.select(&[1, 6, 12, 12, 30, 60]);
             let kw = writer.kw(part);
             later.push((1, Draft::line("carry", &[on_path[0], on_path[1], kw])));
         }
@@ -71,17 +81,23 @@ fn plan_rights(writer: &mut Writer, later: &mut Later) {
     }
 }
 
-/// Evidence: mostly of kind 2 holders, at sources of paths for them.
+/// Evidence: mostly of kind 2 holders, at sources of paths for them; the others
+/// bring theirs for the Long Term step.
 fn plan_evidence(writer: &mut Writer, later: &mut Later) {
     for (holder, path) in writer.fitting_paths() {
         let outside = writer.book.is_obaalse(holder);
-        let source = writer.book.path_source[path] as u64;
+        let source = match writer.random.one_in(12) {
+            // No path has to start there.
+            true => writer.random.below(writer.book.sources) as u64,
+            false => writer.book.path_source[path] as u64,
+        };
         for kind in 1..=2 {
-            let wanted = if outside { 60 } else { 2 };
+            let wanted = if outside { 60 } else { 40 };
             if writer.random.percent(wanted) && later.len() < 160 {
-                let before = match writer.random.percent(80) {
-                    true => 1,
-                    false => writer.random.between(1, 9),
+                let before = match writer.random.up_to(9) {
+                    0 => writer.random.between(1, 9),
+                    1 | 2 => LONG_TERM_STEP,
+                    _ => 1,
                 };
                 let draft = verify(writer, holder as u64, source, kind);
                 later.push((before, draft));
@@ -92,7 +108,7 @@ fn plan_evidence(writer: &mut Writer, later: &mut Later) {
 
 /// Evidence that is in range; it may have been filed before.
 pub(crate) fn verify(writer: &mut Writer, holder: u64, source: u64, kind: u64) -> Draft {
-    let part = writer.random.select(&[1, 1, 2, 8]);
+    let part = writer.random.select(&[1, 1, 2, 8, 40]);
     let capacity = writer.kw(part);
     let right = match kind {
         1 => writer.random.select(&[1, 3_333, 5_000, 9_999, 10_000]),
@@ -108,7 +124,8 @@ pub(crate) fn verify(writer: &mut Writer, holder: u64, source: u64, kind: u64) -
     } else {
         writer.random.between(first, 3)
     };
-    let fields = [holder, source, kind, capacity, right, first, last];
+    let ten_year = u64::from(writer.random.percent(70));
+    let fields = [holder, source, kind, capacity, right, first, last, ten_year];
     Draft::line("verify", &fields)
 }
 

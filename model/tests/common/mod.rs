@@ -1,6 +1,8 @@
 //! Scripts with their answers beside them.
 #![allow(dead_code)]
 
+pub mod step;
+
 /// A book with both kinds of holder and all four kinds of sink.
 ///
 /// Holders 0, 1 and 3 serve load, holder 2 is outside. Sink 0 is a Default

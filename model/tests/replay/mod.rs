@@ -5,7 +5,7 @@
 mod reader;
 mod tally;
 
-use model::{Answer, Book, Call, Migrate};
+use model::{Answer, Book, Call, Migrate, LONG_TERM_STEP};
 pub use reader::{groups, Group};
 use tally::Tally;
 
@@ -14,7 +14,7 @@ use tally::Tally;
 pub struct Coverage {
     pub seasons: u64,
     /// How often each number was answered.
-    pub numbers: [u64; 17],
+    pub numbers: [u64; 19],
     /// Seasons in which tier 9 was opened and closed.
     pub complete: u64,
     /// Seasons in which a migration moved load, by term.
@@ -26,6 +26,18 @@ pub struct Coverage {
     pub awarded: u64,
     /// Nominations that came exactly to the limit.
     pub at_the_limit: u64,
+    /// Seasons in which the Long Term step was opened.
+    pub step_held: u64,
+    /// How often each number was answered while the step was open.
+    pub step_numbers: [u64; 19],
+    /// Nominations and awards that were accepted in the step.
+    pub step_nominated: u64,
+    pub step_awarded: u64,
+    /// Nominations in the step that came exactly to its limit, above a fifth of
+    /// the load.
+    pub step_at_evidence: u64,
+    /// Nominations refused with 18 for the source of an earlier one alone.
+    pub step_earlier_source: u64,
 }
 
 /// One season on its way.
@@ -79,6 +91,9 @@ impl Replay<'_> {
         };
         if let Answer::Refused(number) = answer {
             self.coverage.numbers[number as usize] += 1;
+            if self.book.open_tier() == Some(LONG_TERM_STEP) {
+                self.coverage.step_numbers[number as usize] += 1;
+            }
         }
         answer.write(&mut self.answers);
     }
@@ -89,7 +104,10 @@ impl Replay<'_> {
             Call::Migrate(_) => Some(self.book.clone()),
             _ => None,
         };
-        self.book.call(call)?;
+        if let Err(number) = self.book.call(call) {
+            self.count_refusal(call, number);
+            return Err(number);
+        }
         if let (Call::Migrate(migrate), Some(before)) = (call, before) {
             self.check_migration(migrate, &before);
         }
@@ -107,14 +125,30 @@ impl Replay<'_> {
         self.rights_moved[term] |= transfer.rights;
     }
 
+    fn count_refusal(&mut self, call: &Call, number: u64) {
+        if let (Call::Nominate(nominate), 18) = (call, number) {
+            let source = self.book.path_source(nominate.path as usize);
+            let shown = self.tally.ten_year_at[nominate.holder as usize][source];
+            self.coverage.step_earlier_source += u64::from(shown);
+        }
+    }
+
     fn count(&mut self, call: &Call) {
+        let in_step = self.book.open_tier() == Some(LONG_TERM_STEP);
         match call {
             Call::Nominate(nominate) => {
                 self.coverage.nominated += 1;
+                self.coverage.step_nominated += u64::from(in_step);
                 let at = self.tally.at_the_limit(nominate, &self.book);
                 self.coverage.at_the_limit += u64::from(at);
+                let (holder, path) = (nominate.holder as usize, nominate.path as usize);
+                let asked = in_step && self.tally.asks_for_evidence(&self.book, holder, path);
+                self.coverage.step_at_evidence += u64::from(at && asked);
             }
-            Call::Award(_) => self.coverage.awarded += 1,
+            Call::Award(_) => {
+                self.coverage.awarded += 1;
+                self.coverage.step_awarded += u64::from(in_step);
+            }
             _ => {}
         }
     }
@@ -123,6 +157,7 @@ impl Replay<'_> {
         assert_eq!(self.answers, expected, "seed {}", self.seed);
         self.tally.check(&self.book, self.seed);
         self.coverage.complete += u64::from(self.book.last_closed() == 9);
+        self.coverage.step_held += u64::from(self.book.step_held());
         for term in 0..4 {
             self.coverage.load_moved[term] += u64::from(self.load_moved[term]);
             self.coverage.rights_moved[term] += u64::from(self.rights_moved[term]);

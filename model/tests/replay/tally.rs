@@ -1,6 +1,6 @@
 //! What the accepted calls come to, and the sums the book has to keep.
 
-use model::{Block, Book, Call, Load, Migrate, OnPath, Query};
+use model::{Block, Book, Call, Load, Migrate, OnPath, Query, Verify, LONG_TERM_STEP};
 
 /// Sums over the accepted calls. No figure here is taken from the book but
 /// the limits, which are reckoned when a tier opens.
@@ -22,6 +22,12 @@ pub struct Tally {
     limits: [[u64; 16]; 8],
     /// kW awarded in each tier, by holder and path.
     past_awards: [[[u64; 9]; 16]; 8],
+    /// kW awarded in the Long Term step, by holder and path.
+    step_awards: [[u64; 16]; 8],
+    /// kW of the ten-year evidence for the season, by holder.
+    ten_year_kw: [u64; 8],
+    /// Whether there is such evidence, by holder and source.
+    pub ten_year_at: [[bool; 16]; 8],
     open: Option<u64>,
 }
 
@@ -43,7 +49,8 @@ impl Tally {
             }
             Call::Award(award) => self.accept_award(award),
             Call::Close => self.open = None,
-            Call::Verify(_) | Call::Migrate(_) => {}
+            Call::Verify(verify) => self.accept_verify(verify),
+            Call::Migrate(_) => {}
         }
     }
 
@@ -63,10 +70,27 @@ impl Tally {
         }
     }
 
+    /// Ten-year evidence is marked and runs through all three months.
+    fn accept_verify(&mut self, verify: &Verify) {
+        let months = (verify.first_month, verify.last_month);
+        if verify.ten_year == 1 && months == (1, 3) {
+            let (holder, source) = (verify.holder as usize, verify.source as usize);
+            self.ten_year_at[holder][source] = true;
+            self.ten_year_kw[holder] += match verify.kind {
+                1 => verify.capacity * verify.right / 10_000,
+                _ => verify.right,
+            };
+        }
+    }
+
     fn accept_award(&mut self, award: &OnPath) {
         let (holder, path) = (award.holder as usize, award.path as usize);
         let tier = self.open.expect("awards run in an open tier") as usize;
         self.tier_awards[holder][path] += award.kw;
+        if tier as u64 == LONG_TERM_STEP {
+            self.step_awards[holder][path] += award.kw;
+            return;
+        }
         self.past_awards[holder][path][tier - 1] += award.kw;
         let months = if tier <= 3 {
             0..3
@@ -80,7 +104,7 @@ impl Tally {
 
     /// Limits, said once more: signed, cut off at 0 in the end.
     fn limit(&self, book: &Book, holder: usize, base: usize, tier: u64) -> u64 {
-        let term = [0, 0, 0, 1, 1, 2, 2, 3, 3][tier as usize - 1];
+        let term = [0, 0, 0, 1, 1, 2, 2, 3, 3, 0][tier as usize - 1];
         let paths: Vec<usize> = (0..book.paths())
             .filter(|&path| book.base(book.path_sink(path)) == base)
             .collect();
@@ -96,9 +120,20 @@ impl Tally {
             2 => p - t(1) - lt,
             3 => s - t(1) - t(2) - lt,
             4 | 6 | 8 => month,
+            LONG_TERM_STEP => self.step_limit(book.holder_kind(holder), holder, a) - lt,
             _ => month - t(tier as usize - 1),
         };
         limit.max(0) as u64
+    }
+
+    /// What the Long Term step gives of load A, before LT comes off.
+    fn step_limit(&self, kind: u64, holder: usize, a: i64) -> i64 {
+        let evidence = self.ten_year_kw[holder] as i64;
+        match kind {
+            2 => a / 2,
+            _ if evidence <= a / 5 => a / 5,
+            _ => evidence.min(a / 2),
+        }
     }
 
     /// Whether a nomination that was just accepted came exactly to the limit.
@@ -119,9 +154,59 @@ impl Tally {
     pub fn check(&self, book: &Book, seed: u64) {
         self.check_holdings(book, seed);
         self.check_loads(book, seed);
-        if self.open.is_some() {
-            self.check_tier(book, seed);
+        self.check_step(book, seed);
+        match self.open {
+            Some(LONG_TERM_STEP) => self.check_open_step(book, seed),
+            Some(tier) => self.check_tier(book, tier as usize, seed),
+            None => {}
         }
+    }
+
+    /// The Long Term step's record: its awards and no others, within tier 1's.
+    fn check_step(&self, book: &Book, seed: u64) {
+        for holder in 0..book.holders() {
+            for path in 0..book.paths() {
+                let awards = self.step_awards[holder][path];
+                assert_eq!(book.step_awards(holder, path), awards, "seed {seed}");
+                assert!(awards <= self.past_awards[holder][path][0], "seed {seed}");
+                let open = self.open == Some(LONG_TERM_STEP);
+                let nominated = if open {
+                    self.nominated[holder][path]
+                } else {
+                    awards
+                };
+                assert_eq!(book.step_nominated(holder, path), nominated, "seed {seed}");
+            }
+        }
+    }
+
+    /// The open step: nominations within the limit, on each path within tier 1's
+    /// awards, and with ten-year evidence where 18 asks for it.
+    fn check_open_step(&self, book: &Book, seed: u64) {
+        self.check_limits(book, seed);
+        for holder in 0..book.holders() {
+            for path in (0..book.paths()).filter(|&path| self.nominated[holder][path] > 0) {
+                let nominated = self.nominated[holder][path];
+                assert!(
+                    nominated <= self.past_awards[holder][path][0],
+                    "seed {seed}"
+                );
+                let asked = self.asks_for_evidence(book, holder, path);
+                let source = book.path_source(path);
+                assert!(!asked || self.ten_year_at[holder][source], "seed {seed}");
+            }
+        }
+    }
+
+    /// 18 asks of a kind 2 holder, and of one above a fifth of its load.
+    pub fn asks_for_evidence(&self, book: &Book, holder: usize, path: usize) -> bool {
+        let base = book.base(book.path_sink(path));
+        let lt: u64 = (0..book.paths())
+            .filter(|&other| book.base(book.path_sink(other)) == base)
+            .map(|other| book.carried(holder, other, 1))
+            .sum();
+        let nominated = self.nominated_at(book, holder, base);
+        book.holder_kind(holder) == 2 || nominated + lt > book.load(holder, base, 0) / 5
     }
 
     /// Holdings summed over holders are what was carried in and awarded.
@@ -158,16 +243,25 @@ impl Tally {
 
     /// Nominations are within the limit at the tier's opening, awards within
     /// nominations.
-    fn check_tier(&self, book: &Book, seed: u64) {
-        let tier = self.open.expect("a tier is open") as usize;
+    fn check_limits(&self, book: &Book, seed: u64) {
         for holder in 0..book.holders() {
             for path in 0..book.paths() {
                 let base = book.base(book.path_sink(path));
                 let nominated = self.nominated_at(book, holder, base);
                 assert!(nominated <= self.limits[holder][base], "seed {seed}");
+                let awarded = self.tier_awards[holder][path];
+                assert!(awarded <= self.nominated[holder][path], "seed {seed}");
+            }
+        }
+    }
+
+    /// The open tier's nominations and awards, and those of no other.
+    fn check_tier(&self, book: &Book, tier: usize, seed: u64) {
+        self.check_limits(book, seed);
+        for holder in 0..book.holders() {
+            for path in 0..book.paths() {
                 let nominated = self.nominated[holder][path];
                 let awarded = self.tier_awards[holder][path];
-                assert!(awarded <= nominated, "seed {seed}");
                 assert_eq!(book.nominated(holder, path, tier), nominated, "seed {seed}");
                 assert_eq!(book.tier_awards(holder, path, tier), awarded, "seed {seed}");
             }

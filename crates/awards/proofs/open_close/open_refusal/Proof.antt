@@ -1,5 +1,5 @@
 -- `awards::open_close::open_refusal` meets its contract: its tests are the causes, in their order. Assumes nothing.
-use Rattle.ledger.specs.Calendar.{tierIsOpen, isNextTier}
+use Rattle.ledger.specs.Calendar.{tierIsOpen, stepInTime, isNextTier}
 use Rattle.ledger.specs.Causes.{openCauses, callCauses, refusal}
 use Rattle.ledger.specs.Numbers.{outOfRange, notAtThisTime}
 use Rattle.records.proofs.CauseLaws.{link, no-more}
@@ -18,6 +18,9 @@ last-closed-requires c κs = search needs
 current-tier-requires : tie.Need-current-tier-requires
 current-tier-requires c κs = search needs
 
+step-held-requires : tie.Need-step-held-requires
+step-held-requires c κs = search needs
+
 is-next-tier-requires : tie.Need-is-next-tier-requires
 is-next-tier-requires c κs = search needs
 
@@ -28,10 +31,10 @@ refuse-requires-2 : tie.Need-refuse-requires-2
 refuse-requires-2 c κs = search needs
 
 returns : tie.Need-returns
-unfolding refusal callCauses openCauses isNextTier tierIsOpen ledgerIn
+unfolding refusal callCauses openCauses isNextTier stepInTime tierIsOpen ledgerIn
 returns c = λ O m x.
-    link outOfRange _ _ _ (c .refuse2 .ensures) (c .before .before .before .before .before .tier-out-of-range .ensures)
-    (link notAtThisTime _ _ _ (c .before .refuse .ensures) (next-tier-test _ _ _ _ _ _ (c .before .before .is-next-tier .ensures) (c .before .before .before .before .last-closed .ensures) (c .before .before .before .current-tier .ensures)) no-more)
+    link outOfRange _ _ _ (c .refuse2 .ensures) (c .before .before .before .before .before .before .tier-out-of-range .ensures)
+    (link notAtThisTime _ _ _ (c .before .refuse .ensures) (next-tier-test _ _ _ _ _ _ _ _ (c .before .before .is-next-tier .ensures) (c .before .before .before .before .before .last-closed .ensures) (c .before .before .before .before .current-tier .ensures) (c .before .before .before .step-held .ensures)) no-more)
 
 pub open-refusal-spec : {M : Type 1} → statement M
 open-refusal-spec =
@@ -40,6 +43,7 @@ open-refusal-spec =
     tier-out-of-range-requires
     last-closed-requires
     current-tier-requires
+    step-held-requires
     is-next-tier-requires
     refuse-requires
     refuse-requires-2

@@ -6,7 +6,7 @@ use Rattle.book.specs.Outcomes.{queryAnswerIn}
 use Rattle.book.proofs.OutcomeBooks.{outcome-book}
 use Rattle.lines.specs.Rows.{field}
 use Rattle.groups.specs.Outcome.{headGroup}
-use Rattle.groups.proofs.HeadLaws.{carry-request, prior-request, verify-request, open-request, nominate-request, award-request, close-request, limit-request, held-request, net-request, no-head, by-call, by-query, by-unreadable, beside-evidence}
+use Rattle.groups.proofs.HeadLaws.{carry-request, prior-request, open-request, nominate-request, award-request, close-request, limit-request, held-request, net-request, no-head, by-call, by-query, by-unreadable, beside-evidence}
 use Rattle.groups.proofs.OutcomeLaws.{answers-one-line, bytes-one-line, kind-counts, other-counts}
 use borrow.Author.Needs.{needs}
 use Rattle.groups.proofs.groups.run_head.Statement.{statement}
@@ -24,15 +24,6 @@ array-read-c c = search needs
 array-read-d : tie.Need-array-read-d
 array-read-d c = search needs
 
-array-read-e : tie.Need-array-read-e
-array-read-e c = search needs
-
-array-read-g : tie.Need-array-read-g
-array-read-g c = search needs
-
-array-read-h : tie.Need-array-read-h
-array-read-h c = search needs
-
 run-load-requires : tie.Need-run-load-requires
 run-load-requires c κs = search needs
 
@@ -48,11 +39,8 @@ prior-requires c κs = search needs
 of-one-line-requires-2 : tie.Need-of-one-line-requires-2
 of-one-line-requires-2 c κs = search needs
 
-verify-requires : tie.Need-verify-requires
-verify-requires c κs = search needs
-
-of-one-line-requires-3 : tie.Need-of-one-line-requires-3
-of-one-line-requires-3 c κs = search needs
+run-verify-requires : tie.Need-run-verify-requires
+run-verify-requires c κs = search needs
 
 run-migrate-requires : tie.Need-run-migrate-requires
 run-migrate-requires c κs = search needs
@@ -60,47 +48,47 @@ run-migrate-requires c κs = search needs
 open-tier-requires : tie.Need-open-tier-requires
 open-tier-requires c κs = search needs
 
-of-one-line-requires-4 : tie.Need-of-one-line-requires-4
-of-one-line-requires-4 c κs = search needs
+of-one-line-requires-3 : tie.Need-of-one-line-requires-3
+of-one-line-requires-3 c κs = search needs
 
 nominate-requires : tie.Need-nominate-requires
 nominate-requires c κs = search needs
 
-of-one-line-requires-5 : tie.Need-of-one-line-requires-5
-of-one-line-requires-5 c κs = search needs
+of-one-line-requires-4 : tie.Need-of-one-line-requires-4
+of-one-line-requires-4 c κs = search needs
 
 award-requires : tie.Need-award-requires
 award-requires c κs = search needs
 
-of-one-line-requires-6 : tie.Need-of-one-line-requires-6
-of-one-line-requires-6 c κs = search needs
+of-one-line-requires-5 : tie.Need-of-one-line-requires-5
+of-one-line-requires-5 c κs = search needs
 
 close-tier-requires : tie.Need-close-tier-requires
 close-tier-requires c κs = search needs
 
-of-one-line-requires-7 : tie.Need-of-one-line-requires-7
-of-one-line-requires-7 c κs = search needs
+of-one-line-requires-6 : tie.Need-of-one-line-requires-6
+of-one-line-requires-6 c κs = search needs
 
 limit-requires : tie.Need-limit-requires
 limit-requires c κs = search needs
 
-of-one-line-requires-8 : tie.Need-of-one-line-requires-8
-of-one-line-requires-8 c κs = search needs
+of-one-line-requires-7 : tie.Need-of-one-line-requires-7
+of-one-line-requires-7 c κs = search needs
 
 held-requires : tie.Need-held-requires
 held-requires c κs = search needs
 
-of-one-line-requires-9 : tie.Need-of-one-line-requires-9
-of-one-line-requires-9 c κs = search needs
+of-one-line-requires-8 : tie.Need-of-one-line-requires-8
+of-one-line-requires-8 c κs = search needs
 
 net-requires : tie.Need-net-requires
 net-requires c κs = search needs
 
+of-one-line-requires-9 : tie.Need-of-one-line-requires-9
+of-one-line-requires-9 c κs = search needs
+
 of-one-line-requires-10 : tie.Need-of-one-line-requires-10
 of-one-line-requires-10 c κs = search needs
-
-of-one-line-requires-11 : tie.Need-of-one-line-requires-11
-of-one-line-requires-11 c κs = search needs
 
 same-length : tie.Need-same-length
 same-length c = search needs
@@ -144,11 +132,7 @@ same-length-8 : tie.Need-same-length-8
 same-length-8 c = search needs
 
 returns-4 : tie.Need-returns-4
-unfolding field headGroup
-returns-4 c =
-    let one = c .of-one-line3 .ensures in
-    let kind = c .before .before .before .before .before .before .before .before .match .keys4 in
-    (λ x k. answers-one-line _ _ one _ _ _ (beside-evidence _ _ _ _ _ _ _ (by-call _ _ _ _ _ (outcome-book _ _ _ _ _ _ _ _ _ (c .before .before .before .before .before .verify .ensures x k)) (verify-request _ _ kind))), bytes-one-line _ _ one _ _ (kind-counts _ _ _ kind refl refl))
+returns-4 c = let t = c .before .before .before .before .run-verify .ensures in (λ x k. beside-evidence _ _ _ _ _ _ _ (t .0 _ x k), t .1 _)
 
 same-length-9 : tie.Need-same-length-9
 same-length-9 c = search needs
@@ -162,7 +146,7 @@ same-length-10 c = search needs
 returns-6 : tie.Need-returns-6
 unfolding field headGroup
 returns-6 c =
-    let one = c .of-one-line4 .ensures in
+    let one = c .of-one-line3 .ensures in
     let kind = c .before .before .before .before .before .match .keys6 in
     (λ x k. answers-one-line _ _ one _ _ _ (beside-evidence _ _ _ _ _ _ _ (by-call _ _ _ _ _ (outcome-book _ _ _ _ _ _ _ _ _ (c .before .before .before .open-tier .ensures _ _ x k)) (open-request _ _ kind))), bytes-one-line _ _ one _ _ (kind-counts _ _ _ kind refl refl))
 
@@ -172,7 +156,7 @@ same-length-11 c = search needs
 returns-7 : tie.Need-returns-7
 unfolding field headGroup
 returns-7 c =
-    let one = c .of-one-line5 .ensures in
+    let one = c .of-one-line4 .ensures in
     let kind = c .before .before .before .before .before .match .keys7 in
     (λ x k. answers-one-line _ _ one _ _ _ (beside-evidence _ _ _ _ _ _ _ (by-call _ _ _ _ _ (outcome-book _ _ _ _ _ _ _ _ _ (c .before .before .before .nominate .ensures _ x k)) (nominate-request _ _ kind))), bytes-one-line _ _ one _ _ (kind-counts _ _ _ kind refl refl))
 
@@ -182,7 +166,7 @@ same-length-12 c = search needs
 returns-8 : tie.Need-returns-8
 unfolding field headGroup
 returns-8 c =
-    let one = c .of-one-line6 .ensures in
+    let one = c .of-one-line5 .ensures in
     let kind = c .before .before .before .before .before .match .keys8 in
     (λ x k. answers-one-line _ _ one _ _ _ (beside-evidence _ _ _ _ _ _ _ (by-call _ _ _ _ _ (outcome-book _ _ _ _ _ _ _ _ _ (c .before .before .before .award .ensures _ x k)) (award-request _ _ kind))), bytes-one-line _ _ one _ _ (kind-counts _ _ _ kind refl refl))
 
@@ -192,7 +176,7 @@ same-length-13 c = search needs
 returns-9 : tie.Need-returns-9
 unfolding field headGroup
 returns-9 c =
-    let one = c .of-one-line7 .ensures in
+    let one = c .of-one-line6 .ensures in
     let kind = c .before .before .before .before .before .match .keys9 in
     (λ x k. answers-one-line _ _ one _ _ _ (beside-evidence _ _ _ _ _ _ _ (by-call _ _ _ _ _ (outcome-book _ _ _ _ _ _ _ _ _ (c .before .before .before .close-tier .ensures _ _ x k)) (close-request _ _ kind))), bytes-one-line _ _ one _ _ (kind-counts _ _ _ kind refl refl))
 
@@ -202,7 +186,7 @@ same-length-14 c = search needs
 returns-10 : tie.Need-returns-10
 unfolding field headGroup queryAnswerIn queryAnswer bookIn ledgerOf openingOfBook
 returns-10 c =
-    let one = c .of-one-line8 .ensures in
+    let one = c .of-one-line7 .ensures in
     let kind = c .before .before .before .match .keys10 in
     (λ x k. answers-one-line _ _ one _ _ _ (beside-evidence _ _ _ _ _ _ _ (by-query _ _ _ _ (c .before .limit .ensures _ x k) (limit-request _ _ kind))), bytes-one-line _ _ one _ _ (kind-counts _ _ _ kind refl refl))
 
@@ -212,7 +196,7 @@ same-length-15 c = search needs
 returns-11 : tie.Need-returns-11
 unfolding field headGroup queryAnswerIn queryAnswer bookIn ledgerOf openingOfBook
 returns-11 c =
-    let one = c .of-one-line9 .ensures in
+    let one = c .of-one-line8 .ensures in
     let kind = c .before .before .before .match .keys11 in
     (λ x k. answers-one-line _ _ one _ _ _ (beside-evidence _ _ _ _ _ _ _ (by-query _ _ _ _ (c .before .held .ensures _ x k) (held-request _ _ kind))), bytes-one-line _ _ one _ _ (kind-counts _ _ _ kind refl refl))
 
@@ -222,14 +206,14 @@ same-length-16 c = search needs
 returns-12 : tie.Need-returns-12
 unfolding field headGroup queryAnswerIn queryAnswer bookIn ledgerOf openingOfBook
 returns-12 c =
-    let one = c .of-one-line10 .ensures in
+    let one = c .of-one-line9 .ensures in
     let kind = c .before .before .before .match .keys12 in
     (λ x k. answers-one-line _ _ one _ _ _ (beside-evidence _ _ _ _ _ _ _ (by-query _ _ _ _ (c .before .net .ensures _ x k) (net-request _ _ kind))), bytes-one-line _ _ one _ _ (kind-counts _ _ _ kind refl refl))
 
 returns-13 : tie.Need-returns-13
 unfolding headGroup
 returns-13 c =
-    let one = c .of-one-line11 .ensures in
+    let one = c .of-one-line10 .ensures in
     let no = c .before .match .rest in
     (λ x k. answers-one-line _ _ one _ _ _ (beside-evidence _ _ _ _ _ _ _ (by-unreadable _ _ (no-head _ _ (no .0 .0 .0 .0 .0 .0 .0 .0 .0 .0 .0 .1) (no .0 .0 .0 .0 .0 .0 .0 .0 .0 .0 .1) (no .0 .0 .0 .0 .0 .0 .0 .0 .0 .1) (no .0 .0 .0 .0 .0 .0 .0 .0 .1) (no .0 .0 .0 .0 .0 .0 .0 .1) (no .0 .0 .0 .0 .0 .0 .1) (no .0 .0 .0 .0 .0 .1) (no .0 .0 .0 .0 .1) (no .0 .0 .0 .1) (no .0 .0 .1) (no .0 .1) (no .1)))), bytes-one-line _ _ one _ _ (other-counts _ _ (no .0 .0 .0 .0 .0 .0 .0 .0 .0 .0 .0 .1) (no .0 .0 .0 .0 .0 .0 .0 .1)))
 
@@ -241,32 +225,28 @@ run-head-spec =
     array-read-b
     array-read-c
     array-read-d
-    array-read-e
-    array-read-g
-    array-read-h
     run-load-requires
     carry-requires
     of-one-line-requires
     prior-requires
     of-one-line-requires-2
-    verify-requires
-    of-one-line-requires-3
+    run-verify-requires
     run-migrate-requires
     open-tier-requires
-    of-one-line-requires-4
+    of-one-line-requires-3
     nominate-requires
-    of-one-line-requires-5
+    of-one-line-requires-4
     award-requires
-    of-one-line-requires-6
+    of-one-line-requires-5
     close-tier-requires
-    of-one-line-requires-7
+    of-one-line-requires-6
     limit-requires
-    of-one-line-requires-8
+    of-one-line-requires-7
     held-requires
-    of-one-line-requires-9
+    of-one-line-requires-8
     net-requires
+    of-one-line-requires-9
     of-one-line-requires-10
-    of-one-line-requires-11
     same-length
     same-length-2
     returns

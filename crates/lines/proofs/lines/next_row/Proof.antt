@@ -3,6 +3,7 @@ use mathlib.Core.Path.{_∙_}
 use native.Mathlib.Omega.{arith}
 use borrow.Author.Tests.{not-true, not-false}
 use Rattle.lines.proofs.ReadRowLaws.{key-fits, count-fits, end-within, fields-unread, word-unknown, row-read}
+use Rattle.tariff.specs.Sum.{tabulate}
 use borrow.Author.Needs.{needs}
 use Rattle.lines.proofs.lines.next_row.Statement.{statement}
 use Rattle.lines.proofs.lines.next_row.Tie as tie
@@ -28,10 +29,35 @@ unreadable-line-requires-2 c κs = search needs
 returns-2 : tie.Need-returns-2
 returns-2 c = c .unreadable-line2 .ensures ∙ word-unknown _ _ _ (c .before .before .before .before .before .before .read-word .ensures) (c .before .before .before .before .before .read-fields .ensures) (not-false _ (c .before .before .before .if1 .left)) _ (c .before .before .kind-of .ensures) (c .before .if2 .taken)
 
-add-t8 : tie.Need-add-t8
-add-t8 c = let within = end-within _ _ _ (c .before .before .before .before .before .before .before .read-word .ensures) (c .before .before .before .before .before .before .read-fields .ensures) (not-false _ (c .before .before .before .before .if1 .left)) in omega (arith, within)
+array-read-t10 : tie.Need-array-read-t10
+array-read-t10 c = search needs
+
+array-read-t13 : tie.Need-array-read-t13
+array-read-t13 c = search needs
+
+array-read-t16 : tie.Need-array-read-t16
+array-read-t16 c = search needs
+
+array-read-t19 : tie.Need-array-read-t19
+array-read-t19 c = search needs
+
+array-read-t22 : tie.Need-array-read-t22
+array-read-t22 c = search needs
+
+array-read-t25 : tie.Need-array-read-t25
+array-read-t25 c = search needs
+
+array-read-t28 : tie.Need-array-read-t28
+array-read-t28 c = search needs
+
+array-read-t31 : tie.Need-array-read-t31
+array-read-t31 c = search needs
+
+add-t33 : tie.Need-add-t33
+add-t33 c = let within = end-within _ _ _ (c .before .before .before .before .before .before .before .read-word .ensures) (c .before .before .before .before .before .before .read-fields .ensures) (not-false _ (c .before .before .before .before .if1 .left)) in omega (arith, within)
 
 returns-3 : tie.Need-returns-3
+unfolding tabulate
 returns-3 c = row-read _ _ _ (c .before .before .before .before .before .before .before .read-word .ensures) (c .before .before .before .before .before .before .read-fields .ensures) (not-false _ (c .before .before .before .before .if1 .left)) _ (c .before .before .before .kind-of .ensures) (c .before .before .if2 .left)
 
 pub next-row-spec : {M : Type 1} → statement M
@@ -45,5 +71,13 @@ next-row-spec =
     kind-of-requires
     unreadable-line-requires-2
     returns-2
-    add-t8
+    array-read-t10
+    array-read-t13
+    array-read-t16
+    array-read-t19
+    array-read-t22
+    array-read-t25
+    array-read-t28
+    array-read-t31
+    add-t33
     returns-3)

@@ -20,20 +20,27 @@ add-read c = search needs
 read-requires : tie.Need-read-requires
 read-requires c κs = load-cell _ _ _ _ _ 0 0 _ (c .before .before .before .before .before .pre) (c .before .before .tier-rule .ensures)
 
-sub-sum-paths : tie.Need-sub-sum-paths
-sub-sum-paths c = month-range _ _ _ _ _ _ 0 _ (c .before .before .before .before .before .before .pre) (c .before .before .before .tier-rule .ensures) (c .before .before .carried-month .ensures) .0
+sub-carried : tie.Need-sub-carried
+sub-carried c = month-range _ _ _ _ _ _ 0 _ (c .before .before .before .before .before .before .pre) (c .before .before .before .tier-rule .ensures) (c .before .before .carried-month .ensures) .0
+
+add-carried : tie.Need-add-carried
+add-carried c = let months = month-range _ _ _ _ _ _ 0 _ (c .before .before .before .before .before .before .pre) (c .before .before .before .tier-rule .ensures) (c .before .before .carried-month .ensures) in omega arith
 
 add-sum-paths : tie.Need-add-sum-paths
-add-sum-paths c = let months = month-range _ _ _ _ _ _ 0 _ (c .before .before .before .before .before .before .pre) (c .before .before .before .tier-rule .ensures) (c .before .before .carried-month .ensures) in omega arith
-
-add-sum-paths-2 : tie.Need-add-sum-paths-2
-add-sum-paths-2 c = search needs
+add-sum-paths c = search needs
 
 sum-paths-requires : tie.Need-sum-paths-requires
 sum-paths-requires c κs = all-summable _ _ _ _ _ _ _ _ (c .before .before .before .before .before .before .pre) (c .before .before .before .tier-rule .ensures) (c .before .before .carried-month .ensures) (c .before .saturating-sub .ensures)
 
+ten-year-in-requires : tie.Need-ten-year-in-requires
+ten-year-in-requires c κs = search needs
+
+holder-kind-requires : tie.Need-holder-kind-requires
+holder-kind-requires c κs = search needs
+
 returns : tie.Need-returns
-returns c m x r = limit-sums-are _ _ _ _ _ _ _ _ (c .before .before .before .before .before .before .before .pre) (c .before .before .before .before .tier-rule .ensures) m x r _ _ (c .before .before .before .carried-month .ensures) (c .before .before .saturating-sub .ensures) (c .before .read .ensures) (c .sum-paths .ensures)
+returns c m x r =
+    limit-sums-are _ _ _ _ _ _ _ _ (c .before .before .before .before .before .before .before .before .before .pre) (c .before .before .before .before .before .before .tier-rule .ensures) m x r _ _ _ _ (c .before .before .before .before .before .carried-month .ensures) (c .before .before .before .before .saturating-sub .ensures) (c .before .before .before .read .ensures) (c .before .before .sum-paths .ensures) (c .before .ten-year-in .ensures m x r) (c .holder-kind .ensures)
 
 pub limit-sums-spec : {M : Type 1} → statement M
 limit-sums-spec =
@@ -44,8 +51,10 @@ limit-sums-spec =
     saturating-sub-requires
     add-read
     read-requires
-    sub-sum-paths
+    sub-carried
+    add-carried
     add-sum-paths
-    add-sum-paths-2
     sum-paths-requires
+    ten-year-in-requires
+    holder-kind-requires
     returns)

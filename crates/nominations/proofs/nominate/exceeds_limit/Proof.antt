@@ -32,7 +32,7 @@ sum-at-base-requires : tie.Need-sum-at-base-requires
 sum-at-base-requires c κs = summable _ _ _ _ (c .before .before .before .before .before .pre .figures .reachable) _ _ (c .before .before .before .before .before .pre .holder) (omega arith)
 
 add-wanted : tie.Need-add-wanted
-add-wanted c = record { fits = base-room _ _ _ _ _ _ _ (c .before .before .before .before .before .before .pre) (c .before .before .before .before .before .before .pre .figures .reachable) _ _ (c .sum-at-base .ensures) }
+add-wanted c = let k = c .before .before .before .before .before .before .pre in record { fits = base-room _ _ _ _ (k .figures .reachable) _ (k .holder) _ _ _ (k .high) (c .sum-at-base .ensures) }
 
 returns : tie.Need-returns
 returns c m x r = limit-test _ _ m x _ _ _ (c .before .before .before .before .before .before .pre) r _ _ _ _ (c .before .before .current-tier .ensures) (c .before .before .before .path-base .ensures) (c .before .tier-limit .ensures m x r) (c .sum-at-base .ensures)

@@ -1,8 +1,7 @@
--- `nominations::nominate::refusal_in_tier` meets its contract: its tests are causes 10 to 13, in their order. Assumes nothing.
+-- `nominations::nominate::refusal_in_tier` meets its contract: its tests are causes 10, 11 and 12, in their order, before the others. Assumes nothing.
 use mathlib.Core.Path.{sym, _∙_}
-use Rattle.ledger.specs.Numbers.{sinkIneligible, aboveVerified, abovePrior, aboveLimit}
+use Rattle.ledger.specs.Numbers.{sinkIneligible, aboveVerified, abovePrior}
 use Rattle.ledger.specs.Causes.{nominateCauses}
-use Rattle.records.proofs.CauseLaws.{link, no-more}
 use Rattle.records.proofs.MetCauses.{met-first, unmet-first}
 use borrow.Author.Needs.{needs}
 use Rattle.nominations.proofs.nominate.refusal_in_tier.Statement.{statement}
@@ -34,19 +33,16 @@ returns-3 c m x r =
     (unmet-first aboveVerified _ _ (sym (c .before .before .before .exceeds-verified .ensures m x r) ∙ c .before .before .if2 .left)
     (met-first abovePrior _ _ (sym (c .before .exceeds-prior .ensures m x r) ∙ c .if3 .taken)))
 
-exceeds-limit-requires : tie.Need-exceeds-limit-requires
-exceeds-limit-requires c κs = search needs
-
-refuse-requires : tie.Need-refuse-requires
-refuse-requires c κs = search needs
+refusal-by-limit-requires : tie.Need-refusal-by-limit-requires
+refusal-by-limit-requires c κs = search needs
 
 returns-4 : tie.Need-returns-4
 unfolding nominateCauses
 returns-4 c m x r =
-    unmet-first sinkIneligible _ _ (sym (c .before .before .before .before .before .before .before .sink-ineligible .ensures m x r) ∙ c .before .before .before .before .before .before .if1 .left)
-    (unmet-first aboveVerified _ _ (sym (c .before .before .before .before .before .exceeds-verified .ensures m x r) ∙ c .before .before .before .before .if2 .left)
-    (unmet-first abovePrior _ _ (sym (c .before .before .before .exceeds-prior .ensures m x r) ∙ c .before .before .if3 .left)
-    (link aboveLimit _ _ _ (c .refuse .ensures) (c .before .exceeds-limit .ensures m x r) no-more)))
+    unmet-first sinkIneligible _ _ (sym (c .before .before .before .before .before .before .sink-ineligible .ensures m x r) ∙ c .before .before .before .before .before .if1 .left)
+    (unmet-first aboveVerified _ _ (sym (c .before .before .before .before .exceeds-verified .ensures m x r) ∙ c .before .before .before .if2 .left)
+    (unmet-first abovePrior _ _ (sym (c .before .before .exceeds-prior .ensures m x r) ∙ c .before .if3 .left)
+    (c .refusal-by-limit .ensures m x r)))
 
 pub refusal-in-tier-spec : {M : Type 1} → statement M
 refusal-in-tier-spec =
@@ -58,6 +54,5 @@ refusal-in-tier-spec =
     returns-2
     exceeds-prior-requires
     returns-3
-    exceeds-limit-requires
-    refuse-requires
+    refusal-by-limit-requires
     returns-4)

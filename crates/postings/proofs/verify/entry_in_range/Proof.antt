@@ -17,11 +17,11 @@ enum-told c = search needs
 
 returns : tie.Need-returns
 unfolding entry-in
-returns c = ap entry-in (sym (c .before .entry .given .1) ∙ c .before .before .before .file-evidence .ensures ∙ in-range-filed _ _ _ _ _ (c .before .before .before .before .pre))
+returns c = ap entry-in (sym (c .before .entry .given .1) ∙ c .before .before .before .file-evidence .ensures ∙ in-range-filed _ _ _ _ _ _ (c .before .before .before .before .pre))
 
 returns-2 : tie.Need-returns-2
 unfolding entry-in emptyEntry
-returns-2 c = ap entry-in (sym (c .enum-told .given .1) ∙ c .before .before .file-evidence .ensures ∙ in-range-filed _ _ _ _ _ (c .before .before .before .pre))
+returns-2 c = ap entry-in (sym (c .enum-told .given .1) ∙ c .before .before .file-evidence .ensures ∙ in-range-filed _ _ _ _ _ _ (c .before .before .before .pre))
 
 pub entry-in-range-spec : {M : Type 1} → statement M
 entry-in-range-spec =

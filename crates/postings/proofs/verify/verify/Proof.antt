@@ -1,7 +1,7 @@
--- `postings::verify::verify` meets its contract: a refusal leaves the arrays, and of accepted evidence the kW by term are stored, and it is noted. Assumes nothing.
+-- `postings::verify::verify` meets its contract: a refusal leaves the arrays, and of accepted evidence the kW by term and the flag are stored, and it is noted. Assumes nothing.
 use native.Mathlib.Omega.{arith}
 use Rattle.slots.proofs.StepLaws.{steps-refused, beside-next-evidence}
-use Rattle.postings.proofs.VerifyLaws.{verify-in-range, verify-kinds, verify-terms, verify-cell, verify-steps}
+use Rattle.postings.proofs.VerifyLaws.{verify-in-range, verify-kinds, verify-slots, verify-cell, verify-steps}
 use borrow.Author.Needs.{needs}
 use Rattle.postings.proofs.verify.verify.Statement.{statement}
 use Rattle.postings.proofs.verify.verify.Tie as tie
@@ -19,25 +19,19 @@ returns : tie.Need-returns
 returns c = λ x k. beside-next-evidence _ _ _ _ _ _ _ (steps-refused _ _ _ _ _ _ (c .before .verify-refusal .ensures _ k) k (c .if1 .taken))
 
 entry-in-range-requires : tie.Need-entry-in-range-requires
-entry-in-range-requires c κs = verify-in-range _ _ _ _ _ _ _ _ _ _ _ _ (c .before .before .before .before .before .before .before .pre .reachable) (c .before .verify-refusal .ensures _ (c .before .before .before .before .before .before .before .pre .reachable)) (c .if1 .left)
+entry-in-range-requires c κs = verify-in-range _ _ _ _ _ _ _ _ _ _ _ _ _ (c .before .before .before .before .before .before .before .pre .reachable) (c .before .verify-refusal .ensures _ (c .before .before .before .before .before .before .before .pre .reachable)) (c .if1 .left)
 
 sub-slot : tie.Need-sub-slot
-sub-slot c = let range = verify-kinds _ _ _ _ _ _ _ _ _ _ _ _ (c .before .before .before .before .before .before .before .before .pre .reachable) (c .before .before .verify-refusal .ensures _ (c .before .before .before .before .before .before .before .before .pre .reachable)) (c .before .if1 .left) in omega arith
+sub-slot c = let range = verify-kinds _ _ _ _ _ _ _ _ _ _ _ _ _ (c .before .before .before .before .before .before .before .before .pre .reachable) (c .before .before .verify-refusal .ensures _ (c .before .before .before .before .before .before .before .before .pre .reachable)) (c .before .if1 .left) in omega arith
 
-mul-store-by-term : tie.Need-mul-store-by-term
-mul-store-by-term c = let range = verify-kinds _ _ _ _ _ _ _ _ _ _ _ _ (c .before .before .before .before .before .before .before .before .before .pre .reachable) (c .before .before .before .verify-refusal .ensures _ (c .before .before .before .before .before .before .before .before .before .pre .reachable)) (c .before .before .if1 .left) in omega arith
-
-add-store-by-term : tie.Need-add-store-by-term
-add-store-by-term c = let range = verify-kinds _ _ _ _ _ _ _ _ _ _ _ _ (c .before .before .before .before .before .before .before .before .before .pre .reachable) (c .before .before .before .verify-refusal .ensures _ (c .before .before .before .before .before .before .before .before .before .pre .reachable)) (c .before .before .if1 .left) in omega arith
-
-store-by-term-requires : tie.Need-store-by-term-requires
-store-by-term-requires c κs = let range = verify-kinds _ _ _ _ _ _ _ _ _ _ _ _ (c .before .before .before .before .before .before .before .before .before .pre .reachable) (c .before .before .before .verify-refusal .ensures _ (c .before .before .before .before .before .before .before .before .before .pre .reachable)) (c .before .before .if1 .left) in verify-terms _ _ _ _ _ _ _ _ _ _ _ _ (c .before .before .before .before .before .before .before .before .before .pre .reachable) (c .before .before .before .verify-refusal .ensures _ (c .before .before .before .before .before .before .before .before .before .pre .reachable)) (c .before .before .if1 .left) _ (omega arith)
+store-entry-requires : tie.Need-store-entry-requires
+store-entry-requires c κs = let range = verify-kinds _ _ _ _ _ _ _ _ _ _ _ _ _ (c .before .before .before .before .before .before .before .before .before .pre .reachable) (c .before .before .before .verify-refusal .ensures _ (c .before .before .before .before .before .before .before .before .before .pre .reachable)) (c .before .before .if1 .left) in verify-slots _ _ _ _ _ _ _ _ _ _ _ _ _ (c .before .before .before .before .before .before .before .before .before .pre .reachable) (c .before .before .before .verify-refusal .ensures _ (c .before .before .before .before .before .before .before .before .before .pre .reachable)) (c .before .before .if1 .left) _ (omega arith)
 
 add-set-posted : tie.Need-add-set-posted
-add-set-posted c = let range = verify-kinds _ _ _ _ _ _ _ _ _ _ _ _ (c .before .before .before .before .before .before .before .before .before .before .before .before .before .pre .reachable) (c .before .before .before .before .before .before .before .verify-refusal .ensures _ (c .before .before .before .before .before .before .before .before .before .before .before .before .before .pre .reachable)) (c .before .before .before .before .before .before .if1 .left) in omega arith
+add-set-posted c = let range = verify-kinds _ _ _ _ _ _ _ _ _ _ _ _ _ (c .before .before .before .before .before .before .before .before .before .before .before .before .before .pre .reachable) (c .before .before .before .before .before .before .before .verify-refusal .ensures _ (c .before .before .before .before .before .before .before .before .before .before .before .before .before .pre .reachable)) (c .before .before .before .before .before .before .if1 .left) in omega arith
 
 set-posted-requires : tie.Need-set-posted-requires
-set-posted-requires c κs = let range = verify-kinds _ _ _ _ _ _ _ _ _ _ _ _ (c .before .before .before .before .before .before .before .before .before .before .before .before .before .pre .reachable) (c .before .before .before .before .before .before .before .verify-refusal .ensures _ (c .before .before .before .before .before .before .before .before .before .before .before .before .before .pre .reachable)) (c .before .before .before .before .before .before .if1 .left) in verify-cell _ _ _ _ _ _ _ _ _ _ _ _ (c .before .before .before .before .before .before .before .before .before .before .before .before .before .pre .reachable) (c .before .before .before .before .before .before .before .verify-refusal .ensures _ (c .before .before .before .before .before .before .before .before .before .before .before .before .before .pre .reachable)) (c .before .before .before .before .before .before .if1 .left) _ (omega arith)
+set-posted-requires c κs = let range = verify-kinds _ _ _ _ _ _ _ _ _ _ _ _ _ (c .before .before .before .before .before .before .before .before .before .before .before .before .before .pre .reachable) (c .before .before .before .before .before .before .before .verify-refusal .ensures _ (c .before .before .before .before .before .before .before .before .before .before .before .before .before .pre .reachable)) (c .before .before .before .before .before .before .if1 .left) in verify-cell _ _ _ _ _ _ _ _ _ _ _ _ _ (c .before .before .before .before .before .before .before .before .before .before .before .before .before .pre .reachable) (c .before .before .before .before .before .before .before .verify-refusal .ensures _ (c .before .before .before .before .before .before .before .before .before .before .before .before .before .pre .reachable)) (c .before .before .before .before .before .before .if1 .left) _ (omega arith)
 
 same-length-3 : tie.Need-same-length-3
 same-length-3 c = search needs
@@ -46,7 +40,7 @@ same-length-4 : tie.Need-same-length-4
 same-length-4 c = search needs
 
 returns-2 : tie.Need-returns-2
-returns-2 c = λ x k. verify-steps _ _ _ _ _ _ _ _ _ _ _ _ k (c .before .before .before .before .before .before .before .before .before .before .verify-refusal .ensures _ k) (c .before .before .before .before .before .before .before .before .before .if1 .left) _ _ _ (c .before .before .before .before .before .before .before .before .entry-in-range .ensures) (c .before .before .before .before .before .before .store-by-term .ensures) (c .before .before .set-posted .ensures)
+returns-2 c = λ x k. verify-steps _ _ _ _ _ _ _ _ _ _ _ _ _ k (c .before .before .before .before .before .before .before .before .before .before .verify-refusal .ensures _ k) (c .before .before .before .before .before .before .before .before .before .if1 .left) _ _ _ (c .before .before .before .before .before .before .before .before .entry-in-range .ensures) (c .before .before .before .before .before .before .store-entry .ensures) (c .before .before .set-posted .ensures)
 
 pub verify-spec : {M : Type 1} → statement M
 verify-spec =
@@ -58,9 +52,7 @@ verify-spec =
     returns
     entry-in-range-requires
     sub-slot
-    mul-store-by-term
-    add-store-by-term
-    store-by-term-requires
+    store-entry-requires
     add-set-posted
     set-posted-requires
     same-length-3

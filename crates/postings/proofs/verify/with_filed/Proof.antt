@@ -13,16 +13,16 @@ returns : tie.Need-returns
 returns c = steps-refused _ _ _ _ _ _ (c .before .verify-refusal .ensures _ (c .before .before .before .before .before .pre)) (c .before .before .before .before .before .pre) (c .if1 .taken) .evidence
 
 entry-in-range-requires : tie.Need-entry-in-range-requires
-entry-in-range-requires c κs = verify-in-range _ _ _ _ _ _ _ _ _ _ _ _ (c .before .before .before .before .before .pre) (c .before .verify-refusal .ensures _ (c .before .before .before .before .before .pre)) (c .if1 .left)
+entry-in-range-requires c κs = verify-in-range _ _ _ _ _ _ _ _ _ _ _ _ _ (c .before .before .before .before .before .pre) (c .before .verify-refusal .ensures _ (c .before .before .before .before .before .pre)) (c .if1 .left)
 
 sub-file : tie.Need-sub-file
-sub-file c = let range = verify-kinds _ _ _ _ _ _ _ _ _ _ _ _ (c .before .before .before .before .before .before .pre) (c .before .before .verify-refusal .ensures _ (c .before .before .before .before .before .before .pre)) (c .before .if1 .left) in omega arith
+sub-file c = let range = verify-kinds _ _ _ _ _ _ _ _ _ _ _ _ _ (c .before .before .before .before .before .before .pre) (c .before .before .verify-refusal .ensures _ (c .before .before .before .before .before .before .pre)) (c .before .if1 .left) in omega arith
 
 file-requires : tie.Need-file-requires
-file-requires c κs = let range = verify-kinds _ _ _ _ _ _ _ _ _ _ _ _ (c .before .before .before .before .before .before .pre) (c .before .before .verify-refusal .ensures _ (c .before .before .before .before .before .before .pre)) (c .before .if1 .left) in verify-entry _ _ _ _ _ _ _ _ _ _ _ _ (c .before .before .before .before .before .before .pre) (c .before .before .verify-refusal .ensures _ (c .before .before .before .before .before .before .pre)) (c .before .if1 .left) _ (omega arith)
+file-requires c κs = let range = verify-kinds _ _ _ _ _ _ _ _ _ _ _ _ _ (c .before .before .before .before .before .before .pre) (c .before .before .verify-refusal .ensures _ (c .before .before .before .before .before .before .pre)) (c .before .if1 .left) in verify-entry _ _ _ _ _ _ _ _ _ _ _ _ _ (c .before .before .before .before .before .before .pre) (c .before .before .verify-refusal .ensures _ (c .before .before .before .before .before .before .pre)) (c .before .if1 .left) _ (omega arith)
 
 returns-2 : tie.Need-returns-2
-returns-2 c = verify-filed _ _ _ _ _ _ _ _ _ _ _ _ (c .before .before .before .before .before .before .before .pre) (c .before .before .before .verify-refusal .ensures _ (c .before .before .before .before .before .before .before .pre)) (c .before .before .if1 .left) _ _ (c .before .entry-in-range .ensures) (c .file .ensures)
+returns-2 c = verify-filed _ _ _ _ _ _ _ _ _ _ _ _ _ (c .before .before .before .before .before .before .before .pre) (c .before .before .before .verify-refusal .ensures _ (c .before .before .before .before .before .before .before .pre)) (c .before .before .if1 .left) _ _ (c .before .entry-in-range .ensures) (c .file .ensures)
 
 pub with-filed-spec : {M : Type 1} → statement M
 with-filed-spec =

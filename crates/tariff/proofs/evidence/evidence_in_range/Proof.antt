@@ -1,5 +1,5 @@
--- `tariff::evidence::evidence_in_range` meets its contract: its six tests are those of the definition. Assumes nothing.
-use Rattle.tariff.proofs.EvidenceRange.{all-six}
+-- `tariff::evidence::evidence_in_range` meets its contract: its seven tests are those of the definition. Assumes nothing.
+use Rattle.tariff.proofs.EvidenceRange.{all-seven}
 use borrow.Author.Needs.{needs}
 use Rattle.tariff.proofs.evidence.evidence_in_range.Statement.{statement}
 use Rattle.tariff.proofs.evidence.evidence_in_range.Tie as tie
@@ -23,7 +23,7 @@ is-within-requires-5 : tie.Need-is-within-requires-5
 is-within-requires-5 c κs = search needs
 
 returns : tie.Need-returns
-returns c = let a = c .before .before .before .before .before .before .args in cc (all-six (a .kind) (a .capacity) (a .right) (a .first) (a .last))
+returns c = let a = c .before .before .before .before .before .before .args in cc (all-seven (a .kind) (a .capacity) (a .right) (a .first) (a .last) (a .mark))
 
 pub evidence-in-range-spec : {M : Type 1} → statement M
 evidence-in-range-spec =

@@ -35,6 +35,12 @@ enum-told-5 c = search needs
 limit-odd-tier-requires : tie.Need-limit-odd-tier-requires
 limit-odd-tier-requires c κs = search needs
 
+enum-told-6 : tie.Need-enum-told-6
+enum-told-6 c = search needs
+
+limit-long-term-requires : tie.Need-limit-long-term-requires
+limit-long-term-requires c κs = search needs
+
 returns : tie.Need-returns
 unfolding limitBy
 returns c = c .limit-tier-1 .ensures ∙ sym (ap (λ f. limitBy f (c .before .before .before .args .s)) (c .before .enum-told .given .1))
@@ -55,6 +61,10 @@ returns-5 : tie.Need-returns-5
 unfolding limitBy
 returns-5 c = c .limit-odd-tier .ensures ∙ sym (ap (λ f. limitBy f (c .before .before .before .args .s)) (c .before .enum-told5 .given .1))
 
+returns-6 : tie.Need-returns-6
+unfolding limitBy
+returns-6 c = c .limit-long-term .ensures ∙ sym (ap (λ f. limitBy f (c .before .before .before .args .s)) (c .before .enum-told6 .given .1))
+
 pub limit-by-spec : {M : Type 1} → statement M
 limit-by-spec =
     tie.close
@@ -69,8 +79,11 @@ limit-by-spec =
     limit-even-tier-requires
     enum-told-5
     limit-odd-tier-requires
+    enum-told-6
+    limit-long-term-requires
     returns
     returns-2
     returns-3
     returns-4
-    returns-5)
+    returns-5
+    returns-6)
