@@ -5,6 +5,17 @@ use std::fs;
 use std::os::unix::fs::PermissionsExt;
 use std::path::{Path, PathBuf};
 use std::process::{Command, Output};
+use std::sync::{Mutex, MutexGuard, PoisonError};
+
+/// Held by a test from its first file to its last program. A program that one
+/// test starts while another still writes its script would hold that script
+/// open, and a script that is open for writing cannot be started.
+static FILES_AND_PROGRAMS: Mutex<()> = Mutex::new(());
+
+fn alone() -> MutexGuard<'static, ()> {
+    let held = FILES_AND_PROGRAMS.lock();
+    held.unwrap_or_else(PoisonError::into_inner)
+}
 
 /// Proves crate `lines` and crate `season`, and writes a program that prints
 /// what it is given.
@@ -62,6 +73,7 @@ fn season(root: &Path) -> Output {
 /// to the program.
 #[test]
 fn a_build_says_crate_by_crate_where_it_is() {
+    let _alone = alone();
     let root = repository("built", PROVES);
     let output = season(&root);
     assert_eq!(String::from_utf8_lossy(&output.stdout), "answered\n");
@@ -92,6 +104,7 @@ fn a_build_says_crate_by_crate_where_it_is() {
 
 #[test]
 fn a_build_that_fails_says_all_that_was_said() {
+    let _alone = alone();
     let root = repository("not-built", FAILS);
     let output = season(&root);
     assert!(!output.status.success() && output.stdout.is_empty());
