@@ -2,7 +2,7 @@
 //! edge, and what the later tiers see of them.
 
 mod common;
-use common::step::{awarded, load, show_outside, show_step, LSE, OBAALSE};
+use common::step::{awarded, load, show_obaalse, show_step, LSE, OBAALSE};
 use common::{show, show_in_book};
 
 /// Nominate: 2, 3, 4 and 10 as in any tier. A Sub-LAP is no 10 in the step; it
@@ -61,14 +61,10 @@ fn a_tier_1_award_serves_its_own_path_and_holder() {
         nominate,0,3,1 => no,17
         nominate,0,0,200 => ok"
     ));
-    let loads = [load(0, 0, 0, 1000), load(1, 0, 0, 1000)].concat();
+    let other_load = load(1, 0, 0, 1000);
+    let tier_1 = awarded(1000, [300, 0]);
     show_in_book(&format!(
-        "{loads}prior,0,0,300,0 => ok
-        open,1 => ok
-        nominate,0,0,300 => ok
-        award,0,0,300 => ok
-        close => ok
-        open,10 => ok
+        "{other_load}{tier_1}open,10 => ok
         nominate,1,0,1 => no,17
         nominate,0,0,1 => ok"
     ));
@@ -243,14 +239,14 @@ fn a_kind_2_holder_needs_evidence_from_the_first_kw() {
         verify,0,0,2,300,300,1,3,1 => ok
         verify,0,1,2,200,200,1,3,0 => ok
     ";
-    show_outside(
+    show_obaalse(
         evidence,
         "nominate,0,1,1 => no,18
         nominate,0,0,1 => ok
         nominate,0,1,1 => no,18
         nominate,0,0,299 => ok",
     );
-    show_outside(
+    show_obaalse(
         &evidence.replace("1,3,0", "1,3,1"),
         "nominate,0,0,300 => ok
         nominate,0,1,200 => ok",
@@ -261,7 +257,7 @@ fn a_kind_2_holder_needs_evidence_from_the_first_kw() {
 /// step takes as much again.
 #[test]
 fn the_step_has_no_11() {
-    show_outside(
+    show_obaalse(
         "verify,0,0,1,1,9999,1,3,1 => ok
         verify,0,0,2,300,300,1,3,0 => ok
         verify,0,1,2,200,200,1,3,1 => ok\n",
@@ -337,7 +333,7 @@ fn order_17_before_18_before_13() {
         nominate,0,0,300 => no,18
         nominate,0,0,301 => no,17",
     );
-    show_outside(
+    show_obaalse(
         "verify,0,0,2,300,300,1,3,1 => ok\nverify,0,1,2,200,200,1,3,0 => ok\n",
         "nominate,0,1,201 => no,17
         nominate,0,1,200 => no,18
@@ -480,14 +476,10 @@ fn the_sums_of_11_leave_the_steps_awards_out() {
 /// The step's awards do not migrate, and a migration does not see them.
 #[test]
 fn awards_of_the_step_do_not_migrate() {
-    let loads = [load(0, 0, 0, 1000), load(0, 0, 1, 1000)].concat();
+    let month_load = load(0, 0, 1, 1000);
+    let tier_1 = awarded(1000, [300, 0]);
     show_in_book(&format!(
-        "{loads}prior,0,0,300,0 => ok
-        open,1 => ok
-        nominate,0,0,300 => ok
-        award,0,0,300 => ok
-        close => ok
-        open,10 => ok
+        "{month_load}{tier_1}open,10 => ok
         nominate,0,0,200 => ok
         award,0,0,200 => ok
         close => ok

@@ -22,7 +22,7 @@ pub const LSE: &str = "
     path,1,2
 ";
 
-/// One holder outside, two sources and a scheduling point.
+/// One OBAALSE, two sources and a scheduling point.
 pub const OBAALSE: &str = "
     book,1,2,1,2 => ok
     holder,2
@@ -58,9 +58,9 @@ pub fn show_step(evidence: &str, step: &str) {
     show(&format!("{LSE}{tier_1}{evidence}open,10 => ok\n{step}"));
 }
 
-/// The same for a kind 2 holder, its evidence posted before tier 1.
+/// The same for an OBAALSE, its evidence posted before tier 1.
 #[track_caller]
-pub fn show_outside(evidence: &str, step: &str) {
+pub fn show_obaalse(evidence: &str, step: &str) {
     let tier_1 = awarded(1000, [300, 200]);
     show(&format!("{OBAALSE}{evidence}{tier_1}open,10 => ok\n{step}"));
 }
