@@ -3,7 +3,7 @@ use Prim.Native.Nat.{ℕ}
 use mathlib.Core.Path.{_≡_, sym, subst}
 use mathlib.Core.Bool.{Bool, true, false, cond}
 use mathlib.Core.List.{List}
-use Rattle.tariff.specs.Metering.{blocksOf, sameLengths}
+use Rattle.load_metric.specs.Metering.{blocksOf, sameLengths}
 use Rattle.netting.specs.Netting.{classLinesOf, sameCounts}
 use Rattle.ledger.specs.Numbers.{unreadable}
 use Rattle.ledger.specs.Opening.{Opening}

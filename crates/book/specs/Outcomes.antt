@@ -2,7 +2,7 @@
 use Prim.Native.Nat.{ℕ}
 use mathlib.Core.Bool.{Bool, cond}
 use mathlib.Core.List.{List}
-use Rattle.tariff.specs.Metering.{blocksOf, sameLengths}
+use Rattle.load_metric.specs.Metering.{blocksOf, sameLengths}
 use Rattle.netting.specs.Netting.{classLinesOf, sameCounts}
 use Rattle.ledger.specs.Call.{Call, Query, load, migrate}
 use Rattle.ledger.specs.Numbers.{unreadable}

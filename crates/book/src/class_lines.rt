@@ -2,13 +2,13 @@
 use crate::book::Book;
 use crate::book::Outcome;
 use crate::book::refused_with;
+use load_metric::load::max;
 use netting::netting::ClassLine;
 use records::numbers::NOT_IN_BOOK;
 use records::numbers::OUT_OF_RANGE;
 use records::refusals::refuse;
 use records::setup::unknown_holder;
 use records::setup::unknown_sink;
-use tariff::load::max;
 use tariff::sizes::MAX_CLASS_LINES;
 ghost use mathlib.Core.Path.{_≡_};
 ghost use Rattle.tariff.specs.Sizes.{maxClassLines};

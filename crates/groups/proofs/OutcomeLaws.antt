@@ -9,7 +9,7 @@ use lib.ListN.{length, take, drop, replicate, length-take, length-drop, length-r
 use lib.Dec.{eqb}
 use borrow.Author.Tests.{eqb-true, eqb-false, ne-eqb}
 use Rattle.tariff.proofs.Tests.{and-both}
-use Rattle.tariff.specs.Metering.{blocksOf}
+use Rattle.load_metric.specs.Metering.{blocksOf}
 use Rattle.netting.specs.Netting.{classLinesOf}
 use Rattle.ledger.specs.Numbers.{unreadable}
 use Rattle.ledger.specs.Call.{load, migrate}

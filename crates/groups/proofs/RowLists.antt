@@ -9,7 +9,7 @@ use lib.Dec.{eqb}
 use lib.Seq.{ext-getD}
 use borrow.Author.Tests.{eq-eqb}
 use Rattle.tariff.proofs.Tests.{and-join}
-use Rattle.tariff.specs.Metering.{blocksOf, sameLengths}
+use Rattle.load_metric.specs.Metering.{blocksOf, sameLengths}
 use Rattle.netting.specs.Netting.{classLineAt, classLinesOf, sameCounts}
 use Rattle.tariff.proofs.Lists.{length-tabulate, at-tabulate}
 use Rattle.lines.specs.declared.rows.Row.{Row}

@@ -5,7 +5,7 @@ use mathlib.Core.List.{List, [], _∷_, map}
 use lib.ListN.{length, take, drop}
 use lib.Dec.{eqb}
 use Rattle.netting.specs.declared.netting.ClassLine.{ClassLine}
-use Rattle.tariff.specs.Load.{Block}
+use Rattle.load_metric.specs.Load.{Block}
 use Rattle.ledger.specs.Opening.{Opening}
 use Rattle.ledger.specs.Call.{load, carry, prior, verify, migrate, openTier, nominate, award, closeTier, limitOf, heldOn, netOn}
 use Rattle.ledger.specs.Season.{Request, call, query}

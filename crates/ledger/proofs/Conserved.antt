@@ -8,7 +8,7 @@ use native.Mathlib.Omega.{arith}
 use lib.Dec.{eqb}
 use borrow.Author.Tests.{eqb-true}
 use Rattle.tariff.specs.Sum.{whenTrue, sumTo}
-use Rattle.tariff.specs.Load.{loadPosted}
+use Rattle.load_metric.specs.Load.{loadPosted}
 use Rattle.tariff.specs.Terms.{termOf, isMonth, hasMonth, enteringKw}
 use Rattle.tariff.proofs.Sums.{sum-ext, sum-add, sum-zero}
 use Rattle.tariff.proofs.Tests.{and-both}

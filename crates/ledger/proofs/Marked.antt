@@ -2,7 +2,7 @@
 use mathlib.Core.Path.{_≡_, refl}
 use mathlib.Core.List.{map}
 use Rattle.tariff.specs.Sum.{whenTrue, sumTo, allBelow, anyBelow, sumOver, anyOf, filter}
-use Rattle.tariff.specs.Load.{inOrder, isEmpty, blocksBroken, presentHours, missingHours, tooManyMissing, hoursAbove, exceedanceHours, withinExceedance, smallest, metric, loadPosted}
+use Rattle.load_metric.specs.Load.{inOrder, isEmpty, blocksBroken, presentHours, missingHours, tooManyMissing, hoursAbove, exceedanceHours, withinExceedance, smallest, metric, loadPosted}
 use Rattle.tariff.specs.Eligible.{seasonalEligible, priorityEligible, fifthOfLoad, halfOfLoad}
 use Rattle.tariff.specs.Terms.{termTable, termOf, firstTierOf, isMonth, hasMonth, isLongTermStep, enteringKw, carriedMonth}
 use Rattle.tariff.specs.Limit.{limitTier1, limitTier2, limitTier3, limitEvenTier, limitOddTier, eligibleByEvidence, longTermOfLse, longTermEligible, limitLongTerm, limitBy, formulaOf, limitOfSums}

@@ -8,11 +8,11 @@ use lib.Dec.{eqb}
 use borrow.Author.Tests.{eqb-true}
 use Rattle.tariff.specs.Sum.{whenTrue}
 use Rattle.netting.specs.declared.netting.ClassLine.{ClassLine}
-use Rattle.tariff.specs.Load.{Block, loadPosted}
+use Rattle.load_metric.specs.Load.{Block, loadPosted}
 use Rattle.tariff.specs.Terms.{hasMonth}
 use Rattle.tariff.proofs.Sums.{sum-le}
 use Rattle.tariff.proofs.Tests.{and-both}
-use Rattle.tariff.proofs.Metric.{posted-le}
+use Rattle.load_metric.proofs.Metric.{posted-le}
 use Rattle.ledger.specs.Opening.{Opening, hasBase}
 use Rattle.ledger.specs.Ledger.{Ledger, Loads, Rights, Priors, emptyLedger, withLoads, withRights, withPriors, withEvidence, withTiers}
 use Rattle.ledger.specs.Call.{Call, load, carry, prior, verify, migrate, openTier, nominate, award, closeTier}

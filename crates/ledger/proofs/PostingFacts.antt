@@ -7,7 +7,7 @@ use lib.ListN.{length}
 use lib.Dec.{ltb}
 use borrow.Author.Tests.{ltb-false, leb-false}
 use Rattle.tariff.specs.Sum.{anyOf}
-use Rattle.tariff.specs.Load.{Block, blocksBroken, tooManyMissing}
+use Rattle.load_metric.specs.Load.{Block, blocksBroken, tooManyMissing}
 use Rattle.tariff.specs.Terms.{firstTierOf}
 use Rattle.tariff.specs.Evidence.{highestRight}
 use Rattle.tariff.proofs.Tests.{or-unmet}

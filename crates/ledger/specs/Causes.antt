@@ -6,7 +6,7 @@ use mathlib.Core.List.{List, [], _∷_}
 use lib.Dec.{leb, ltb, eqb}
 use Rattle.netting.specs.declared.netting.ClassLine.{ClassLine}
 use Rattle.tariff.specs.Sum.{anyOf, anyBelow}
-use Rattle.tariff.specs.Load.{Block, blocksBroken, tooManyMissing}
+use Rattle.load_metric.specs.Load.{Block, blocksBroken, tooManyMissing}
 use Rattle.tariff.specs.Terms.{termOf, isLongTermStep}
 use Rattle.tariff.specs.Eligible.{fifthOfLoad}
 use Rattle.netting.specs.Migration.{netted, lostBy}

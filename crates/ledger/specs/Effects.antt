@@ -4,7 +4,7 @@ use mathlib.Core.Bool.{Bool, cond, _&&_, _||_}
 use lib.Dec.{eqb}
 use Rattle.tariff.specs.declared.evidence.Entry.{Entry}
 use Rattle.tariff.specs.Sum.{whenTrue}
-use Rattle.tariff.specs.Load.{loadPosted}
+use Rattle.load_metric.specs.Load.{loadPosted}
 use Rattle.tariff.specs.Terms.{termOf, hasMonth, isLongTermStep, enteringKw}
 use Rattle.tariff.specs.Evidence.{entryOf}
 use Rattle.ledger.specs.Opening.{Opening}

@@ -3,7 +3,7 @@ use Prim.Native.Nat.{ℕ, zero, suc}
 use mathlib.Core.List.{List, [], _∷_, _++_}
 use lib.ListN.{length, replicate}
 use Rattle.netting.specs.declared.netting.ClassLine.{ClassLine}
-use Rattle.tariff.specs.Load.{Block, metric, loadPosted}
+use Rattle.load_metric.specs.Load.{Block, metric, loadPosted}
 use Rattle.tariff.specs.Eligible.{seasonalEligible, priorityEligible}
 use Rattle.netting.specs.Migration.{netted}
 use Rattle.ledger.specs.Opening.{Opening, lse, obaalse, defaultLap, schedulingPoint}

@@ -7,7 +7,7 @@ use lib.Dec.{leb, ltb}
 use Rattle.netting.specs.declared.netting.ClassLine.{ClassLine}
 use Rattle.tariff.specs.Sizes.{maxHours, longTermStep, maxClassLines}
 use Rattle.tariff.specs.Sum.{anyOf}
-use Rattle.tariff.specs.Load.{Block}
+use Rattle.load_metric.specs.Load.{Block}
 use Rattle.tariff.specs.Ranges.{maxKw, within, kwOutOfRange, termOutOfRange}
 use Rattle.netting.specs.ClassRanges.{classLineOutOfRange}
 use Rattle.ledger.specs.Opening.{Opening}

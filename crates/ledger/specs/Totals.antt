@@ -4,7 +4,7 @@ use mathlib.Core.Bool.{Bool, true, false, cond, _&&_}
 use mathlib.Core.List.{List, [], _∷_}
 use lib.Dec.{eqb}
 use Rattle.tariff.specs.Sum.{whenTrue}
-use Rattle.tariff.specs.Load.{loadPosted}
+use Rattle.load_metric.specs.Load.{loadPosted}
 use Rattle.tariff.specs.Terms.{termOf, hasMonth, enteringKw}
 use Rattle.ledger.specs.Opening.{Opening, hasBase}
 use Rattle.ledger.specs.Call.{Call, load, carry, prior, verify, migrate, openTier, nominate, award, closeTier}

@@ -7,12 +7,12 @@ use native.Mathlib.Omega.{arith}
 use lib.ListN.{length, length-map, getD}
 use lib.Dec.{leb, ltb}
 use Rattle.tariff.specs.Sum.{anyBelow, anyOf}
-use Rattle.tariff.specs.declared.load.Metering.the-variants.{Unequal, Broken, Missing, Kw}
-use Rattle.tariff.specs.Load.{Block, blocksBroken, tooManyMissing}
-use Rattle.tariff.specs.Metering.{blocksOf, unlessRefused, meteringBy, blockRefusal}
+use Rattle.load_metric.specs.declared.load.Metering.the-variants.{Unequal, Broken, Missing, Kw}
+use Rattle.load_metric.specs.Load.{Block, blocksBroken, tooManyMissing}
+use Rattle.load_metric.specs.Metering.{blocksOf, unlessRefused, meteringBy, blockRefusal}
 use Rattle.tariff.specs.Ranges.{maxKw, within, termOutOfRange}
 use Rattle.tariff.proofs.Lists.{list-is, any-tabulate}
-use Rattle.tariff.proofs.Blocks.{kws-of, any-of-map}
+use Rattle.load_metric.proofs.Blocks.{kws-of, any-of-map}
 use Rattle.ledger.specs.Ranges.{loadOutOfRange}
 use Rattle.ledger.specs.Numbers.{brokenBlocks, hoursMissing}
 use Rattle.postings.specs.Loads.{exceedsMaxKw, kwBlocks}

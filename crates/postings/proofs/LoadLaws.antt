@@ -9,9 +9,9 @@ use lib.ListN.{length, drop}
 use Rattle.tariff.specs.declared.evidence.Entry.{Entry}
 use Rattle.tariff.specs.Sum.{whenTrue}
 use Rattle.tariff.specs.Sizes.{terms}
-use Rattle.tariff.specs.Load.{Block, loadPosted}
+use Rattle.load_metric.specs.Load.{Block, loadPosted}
 use Rattle.tariff.specs.Ranges.{maxKw}
-use Rattle.tariff.proofs.Metric.{posted-le}
+use Rattle.load_metric.proofs.Metric.{posted-le}
 use Rattle.ledger.specs.Opening.{Opening}
 use Rattle.ledger.specs.Ledger.{Ledger, withLoads}
 use Rattle.ledger.specs.Call.{Call, load}

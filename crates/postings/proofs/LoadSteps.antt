@@ -8,8 +8,8 @@ use lib.ListN.{length}
 use lib.Dec.{eqb}
 use borrow.Author.Tests.{eqb-true, eqb-false}
 use Rattle.tariff.specs.declared.evidence.Entry.{Entry}
-use Rattle.tariff.specs.Load.{Block, loadPosted}
-use Rattle.tariff.specs.Metering.{blocksOf, sameLengths}
+use Rattle.load_metric.specs.Load.{Block, loadPosted}
+use Rattle.load_metric.specs.Metering.{blocksOf, sameLengths}
 use Rattle.tariff.proofs.Tests.{both-ways}
 use Rattle.ledger.specs.Opening.{Opening}
 use Rattle.ledger.specs.Ledger.{Ledger}

@@ -7,10 +7,10 @@ use native.Mathlib.Omega.{arith}
 use lib.ListN.{length, take, drop}
 use lib.Dec.{eqb}
 use borrow.Author.Tests.{eqb-true, eq-eqb, ne-eqb}
-use Rattle.tariff.specs.declared.load.Metering.{Metering}
-use Rattle.tariff.specs.declared.load.Metering.the-variants.{Unequal, Broken, Missing, Kw as MeteredKw}
-use Rattle.tariff.specs.Load.{Block, loadPosted}
-use Rattle.tariff.specs.Metering.{blocksOf, sameLengths, unlessRefused, loadOrCause, meteringBy}
+use Rattle.load_metric.specs.declared.load.Metering.{Metering}
+use Rattle.load_metric.specs.declared.load.Metering.the-variants.{Unequal, Broken, Missing, Kw as MeteredKw}
+use Rattle.load_metric.specs.Load.{Block, loadPosted}
+use Rattle.load_metric.specs.Metering.{blocksOf, sameLengths, unlessRefused, loadOrCause, meteringBy}
 use Rattle.tariff.proofs.Tests.{and-both}
 use Rattle.ledger.specs.Opening.{Opening}
 use Rattle.ledger.specs.Ledger.{Ledger}

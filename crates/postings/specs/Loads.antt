@@ -4,8 +4,8 @@ use mathlib.Core.Bool.{Bool, cond}
 use mathlib.Core.List.{List}
 use lib.ListN.{getD}
 use lib.Dec.{ltb, eqb}
-use Rattle.tariff.specs.Load.{Block, loadPosted}
-use Rattle.tariff.specs.Metering.{blocksOf, sameLengths}
+use Rattle.load_metric.specs.Load.{Block, loadPosted}
+use Rattle.load_metric.specs.Metering.{blocksOf, sameLengths}
 use Rattle.tariff.specs.Ranges.{maxKw}
 use Rattle.ledger.specs.Opening.{Opening}
 use Rattle.ledger.specs.Ledger.{Ledger}

@@ -1,5 +1,8 @@
 // Load: the metered hours of a holder at a sink, in blocks, and the load that is posted of them (01, Posting, Load).
 use crate::posted_slot::posted_slot;
+use load_metric::load::Metering;
+use load_metric::load::load_posted;
+use load_metric::load::same_lengths;
 use records::answers::Answer;
 use records::calendar::load_in_time;
 use records::numbers::BROKEN_BLOCKS;
@@ -23,16 +26,13 @@ use slots::cells::is_posted;
 use slots::cells::set_posted;
 use slots::layout::LOAD_POSTED_SLOT;
 use slots::layout::LOAD_SLOT;
-use tariff::load::Metering;
-use tariff::load::load_posted;
-use tariff::load::same_lengths;
 use tariff::sizes::MAX_HOURS;
 use tariff::sizes::MAX_KW;
 use tariff::sizes::TERMS;
 ghost use mathlib.Core.Path.{_≡_};
 ghost use lib.ListN.{length, take};
 ghost use Rattle.tariff.specs.Sum.{anyBelow};
-ghost use Rattle.tariff.specs.Metering.{blocksOf, sameLengths};
+ghost use Rattle.load_metric.specs.Metering.{blocksOf, sameLengths};
 ghost use Rattle.ledger.specs.Ranges.{loadOutOfRange};
 ghost use Rattle.ledger.specs.Numbers.{firstMet};
 ghost use Rattle.ledger.specs.Causes.{loadCauses};

@@ -6,7 +6,7 @@ use mathlib.Core.List.{List}
 use native.Mathlib.Nat.{le-trans}
 use native.Mathlib.Omega.{arith}
 use lib.Dec.{eqb}
-use Rattle.tariff.specs.Load.{loadPosted}
+use Rattle.load_metric.specs.Load.{loadPosted}
 use Rattle.tariff.specs.Terms.{termOf, hasMonth, enteringKw}
 use Rattle.tariff.specs.Evidence.{emptyEntry, entryOf}
 use Rattle.tariff.specs.Sizes.{lastMonth, terms, evidenceKinds}

@@ -2,9 +2,6 @@
 pub mod Sizes
 pub mod Numbers
 pub mod Sum
-pub mod Load
-pub mod Metering
-pub mod Levels
 pub mod Eligible
 pub mod Terms
 pub mod Limit

@@ -4,8 +4,8 @@ use crate::load_rows;
 use crate::rows::at;
 use crate::rows::part;
 use crate::write;
-use tariff::load::Metering;
-use tariff::load::load_posted;
+use load_metric::load::Metering;
+use load_metric::load::load_posted;
 
 // How many numbers a row has.
 pub const WIDTH: usize = 6;

@@ -7,13 +7,13 @@ use native.Mathlib.Nat.{le-refl}
 use native.Mathlib.Omega.{arith}
 use lib.ListN.{length}
 use borrow.Author.Tests.{le-leb, lt-leb}
-use Rattle.tariff.specs.declared.load.Level.{Level}
-use Rattle.tariff.specs.Load.{Block, presentHours, hoursAbove, exceedanceHours, withinExceedance, metric}
-use Rattle.tariff.specs.Metering.{blocksOf}
-use Rattle.tariff.specs.Levels.{highestKw, highestBelow, hoursAtLeast, levelBelow, kwsOf, EachHasHours}
-use Rattle.tariff.proofs.Blocks.{kws-of}
-use Rattle.tariff.proofs.Lowest.{Among, smallest-passing, among-highest}
-use Rattle.tariff.proofs.Levels.{from-within-above, from-more, none-above-highest, above-next, next-among}
+use Rattle.load_metric.specs.declared.load.Level.{Level}
+use Rattle.load_metric.specs.Load.{Block, presentHours, hoursAbove, exceedanceHours, withinExceedance, metric}
+use Rattle.load_metric.specs.Metering.{blocksOf}
+use Rattle.load_metric.specs.Levels.{highestKw, highestBelow, hoursAtLeast, levelBelow, kwsOf, EachHasHours}
+use Rattle.load_metric.proofs.Blocks.{kws-of}
+use Rattle.load_metric.proofs.Lowest.{Among, smallest-passing, among-highest}
+use Rattle.load_metric.proofs.Levels.{from-within-above, from-more, none-above-highest, above-next, next-among}
 
 -- where the way down stands: at a block's kW that is exceeded in no more hours than may be
 pub record Standing (bs : List Block) (kw : ℕ) : Type 0 where

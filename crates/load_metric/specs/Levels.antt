@@ -6,12 +6,12 @@ use mathlib.Core.Bool.{cond, false}
 use mathlib.Core.List.{List, [], _∷_, map}
 use lib.Dec.{leb, ltb, eqb}
 use lib.ListN.{length}
-use Rattle.tariff.specs.declared.load.BlockOrder.{BlockOrder}
-use Rattle.tariff.specs.declared.load.BlockOrder.the-variants.{Broken, Hours}
-use Rattle.tariff.specs.declared.load.Level.{Level}
+use Rattle.load_metric.specs.declared.load.BlockOrder.{BlockOrder}
+use Rattle.load_metric.specs.declared.load.BlockOrder.the-variants.{Broken, Hours}
+use Rattle.load_metric.specs.declared.load.Level.{Level}
 use Rattle.tariff.specs.Sum.{whenTrue, sumOver, anyOf}
-use Rattle.tariff.specs.Load.{Block, inOrder, presentHours}
-use Rattle.tariff.specs.Metering.{blocksOf}
+use Rattle.load_metric.specs.Load.{Block, inOrder, presentHours}
+use Rattle.load_metric.specs.Metering.{blocksOf}
 
 -- blocks by their first hours and hours, where the kW do not matter
 abbrev pub spansOf : List ℕ → List ℕ → List Block

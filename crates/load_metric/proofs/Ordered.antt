@@ -8,13 +8,13 @@ use native.Mathlib.Omega.{arith}
 use lib.Dec.{leb, eqb}
 use lib.ListN.{length, getD}
 use borrow.Author.Tests.{leb-true, le-leb, lt-leb, ne-eqb}
-use Rattle.tariff.specs.declared.load.BlockOrder.the-variants.{Broken, Hours}
+use Rattle.load_metric.specs.declared.load.BlockOrder.the-variants.{Broken, Hours}
 use Rattle.tariff.specs.Sum.{sumOver, anyOf}
-use Rattle.tariff.specs.Load.{Block, inOrder, presentHours}
-use Rattle.tariff.specs.Metering.{blocksOf}
-use Rattle.tariff.specs.Levels.{orderedHours, EachHasHours}
+use Rattle.load_metric.specs.Load.{Block, inOrder, presentHours}
+use Rattle.load_metric.specs.Metering.{blocksOf}
+use Rattle.load_metric.specs.Levels.{orderedHours, EachHasHours}
 use Rattle.tariff.proofs.Tests.{and-both, and-left-false, and-right-false}
-use Rattle.tariff.proofs.Blocks.{blocksFrom, blockAt, blocks-left, no-blocks-left, any-by-loads}
+use Rattle.load_metric.proofs.Blocks.{blocksFrom, blockAt, blocks-left, no-blocks-left, any-by-loads}
 
 module _ (n from : ℕ) (b : Block) (bs : List Block) where
   -- the tests of a block, taken apart

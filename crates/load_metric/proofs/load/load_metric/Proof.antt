@@ -1,13 +1,13 @@
--- `tariff::load::load_metric` meets its contract: each return follows from the tests on the way and from what the two passes promise. Assumes nothing.
+-- `load_metric::load::load_metric` meets its contract: each return follows from the tests on the way and from what the two passes promise. Assumes nothing.
 use mathlib.Core.Path.{_≡_, sym, _∙_}
 use native.Mathlib.Omega.{arith}
 use lib.ListN.{length}
 use borrow.Author.Tests.{not-true, not-false}
 use borrow.Author.Needs.{needs}
-use Rattle.tariff.proofs.Refusals.{unequal, lengths-same, broken-empty, broken-blocks}
-use Rattle.tariff.proofs.Refusals.{Passed, present-within, missing-hours, covering, metered}
-use Rattle.tariff.proofs.load.load_metric.Statement.{statement}
-use Rattle.tariff.proofs.load.load_metric.Tie as tie
+use Rattle.load_metric.proofs.Refusals.{unequal, lengths-same, broken-empty, broken-blocks}
+use Rattle.load_metric.proofs.Refusals.{Passed, present-within, missing-hours, covering, metered}
+use Rattle.load_metric.proofs.load.load_metric.Statement.{statement}
+use Rattle.load_metric.proofs.load.load_metric.Tie as tie
 
 same-lengths-requires : tie.Need-same-lengths-requires
 same-lengths-requires c κs = search needs

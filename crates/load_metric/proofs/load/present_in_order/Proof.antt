@@ -1,4 +1,4 @@
--- `tariff::load::present_in_order` meets its contract. The loop's invariant: the last block ended by hour n, the hours so far lie before its end, all
+-- `load_metric::load::present_in_order` meets its contract. The loop's invariant: the last block ended by hour n, the hours so far lie before its end, all
 -- blocks stand in order if those left do from there on, and the hours so far and those left are the hours of all. Assumes nothing.
 use Prim.Native.Nat.{_+_, _-_, _≤_}
 use mathlib.Core.Path.{_≡_, refl, _∙_}
@@ -6,14 +6,14 @@ use mathlib.Core.Bool.{false}
 use mathlib.Core.List.{List, _∷_}
 use native.Mathlib.Omega.{arith}
 use lib.ListN.{length}
-use Rattle.tariff.specs.declared.load.BlockOrder.the-variants.{Broken}
-use Rattle.tariff.specs.Load.{Block, inOrder, presentHours}
-use Rattle.tariff.specs.Levels.{spansOf, orderedHours}
-use Rattle.tariff.proofs.Blocks.{blocksFrom, blockAt}
-use Rattle.tariff.proofs.Ordered.{order-next, order-early, order-without-hours, order-late, order-left, order-none-left}
-use Rattle.tariff.proofs.Ordered.{present-left, present-none-left, ordered-broken, ordered-present}
-use Rattle.tariff.proofs.load.present_in_order.Statement.{statement}
-use Rattle.tariff.proofs.load.present_in_order.Tie as tie
+use Rattle.load_metric.specs.declared.load.BlockOrder.the-variants.{Broken}
+use Rattle.load_metric.specs.Load.{Block, inOrder, presentHours}
+use Rattle.load_metric.specs.Levels.{spansOf, orderedHours}
+use Rattle.load_metric.proofs.Blocks.{blocksFrom, blockAt}
+use Rattle.load_metric.proofs.Ordered.{order-next, order-early, order-without-hours, order-late, order-left, order-none-left}
+use Rattle.load_metric.proofs.Ordered.{present-left, present-none-left, ordered-broken, ordered-present}
+use Rattle.load_metric.proofs.load.present_in_order.Statement.{statement}
+use Rattle.load_metric.proofs.load.present_in_order.Tie as tie
 
 abbrev Inv-loop : tie.InvT-loop
 Inv-loop firsts hours n from₀ present₀ i₀ from present i =

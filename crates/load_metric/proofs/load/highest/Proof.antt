@@ -1,13 +1,13 @@
--- `tariff::load::highest` meets its contract. The loop's invariant: the highest kW so far and the highest of those left give the highest of all.
+-- `load_metric::load::highest` meets its contract. The loop's invariant: the highest kW so far and the highest of those left give the highest of all.
 -- Assumes nothing.
 use Prim.Native.Nat.{_-_, _≤_, max}
 use mathlib.Core.Path.{_≡_}
 use native.Mathlib.Omega.{arith}
 use lib.ListN.{length, drop}
-use Rattle.tariff.specs.Levels.{highestKw}
-use Rattle.tariff.proofs.Lowest.{highest-left, highest-none-left}
-use Rattle.tariff.proofs.load.highest.Statement.{statement}
-use Rattle.tariff.proofs.load.highest.Tie as tie
+use Rattle.load_metric.specs.Levels.{highestKw}
+use Rattle.load_metric.proofs.Lowest.{highest-left, highest-none-left}
+use Rattle.load_metric.proofs.load.highest.Statement.{statement}
+use Rattle.load_metric.proofs.load.highest.Tie as tie
 
 abbrev Inv-loop : tie.InvT-loop
 Inv-loop kws highest₀ i₀ highest i = (i ≤ length kws) × (max highest (highestKw (drop i kws)) ≡ highestKw kws)

@@ -9,13 +9,13 @@ use native.Mathlib.Omega.{arith}
 use lib.Dec.{leb, ltb, eqb}
 use lib.ListN.{length, getD}
 use borrow.Author.Tests.{leb-true, ltb-true, ltb-false, eqb-false, le-leb, lt-leb, lt-ltb, le-ltb}
 use Rattle.tariff.specs.Sum.{whenTrue, sumOver, anyOf}
-use Rattle.tariff.specs.Load.{Block, presentHours, hoursAbove}
-use Rattle.tariff.specs.Levels.{highestKw, highestBelow, hoursAtLeast, kwsOf, EachHasHours}
+use Rattle.load_metric.specs.Load.{Block, presentHours, hoursAbove}
+use Rattle.load_metric.specs.Levels.{highestKw, highestBelow, hoursAtLeast, kwsOf, EachHasHours}
 use Rattle.tariff.proofs.Sums.{when-is-true, when-is-false, when-le}
 use Rattle.tariff.proofs.Tests.{or-unmet}
-use Rattle.tariff.proofs.Blocks.{blocksFrom, blockAt, blocks-left, no-blocks-left}
-use Rattle.tariff.proofs.Lowest.{Among, among-max}
+use Rattle.load_metric.proofs.Blocks.{blocksFrom, blockAt, blocks-left, no-blocks-left}
+use Rattle.load_metric.proofs.Lowest.{Among, among-max}
 
 -- where one test passes only if another does, it counts no more
 when-mono : (s t : Bool) (v : ℕ) → (s ≡ true → t ≡ true) → whenTrue s v ≤ whenTrue t v

@@ -1,14 +1,14 @@
--- `tariff::load::metric_of_blocks` meets its contract. The loop's invariant: the kW is a block's and within the exceedance, and the level is the step down from
+-- `load_metric::load::metric_of_blocks` meets its contract. The loop's invariant: the kW is a block's and within the exceedance, and the level is the step down from
 -- it. The measure is what may be exceeded less the hours at or above the kW: it bounds the turns, whatever the number of blocks. Assumes nothing.
 use Prim.Native.Nat.{_+_, _-_, _/_, _≤_}
 use mathlib.Core.Path.{_≡_, sym, ap}
 use mathlib.Core.List.{List}
 use native.Mathlib.Omega.{arith}
-use Rattle.tariff.specs.Load.{Block, exceedanceHours}
-use Rattle.tariff.specs.Levels.{loadsOf, levelBelow, hoursAtLeast, Countable}
-use Rattle.tariff.proofs.Found.{Standing, level-kw, level-above, exceedance-is, step-down, step-adds, metric-found, stand-highest}
-use Rattle.tariff.proofs.load.metric_of_blocks.Statement.{statement}
-use Rattle.tariff.proofs.load.metric_of_blocks.Tie as tie
+use Rattle.load_metric.specs.Load.{Block, exceedanceHours}
+use Rattle.load_metric.specs.Levels.{loadsOf, levelBelow, hoursAtLeast, Countable}
+use Rattle.load_metric.proofs.Found.{Standing, level-kw, level-above, exceedance-is, step-down, step-adds, metric-found, stand-highest}
+use Rattle.load_metric.proofs.load.metric_of_blocks.Statement.{statement}
+use Rattle.load_metric.proofs.load.metric_of_blocks.Tie as tie
 
 abbrev Inv-loop : tie.InvT-loop
 Inv-loop hours kws present exceedance-hours kw₀ below₀ kw below = Standing (loadsOf hours kws) kw × (below ≡ levelBelow kw (loadsOf hours kws))

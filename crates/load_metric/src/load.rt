@@ -3,10 +3,10 @@
 ghost use mathlib.Core.Path.{_≡_};
 ghost use Prim.Native.Nat.{max};
 ghost use lib.ListN.{length};
-ghost use Rattle.tariff.specs.Load.{metric};
-ghost use Rattle.tariff.specs.Metering.{sameLengths, metricOrCause, loadOrCause};
-ghost use Rattle.tariff.specs.Levels.{spansOf, loadsOf, orderedHours, highestKw, levelBelow, Countable, MetricInputs};
-use crate::limit::saturating_sub;
+ghost use Rattle.load_metric.specs.Load.{metric};
+ghost use Rattle.load_metric.specs.Metering.{sameLengths, metricOrCause, loadOrCause};
+ghost use Rattle.load_metric.specs.Levels.{spansOf, loadsOf, orderedHours, highestKw, levelBelow, Countable, MetricInputs};
+use tariff::limit::saturating_sub;
 
 // What a block list gives: the kW, or why it is refused.
 pub enum Metering {

@@ -10,10 +10,10 @@ use native.Mathlib.Omega.{arith}
 use lib.Dec.{leb}
 use lib.ListN.{length, getD, drop, drop-of-length-le}
 use lib.Seq.{drop-cons}
 use Rattle.tariff.specs.Sum.{sumOver, anyOf, filter}
-use Rattle.tariff.specs.Load.{Block, inOrder, presentHours, hoursAbove, exceedanceHours, withinExceedance, smallest, metric}
-use Rattle.tariff.specs.Metering.{blocksOf}
-use Rattle.tariff.specs.Levels.{kwsOf}
+use Rattle.load_metric.specs.Load.{Block, inOrder, presentHours, hoursAbove, exceedanceHours, withinExceedance, smallest, metric}
+use Rattle.load_metric.specs.Metering.{blocksOf}
+use Rattle.load_metric.specs.Levels.{kwsOf}
 
 -- the blocks from number i on
 abbrev pub blocksFrom : ℕ → List ℕ → List ℕ → List ℕ → List Block

@@ -7,15 +7,15 @@ use native.Mathlib.Omega.{arith}
 use lib.Dec.{eqb}
 use lib.ListN.{length}
 use borrow.Author.Tests.{eq-eqb, eqb-true, lt-ltb, le-ltb}
-use Rattle.tariff.specs.declared.load.Metering.{Metering}
-use Rattle.tariff.specs.declared.load.Metering.the-variants.{Unequal, Broken, Missing, Kw}
-use Rattle.tariff.specs.declared.load.BlockOrder.the-variants.{Hours, Broken as OutOfOrder}
-use Rattle.tariff.specs.Load.{Block, inOrder, isEmpty, blocksBroken, presentHours, missingHours, tooManyMissing, metric, loadPosted}
-use Rattle.tariff.specs.Metering.{blocksOf, sameLengths, unlessRefused, metricOrCause, loadOrCause, meteringBy, blockRefusal}
-use Rattle.tariff.specs.Levels.{spansOf, loadsOf, orderedHours, MetricInputs}
+use Rattle.load_metric.specs.declared.load.Metering.{Metering}
+use Rattle.load_metric.specs.declared.load.Metering.the-variants.{Unequal, Broken, Missing, Kw}
+use Rattle.load_metric.specs.declared.load.BlockOrder.the-variants.{Hours, Broken as OutOfOrder}
+use Rattle.load_metric.specs.Load.{Block, inOrder, isEmpty, blocksBroken, presentHours, missingHours, tooManyMissing, metric, loadPosted}
+use Rattle.load_metric.specs.Metering.{blocksOf, sameLengths, unlessRefused, metricOrCause, loadOrCause, meteringBy, blockRefusal}
+use Rattle.load_metric.specs.Levels.{spansOf, loadsOf, orderedHours, MetricInputs}
 use Rattle.tariff.proofs.Tests.{and-join, and-both}
-use Rattle.tariff.proofs.Blocks.{metric-by-loads, present-by-loads, present-by-spans, order-by-spans}
-use Rattle.tariff.proofs.Ordered.{order-within, loads-have-hours}
+use Rattle.load_metric.proofs.Blocks.{metric-by-loads, present-by-loads, present-by-spans, order-by-spans}
+use Rattle.load_metric.proofs.Ordered.{order-within, loads-have-hours}
 
 or-right-true : (a : Bool) {b : Bool} → b ≡ true → (a || b) ≡ true
 or-right-true true e = refl

@@ -1,12 +1,12 @@
--- `tariff::load::load_posted` meets its contract: a refusal is passed on, and contract load comes off a kW. Assumes nothing.
+-- `load_metric::load::load_posted` meets its contract: a refusal is passed on, and contract load comes off a kW. Assumes nothing.
 use mathlib.Core.Path.{_≡_, ap, _∙_}
 use borrow.Author.Needs.{needs}
-use Rattle.tariff.specs.declared.load.Metering.{Metering}
-use Rattle.tariff.specs.declared.load.Metering.the-variants.{Kw}
-use Rattle.tariff.specs.Metering.{loadOrCause}
-use Rattle.tariff.proofs.Refusals.{afterContract, posted-from}
-use Rattle.tariff.proofs.load.load_posted.Statement.{statement}
-use Rattle.tariff.proofs.load.load_posted.Tie as tie
+use Rattle.load_metric.specs.declared.load.Metering.{Metering}
+use Rattle.load_metric.specs.declared.load.Metering.the-variants.{Kw}
+use Rattle.load_metric.specs.Metering.{loadOrCause}
+use Rattle.load_metric.proofs.Refusals.{afterContract, posted-from}
+use Rattle.load_metric.proofs.load.load_posted.Statement.{statement}
+use Rattle.load_metric.proofs.load.load_posted.Tie as tie
 
 load-metric-requires : tie.Need-load-metric-requires
 load-metric-requires c κs = search needs

@@ -4,10 +4,10 @@ use mathlib.Core.Bool.{Bool, cond, _&&_}
 use mathlib.Core.List.{List, [], _∷_}
 use lib.Dec.{eqb}
 use lib.ListN.{length}
-use Rattle.tariff.specs.declared.load.Metering.{Metering}
-use Rattle.tariff.specs.declared.load.Metering.the-variants.{Unequal, Broken, Missing, Kw}
+use Rattle.load_metric.specs.declared.load.Metering.{Metering}
+use Rattle.load_metric.specs.declared.load.Metering.the-variants.{Unequal, Broken, Missing, Kw}
 use Rattle.tariff.specs.Numbers.{unreadable, brokenBlocks, hoursMissing}
-use Rattle.tariff.specs.Load.{Block, blocksBroken, tooManyMissing, metric, loadPosted}
+use Rattle.load_metric.specs.Load.{Block, blocksBroken, tooManyMissing, metric, loadPosted}
 
 -- a block is a first hour, a length and a kW (01, Posting, Load): three lists, read side by side as far as the shortest goes
 unfoldable pub blocksOf : List ℕ → List ℕ → List ℕ → List Block

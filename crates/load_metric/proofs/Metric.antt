@@ -6,9 +6,9 @@ use mathlib.Core.List.{List, [], _∷_, map}
 use native.Mathlib.Nat.{le-trans, min-le-left, sub-le}
 use lib.Dec.{ltb}
 use borrow.Author.Tests.{ltb-false}
 use Rattle.tariff.specs.Sum.{anyOf, filter}
-use Rattle.tariff.specs.Load.{Block, smallest, withinExceedance, metric, loadPosted}
+use Rattle.load_metric.specs.Load.{Block, smallest, withinExceedance, metric, loadPosted}
 use Rattle.tariff.proofs.Tests.{or-unmet}
 
 module _ {A : Type 0} (test : A → Bool) where
   -- what no line passes, none of the lines picked out passes

@@ -1,15 +1,15 @@
--- `tariff::load::level_below` meets its contract. The loop's invariant: what the pass has found and what the blocks left give is what all of them give.
+-- `load_metric::load::level_below` meets its contract. The loop's invariant: what the pass has found and what the blocks left give is what all of them give.
 -- Assumes nothing.
 use Prim.Native.Nat.{_+_, _-_, _≤_, max}
 use mathlib.Core.Path.{_≡_}
 use mathlib.Core.Logic.{⊎-elim}
 use native.Mathlib.Omega.{arith}
 use lib.ListN.{length}
-use Rattle.tariff.specs.Levels.{loadsOf, levelBelow, highestBelow, hoursAtLeast}
-use Rattle.tariff.proofs.Blocks.{blocksFrom}
-use Rattle.tariff.proofs.Levels.{from-within-present, left-below, left-from, left-none}
-use Rattle.tariff.proofs.load.level_below.Statement.{statement}
-use Rattle.tariff.proofs.load.level_below.Tie as tie
+use Rattle.load_metric.specs.Levels.{loadsOf, levelBelow, highestBelow, hoursAtLeast}
+use Rattle.load_metric.proofs.Blocks.{blocksFrom}
+use Rattle.load_metric.proofs.Levels.{from-within-present, left-below, left-from, left-none}
+use Rattle.load_metric.proofs.load.level_below.Statement.{statement}
+use Rattle.load_metric.proofs.load.level_below.Tie as tie
 
 abbrev Inv-loop : tie.InvT-loop
 Inv-loop hours kws cap kw₀ above₀ i₀ kw above i =

@@ -4,8 +4,8 @@ use Prim.Native.Nat.{ℕ}
 use mathlib.Core.Path.{_≡_, refl}
 use mathlib.Core.List.{List, [], _∷_, map}
 use lib.Dec.{leb, ltb}
 use Rattle.tariff.specs.Sum.{whenTrue, sumOver, filter}
-use Rattle.tariff.specs.Load.{Block, presentHours, hoursAbove, exceedanceHours, withinExceedance, smallest, metric}
+use Rattle.load_metric.specs.Load.{Block, presentHours, hoursAbove, exceedanceHours, withinExceedance, smallest, metric}
 
 -- ruled out: the blocks above a kW are counted in place of their hours
 pub metricByBlocks : List Block → ℕ

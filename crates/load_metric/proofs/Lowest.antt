@@ -12,10 +12,10 @@ use lib.Dec.{leb, ltb}
 use lib.ListN.{length, getD, drop, drop-of-length-le}
 use lib.Seq.{drop-cons}
 use borrow.Author.Tests.{leb-true, leb-false, ltb-false, ltb-true}
 use Rattle.tariff.specs.Sum.{filter}
-use Rattle.tariff.specs.Load.{smallest}
-use Rattle.tariff.specs.Levels.{highestKw}
+use Rattle.load_metric.specs.Load.{smallest}
+use Rattle.load_metric.specs.Levels.{highestKw}
 use Rattle.tariff.proofs.Tests.{both-ways}
 
 -- the number stands in the list
 abbrev pub Among : ℕ → List ℕ → Type 0
