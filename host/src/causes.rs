@@ -16,7 +16,10 @@ pub fn cause(refusal: u64) -> Option<&'static str> {
         8 => "a class line from a holder to itself, or with a holder of kind 2",
         9 => "a loser's m together exceed its load",
         10 => "the sink is not for this holder, or a Sub-LAP in load or tier 1",
-        11 => "above the verified kW of the source",
+        11 => {
+            "above the verified kW of the source: there is evidence for the tier's term, \
+             and it falls short"
+        }
         12 => "above the path's a − l in tier 1",
         13 => "above the tier's limit",
         14 => "an award above what is nominated and unawarded",
@@ -24,6 +27,7 @@ pub fn cause(refusal: u64) -> Option<&'static str> {
         16 => "a kind, parent, path or count of the opening breaks the rules",
         17 => "in the Long Term step, above the holder's own tier 1 award on the path",
         18 => "in the Long Term step, a source without ten-year evidence for the season",
+        19 => "no evidence of the source for the tier's term, of either kind",
         _ => return None,
     };
     Some(words)

@@ -116,6 +116,13 @@ pub(crate) fn verified(book: &Book, holder: usize, source: usize, term: usize) -
         .sum()
 }
 
+/// Whether a holder has evidence at a source that counts for a term, of either
+/// kind. It may come to 0 kW.
+pub(crate) fn has_evidence(book: &Book, holder: usize, source: usize, term: usize) -> bool {
+    let entries = &book.evidence[holder][source];
+    entries.iter().any(|entry| entry.counts_for(term))
+}
+
 /// The kW of a holder's term 0 ten-year evidence: both kinds, each rounded by
 /// itself, summed over the sources of the book, whether a path starts there or
 /// not.

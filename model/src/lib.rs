@@ -6,8 +6,8 @@
 //!
 //! - [`Opening`] and [`Book::open`]: the book and its sizes;
 //! - [`Book::call`]: the nine calls; [`Book::query`]: the three queries;
-//! - [`refusals`]: the eighteen causes, looked for in ascending number but for
-//!   17 and 18, which come straight after 12;
+//! - [`refusals`]: the nineteen causes, looked for in ascending number but for
+//!   19, which comes directly before 11, and 17 and 18, straight after 12;
 //! - [`run`] and [`answers`]: scripts, groups, answers, and the host's number;
 //! - [`generate`]: whole seasons, and damaged ones, from a seed;
 //! - [`rules`]: single rules on plain numbers;

@@ -1,4 +1,4 @@
-//! The eighteen numbers a refusal can have, one for each cause.
+//! The nineteen numbers a refusal can have, one for each cause.
 
 /// Script writer: a line, or a line its head counts, cannot be read.
 pub const UNREADABLE: u64 = 1;
@@ -20,7 +20,7 @@ pub const NOT_BETWEEN_LSES: u64 = 8;
 pub const LOSS_ABOVE_LOAD: u64 = 9;
 /// Holder: the sink is not for it.
 pub const SINK_INELIGIBLE: u64 = 10;
-/// Holder: above the verified kW.
+/// Holder: above the kW that the source's evidence for the term verifies.
 pub const ABOVE_VERIFIED: u64 = 11;
 /// Holder: above last year's allocation left on the path, in tier 1.
 pub const ABOVE_PRIOR: u64 = 12;
@@ -36,9 +36,12 @@ pub const BREAKS_RULES: u64 = 16;
 pub const ABOVE_TIER_1_AWARD: u64 = 17;
 /// Holder: in the Long Term step, a source without term 0 ten-year evidence.
 pub const NO_TEN_YEAR_EVIDENCE: u64 = 18;
+/// Holder: a source without evidence for the tier's term.
+pub const UNVERIFIED: u64 = 19;
 
-/// One cause, looked for: the calls list these in ascending number, 17 and 18
-/// straight after 12, so the first cause met is the one returned.
+/// One cause, looked for: the calls list these in ascending number, 19 directly
+/// before 11 and 17 and 18 straight after 12, so the first cause met is the one
+/// returned.
 pub(crate) fn refuse_if(met: bool, cause: u64) -> Result<(), u64> {
     if met {
         Err(cause)

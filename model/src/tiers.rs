@@ -3,11 +3,11 @@
 use crate::book::Book;
 use crate::calendar::{open_in_time, term_of, LONG_TERM_STEP};
 use crate::calls::OnPath;
-use crate::evidence::{has_ten_year, verified};
+use crate::evidence::{has_evidence, has_ten_year, verified};
 use crate::limit::{fifth_left, limit};
 use crate::refusals::{
     refuse_if, ABOVE_LIMIT, ABOVE_NOMINATED, ABOVE_PRIOR, ABOVE_TIER_1_AWARD, ABOVE_VERIFIED,
-    NOT_AT_THIS_TIME, NOT_IN_BOOK, NO_TEN_YEAR_EVIDENCE, OUT_OF_RANGE, SINK_INELIGIBLE,
+    NOT_AT_THIS_TIME, NOT_IN_BOOK, NO_TEN_YEAR_EVIDENCE, OUT_OF_RANGE, SINK_INELIGIBLE, UNVERIFIED,
 };
 use crate::sizes::MAX_KW;
 
@@ -23,8 +23,8 @@ pub(crate) fn open(book: &mut Book, tier: u64) -> Result<(), u64> {
     Ok(())
 }
 
-/// Nominate: causes 2 to 4, 10 to 12, 17, 18 and 13; then the kW is added to
-/// what the holder nominated on the path in this tier.
+/// Nominate: causes 2 to 4, 10, 19, 11, 12, 17, 18 and 13; then the kW is added
+/// to what the holder nominated on the path in this tier.
 pub(crate) fn nominate(book: &mut Book, nominate: &OnPath) -> Result<(), u64> {
     refuse_if(!known(book, nominate), NOT_IN_BOOK)?;
     refuse_if(!in_range(nominate), OUT_OF_RANGE)?;
@@ -35,6 +35,7 @@ pub(crate) fn nominate(book: &mut Book, nominate: &OnPath) -> Result<(), u64> {
     let too_early = tier == 1 && book.is_sub_lap(sink);
     let not_for_it = book.sink_ineligible(holder, sink) || too_early;
     refuse_if(not_for_it, SINK_INELIGIBLE)?;
+    refuse_if(lacks_evidence(book, holder, path, tier), UNVERIFIED)?;
     refuse_if(kw > verified_room(book, holder, path, tier), ABOVE_VERIFIED)?;
     refuse_if(kw > prior_room(book, holder, path, tier), ABOVE_PRIOR)?;
     let awarded = tier_1_award_room(book, holder, path, tier);
@@ -118,12 +119,23 @@ pub(crate) fn awarded_in(book: &Book, holder: usize, path: usize, tier: u64) -> 
     }
 }
 
+/// To whom and when causes 19 and 11 apply: a kind 2 holder, in every tier but
+/// the Long Term step.
+fn needs_verification(book: &Book, holder: usize, tier: u64) -> bool {
+    book.is_obaalse(holder) && tier != LONG_TERM_STEP
+}
+
+/// Cause 19: the path's source has no evidence for the tier's term.
+fn lacks_evidence(book: &Book, holder: usize, path: usize, tier: u64) -> bool {
+    let source = book.path_source[path];
+    needs_verification(book, holder, tier) && !has_evidence(book, holder, source, term_of(tier))
+}
+
 /// Cause 11, as the kW still free: verified kW at a source has to cover what
-/// a kind 2 holder nominates from there in this tier, and what it was awarded
-/// from there in the earlier tiers that serve the term. Other holders have
-/// nothing to show, and the Long Term step does not ask.
+/// a holder nominates from there in this tier, and what it was awarded from
+/// there in the earlier tiers that serve the term.
 pub(crate) fn verified_room(book: &Book, holder: usize, path: usize, tier: u64) -> u64 {
-    if !book.is_obaalse(holder) || tier == LONG_TERM_STEP {
+    if !needs_verification(book, holder, tier) {
         return u64::MAX;
     }
     let source = book.path_source[path];

@@ -13,7 +13,7 @@ fn well_formed(answer: &[u8]) -> bool {
         }
         [b'n', b'o', b',', tens @ b'0'..=b'1', ones @ b'0'..=b'9'] => {
             let number = (tens - b'0') * 10 + (ones - b'0');
-            (1..=18).contains(&number) && number != 15
+            (1..=19).contains(&number) && number != 15
         }
         _ => false,
     }

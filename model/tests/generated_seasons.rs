@@ -1,7 +1,7 @@
 //! Seasons from seeds, replayed beside a tally of their own.
 
 mod replay;
-use replay::{replay, Coverage};
+use replay::{replay, Coverage, Shown};
 
 /// The plain ledger's sums over 20,000 seasons: holdings are what was carried
 /// in and awarded, loads what was posted, no migration takes more than there
@@ -21,8 +21,8 @@ fn generated_seasons_keep_the_sums() {
 }
 
 /// The generator draws each number, reaches tier 9 in most seasons, holds the
-/// Long Term step in most, and moves load and rights in the season and in each
-/// month.
+/// Long Term step in most, moves load and rights in the season and in each
+/// month, and has kind 2 holders nominate with and without evidence.
 #[test]
 fn generated_seasons_draw_every_number() {
     let mut coverage = Coverage::default();
@@ -37,14 +37,14 @@ fn generated_seasons_draw_every_number() {
         coverage.numbers[15] += 1;
     }
     println!("{coverage:?}");
-    for number in 1..=18 {
+    for number in 1..=19 {
         assert!(coverage.numbers[number] > 0, "{number} is never drawn");
     }
     for number in [1, 2, 3, 4, 10, 13, 14, 17, 18] {
         let drawn = coverage.step_numbers[number];
         assert!(drawn > 60, "{number} is drawn {drawn} times in the step");
     }
-    for number in [11, 12] {
+    for number in [11, 12, 19] {
         assert_eq!(coverage.step_numbers[number], 0);
     }
     assert!(
@@ -73,6 +73,12 @@ fn generated_seasons_draw_every_number() {
         );
     }
     assert!(coverage.at_the_limit > coverage.seasons, "{coverage:?}");
+    for (refused, accepted) in coverage.shown.into_iter().zip(coverage.verified) {
+        for shown in Shown::ALL {
+            assert!(refused[shown as usize] > 40, "{shown:?}: {coverage:?}");
+        }
+        assert!(accepted > 400, "{coverage:?}");
+    }
 }
 
 /// A season comes from its seed alone.

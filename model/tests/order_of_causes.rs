@@ -2,7 +2,8 @@
 //! all its lines are searched for one cause before any is for the next.
 //!
 //! Pairs that no call can meet both of (5 and 10, 7 and 8, 9 and 10, 13 and 14,
-//! 14 and 15) are shown by the neighbours that one call can meet.
+//! 14 and 15) are shown by the neighbours that one call can meet. The numbers
+//! that stand out of their order, 17, 18 and 19, are shown with their requests.
 
 mod common;
 use common::{bytes_answered, show_in_book};
@@ -193,10 +194,15 @@ fn order_3_and_4_before_10() {
     );
 }
 
-/// 10 before 11: a kind 2 holder without evidence at a sink not for it.
+/// 10 before 11: a kind 2 holder with evidence of 0 kW at a sink not for it.
 #[test]
 fn order_10_before_11() {
-    show_in_book("open,1 => ok\nnominate,2,0,1 => no,10\nnominate,2,4,1 => no,11");
+    show_in_book(
+        "verify,2,0,1,1,1,1,3,0 => ok
+        open,1 => ok
+        nominate,2,0,1 => no,10
+        nominate,2,4,1 => no,11",
+    );
 }
 
 /// 10 before 12 and 13: a kind 1 holder with nothing at a scheduling point or,

@@ -140,11 +140,15 @@ fn evidence_for_two_months_does_not_count_for_the_season() {
     let mut script = format!("{loads}verify,2,0,2,30,30,1,2,0 => ok\n");
     for tier in 1..=9 {
         let counts = (4..=7).contains(&tier);
-        let answer = if counts { "ok" } else { "no,11" };
+        let [above, answer] = if counts {
+            ["no,11", "ok"]
+        } else {
+            ["no,19", "no,19"]
+        };
         let path = 4;
         script.push_str(&format!(
             "open,{tier} => ok
-            nominate,2,{path},31 => no,11
+            nominate,2,{path},31 => {above}
             nominate,2,{path},30 => {answer}
             close => ok\n"
         ));
@@ -168,11 +172,12 @@ fn evidence_for_the_last_month_counts_there_alone() {
         open,5 => ok
         close => ok
         open,6 => ok
-        nominate,2,4,1 => no,11
+        nominate,2,4,1 => no,19
         close => ok
         open,7 => ok
         close => ok
         open,8 => ok
+        nominate,2,4,31 => no,11
         nominate,2,4,30 => ok"
     ));
 }
@@ -200,10 +205,11 @@ fn evidence_filed_between_tiers_counts_from_then() {
         open,1 => ok
         close => ok
         open,2 => ok
-        nominate,2,4,1 => no,11
+        nominate,2,4,1 => no,19
         close => ok
         verify,2,0,2,5,5,1,3,0 => ok
         open,3 => ok
+        nominate,2,4,6 => no,11
         nominate,2,4,5 => ok",
     );
 }

@@ -479,13 +479,14 @@ fn refusal_10_nominate() {
     show_in_book(&script);
 }
 
-/// 11: above verified kW, with no evidence at all and with too little.
+/// 11: above verified kW, with evidence of 0 kW and with too little.
 #[test]
 fn refusal_11() {
     let loads = load(2, 3, 0, 1000);
     show_in_book(&format!(
         "{loads}prior,2,4,500,0 => ok
         prior,2,5,500,0 => ok
+        verify,2,0,1,1,1,1,3,0 => ok
         verify,2,1,2,50,40,1,3,0 => ok
         open,1 => ok
         nominate,2,4,1 => no,11
@@ -637,4 +638,21 @@ fn refusal_16_counts_above_the_sizes() {
     assert_eq!(bytes_answered(paths(17).as_bytes()), "no,16\n");
     assert_eq!(bytes_answered(b"book,0,16,0,0\n"), "ok\n");
     assert_eq!(bytes_answered(b"book,0,17,0,0\n"), "no,16\n");
+}
+
+/// 19: a source without evidence for the term, at any kW; the other source's
+/// evidence does not serve it.
+#[test]
+fn refusal_19() {
+    let loads = load(2, 3, 0, 1000);
+    show_in_book(&format!(
+        "{loads}prior,2,4,500,0 => ok
+        prior,2,5,500,0 => ok
+        verify,2,1,2,50,40,1,3,0 => ok
+        open,1 => ok
+        nominate,2,4,1 => no,19
+        nominate,2,4,99999999 => no,19
+        nominate,2,5,40 => ok
+        nominate,2,4,1 => no,19"
+    ));
 }

@@ -137,7 +137,7 @@ fn any_lines(random: &mut Random) -> Vec<ClassLine> {
     (0..count).map(|_| line(random)).collect()
 }
 
-/// Refusals by cause: a refusal returns its number alone, 2 to 14 or 17 or 18,
+/// Refusals by cause: a refusal returns its number alone, 2 to 14 or 17 to 19,
 /// and the book is unchanged; a query never changes it. Any number in any field.
 #[test]
 fn any_numbers_are_answered_and_refusals_leave_the_book_as_it_was() {
@@ -152,7 +152,7 @@ fn any_numbers_are_answered_and_refusals_leave_the_book_as_it_was() {
             match book.call(&call) {
                 Ok(()) => accepted += 1,
                 Err(number) => {
-                    let known = (2..=14).contains(&number) || (17..=18).contains(&number);
+                    let known = (2..=14).contains(&number) || (17..=19).contains(&number);
                     assert!(known, "{call:?}");
                     assert!(book == before, "{call:?}");
                     refused += 1;

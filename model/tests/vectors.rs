@@ -61,13 +61,13 @@ fn names_differ() {
     assert!(vectors.len() >= 300, "only {}", vectors.len());
 }
 
-/// Vectors: the numbers 1 to 14 and 16 to 18 are answers; 1 and 15 refuse a script
+/// Vectors: the numbers 1 to 14 and 16 to 19 are answers; 1 and 15 refuse a script
 /// whole.
 #[test]
 fn every_refusal_is_drawn() {
     let text = String::from_utf8(of_the_crate("stdout")).expect("answers are ASCII");
     let printed: BTreeSet<&str> = text.lines().filter_map(|l| l.strip_prefix("no,")).collect();
-    let wanted: Vec<String> = (1..=14).chain(16..=18).map(|n| format!("{n:02}")).collect();
+    let wanted: Vec<String> = (1..=14).chain(16..=19).map(|n| format!("{n:02}")).collect();
     assert!(printed.into_iter().eq(wanted.iter()));
     let numbers: BTreeSet<u64> = all().iter().map(|one| run_marked(one).0).collect();
     let refused_whole = numbers.range(1_000_000..).copied();

@@ -1,20 +1,21 @@
 -- Arrays filled with 0, with nothing posted and with no evidence are those of a ledger with nothing in it. Assumes nothing.
-use Prim.Native.Nat.{ℕ, _+_, _-_, _*_}
+use Prim.Native.Nat.{ℕ, zero, suc, _+_, _-_, _*_}
 use mathlib.Core.Path.{_≡_, refl, sym, ap, _∙_}
-use mathlib.Core.Bool.{Bool, true, false, cond}
+use mathlib.Core.Bool.{Bool, true, false, cond, _&&_}
 use mathlib.Core.List.{List, [], _∷_}
 use mathlib.Core.Logic.{_⊎_, inl, inr}
 use native.Mathlib.Omega.{arith}
-use lib.Dec.{ltb}
-use borrow.Author.Tests.{ltb-true, ltb-false}
+use lib.Dec.{leb, ltb}
+use borrow.Author.Tests.{ltb-true, ltb-false, lt-leb, ne-eqb}
 use lib.ListN.{getD, replicate, length-replicate, getD-replicate, List·getD-eq-default}
 use Rattle.tariff.specs.Sum.{whenTrue}
-use Rattle.tariff.specs.Evidence.{emptyEntry, evidenceKw, entryKw, isTenYear}
-use Rattle.tariff.proofs.Sums.{when-zero}
-use Rattle.tariff.proofs.Tests.{decided}
+use Rattle.tariff.specs.Evidence.{emptyEntry, countsFor, isTenYear}
+use Rattle.tariff.proofs.Sums.{when-is-false}
+use Rattle.tariff.proofs.Tests.{decided, and-right-false}
 use Rattle.ledger.specs.Ledger.{emptyLedger}
 use Rattle.slots.specs.Cells.{rows, readAt, Shows}
 use Rattle.slots.specs.Groups.{SlotGroup, slotGroup, inSlot}
+use Rattle.slots.specs.Coverage.{coverage}
 use Rattle.slots.specs.Layout.{figureSlots, figureCount, postedSlots, postedCount, evidenceSlots, evidenceCount, figureGroups, postedGroups, evidenceGroups, calendarOf, flag, figuresOf, postedOf, evidenceOf}
 use Rattle.slots.proofs.CellLaws.{shown-is}
 
@@ -51,10 +52,18 @@ module _ {A : Type 0} (none : A) where
         tail = λ j. filled-read n (rows * width + j) ∙ sym (filled-read k j);
       }
 
--- evidence that was not filed gives nothing
-nothing-filed : (term : ℕ) → entryKw term emptyEntry ≡ 0
-unfolding entryKw emptyEntry evidenceKw
-nothing-filed term = when-zero _
+-- evidence that was not filed counts for no term ..
+none-counts : (term : ℕ) → countsFor term emptyEntry ≡ false
+unfolding countsFor emptyEntry
+none-counts zero = refl
+none-counts (suc term) =
+    ap (λ t. cond t false (leb 0 (suc term) && leb (suc term) 0)) (ne-eqb (suc term) 0 (λ q. omega (arith, q)))
+    ∙ and-right-false (leb 0 (suc term)) (lt-leb (suc term) 0 (omega arith))
+
+-- .. and nothing is kept of it
+nothing-filed : (term : ℕ) → coverage term emptyEntry ≡ 0
+unfolding coverage
+nothing-filed term = when-is-false _ (none-counts term)
 
 pub empty-figures : replicate figureCount 0 ≡ figuresOf emptyLedger
 unfolding figuresOf figureGroups calendarOf emptyLedger flag isTenYear emptyEntry whenTrue

@@ -4,6 +4,7 @@ pub mod ReachableSteps
 pub mod OpenedLaws
 pub mod SeasonAnswers
 pub mod SeasonTheorem
+pub mod UnchangedFigures
 pub mod NextBooks
 pub mod ClassLineLaws
 pub mod ClassLineCalls

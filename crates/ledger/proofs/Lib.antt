@@ -1,9 +1,10 @@
 pub mod Marked
-pub mod StepCases
+pub mod RequestCases
 pub mod Unmet
 pub mod QueryFacts
 pub mod PostingFacts
 pub mod TierFacts
+pub mod NumberSplit
 pub mod Steps
 pub mod Columns
 pub mod Conserved

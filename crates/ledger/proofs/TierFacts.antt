@@ -22,7 +22,7 @@ use Rattle.ledger.specs.Ranges.{unknownHolder, unknownSink, unknownPath,
 use Rattle.ledger.specs.Calendar.{beforeTier, migrationInTime, stepInTime, isNextTier}
 use Rattle.ledger.specs.Limits.{nominatedAt, tierLimit}
 use Rattle.ledger.specs.Migration.{loadBefore}
-use Rattle.ledger.specs.Causes.{callCauses, migrateCauses, openCauses, nominateCauses, awardCauses, closeCauses, lossExceedsLoad, kindIneligible, isSubLap, lineNotBetweenLses, exceedsVerified, exceedsPrior, exceedsTier1Award, lacksTenYear, exceedsLimit, exceedsNominated}
+use Rattle.ledger.specs.Causes.{callCauses, migrateCauses, openCauses, nominateCauses, awardCauses, closeCauses, lossExceedsLoad, kindIneligible, isSubLap, lineNotBetweenLses, lacksEvidence, exceedsVerified, exceedsPrior, exceedsTier1Award, lacksTenYear, exceedsLimit, exceedsNominated}
 use Rattle.ledger.specs.Season.{accepted}
 use Rattle.ledger.proofs.Unmet.{unmet, accepted-zero, is-within, kw-in-range, open-number, none-open, before-tier}
 
@@ -110,6 +110,7 @@ pub record NominateFacts (o : Opening) (L : Ledger) (h p kw : ℕ) : Type 0 wher
   pub isOpen : 1 ≤ L .tiers .currentTier
   pub sinkEligible : kindIneligible o h (pathSink o p) ≡ false
   pub notSubLap : (eqb (L .tiers .currentTier) 1 && isSubLap o (pathSink o p)) ≡ false
+  pub evidence : lacksEvidence o L (L .tiers .currentTier) h p ≡ false
   pub verified : exceedsVerified o L (L .tiers .currentTier) h p kw ≡ false
   pub remaining : exceedsPrior L (L .tiers .currentTier) h p kw ≡ false
   pub withinTier1 : L .tiers .currentTier ≡ 10 → L .tiers .nominated h p (L .tiers .currentTier) + kw ≤ L .tiers .awards h p 1
@@ -128,7 +129,8 @@ nominate-facts o L h p kw e =
     let r3 = unmet 2 _ _ (r2 .1) in
     let r4 = unmet 3 _ _ (r3 .1) in
     let r10 = unmet 9 _ _ (r4 .1) in
-    let r11 = unmet 10 _ _ (r10 .1) in
+    let r19 = unmet 18 _ _ (r10 .1) in
+    let r11 = unmet 10 _ _ (r19 .1) in
     let r12 = unmet 11 _ _ (r11 .1) in
     let r17 = unmet 16 _ _ (r12 .1) in
     let r18 = unmet 17 _ _ (r17 .1) in
@@ -144,6 +146,7 @@ nominate-facts o L h p kw e =
       isOpen = open-number L (r4 .0);
       sinkEligible = for-it .0;
       notSubLap = for-it .1;
+      evidence = r19 .0;
       verified = r11 .0;
       remaining = r12 .0;
       withinTier1 = λ step. within-tier-1 L _ h p kw step (r17 .0);

@@ -16,9 +16,9 @@ use Rattle.ledger.specs.Ledger.{Ledger}
 use Rattle.ledger.specs.Calendar.{tierIsOpen, beforeTier, loadInTime, migrationInTime, isNextTier}
 use Rattle.ledger.specs.Limits.{longTermAt, nominatedAt, tierLimit}
 use Rattle.ledger.specs.TenYear.{hasTenYear}
-use Rattle.ledger.specs.Verification.{verifiedKw, sourceUsage}
+use Rattle.ledger.specs.Verification.{hasEvidence, verifiedKw, sourceUsage}
 use Rattle.ledger.specs.Migration.{loadBefore}
-use Rattle.ledger.specs.Numbers.{notInBook, outOfRange, notAtThisTime, postedBefore, brokenBlocks, hoursMissing, notBetweenLses, lossAboveLoad, sinkIneligible, aboveVerified, abovePrior, aboveTier1Award, noTenYearEvidence, aboveLimit, aboveNominated, Cause, cause, firstMet}
+use Rattle.ledger.specs.Numbers.{notInBook, outOfRange, notAtThisTime, postedBefore, brokenBlocks, hoursMissing, notBetweenLses, lossAboveLoad, sinkIneligible, aboveVerified, abovePrior, aboveTier1Award, noTenYearEvidence, unverified, aboveLimit, aboveNominated, Cause, cause, firstMet}
 use Rattle.tariff.specs.Ranges.{kwOutOfRange, monthOutOfRange, evidenceOutOfRange}
 use Rattle.ledger.specs.Ranges.{unknownHolder, unknownSource, unknownSink, unknownPath, unknownHolderIn, loadOutOfRange, priorOutOfRange, migrationOutOfRange, tierOutOfRange}
 
@@ -42,11 +42,18 @@ kindIneligible o h s = cond (eqb (holderKind o h) lse) (eqb (sinkKind o s) sched
 unfoldable pub isSubLap : Opening → ℕ → Bool
 isSubLap o s = eqb (sinkKind o s) subLap
 
--- cause 11: with kw more, an OBAALSE uses more of the path's source than it has verified for the tier's term; not in the Long Term step (02, 1/14)
+-- causes 19 and 11: an OBAALSE has to verify its sources, in every tier but the Long Term step (02, 1/14)
+unfoldable pub needsVerification : Opening → ℕ → ℕ → Bool
+needsVerification o tier h = not (isLongTermStep tier) && eqb (holderKind o h) obaalse
+
+-- cause 19: the path's source has no evidence for the tier's term (02, 2/14)
+unfoldable pub lacksEvidence : Opening → Ledger → ℕ → ℕ → ℕ → Bool
+lacksEvidence o L tier h p = needsVerification o tier h && not (hasEvidence L h (pathSource o p) (termOf tier))
+
+-- cause 11: with kw more, the holder uses more of the path's source than it has verified for the tier's term
 unfoldable pub exceedsVerified : Opening → Ledger → ℕ → ℕ → ℕ → ℕ → Bool
 exceedsVerified o L tier h p kw =
-    not (isLongTermStep tier)
-    && eqb (holderKind o h) obaalse
+    needsVerification o tier h
     && ltb (verifiedKw L h (pathSource o p) (termOf tier)) (sourceUsage o L tier h (pathSource o p) + kw)
 
 -- cause 12: with kw more, the holder's tier 1 nominations on the path exceed its a − l
@@ -136,7 +143,7 @@ module _ (o : Opening) (L : Ledger) where
       ∷ cause notAtThisTime (not (isNextTier tier L))
       ∷ []
 
-  -- the step's 17 and 18 come straight after 12 (02, 1/14)
+  -- the step's 17 and 18 come straight after 12 (02, 1/14), and 19 directly before 11 (02, 2/14)
   unfoldable pub nominateCauses : ℕ → ℕ → ℕ → List Cause
   nominateCauses h p kw =
       let tier = L .tiers .currentTier in
@@ -144,6 +151,7 @@ module _ (o : Opening) (L : Ledger) where
       ∷ cause outOfRange (kwOutOfRange kw)
       ∷ cause notAtThisTime (not (tierIsOpen L))
       ∷ cause sinkIneligible (kindIneligible o h (pathSink o p) || (eqb tier 1 && isSubLap o (pathSink o p)))
+      ∷ cause unverified (lacksEvidence o L tier h p)
       ∷ cause aboveVerified (exceedsVerified o L tier h p kw)
       ∷ cause abovePrior (exceedsPrior L tier h p kw)
       ∷ cause aboveTier1Award (exceedsTier1Award L tier h p kw)

@@ -14,5 +14,7 @@ pub mod Causes
 pub mod Effects
 pub mod Season
 pub mod Totals
+pub mod NumberSplit
 pub mod Marked
 pub mod StepCases
+pub mod EvidenceCases

@@ -30,7 +30,7 @@ lossAboveLoad = 9
 abbrev pub sinkIneligible : ℕ
 sinkIneligible = 10
 
--- above the verified kW of the source
+-- above the verified kW of a source that has evidence for the tier's term
 abbrev pub aboveVerified : ℕ
 aboveVerified = 11
 
@@ -53,6 +53,10 @@ aboveTier1Award = 17
 -- in the Long Term step, a source without ten-year evidence (02, 1/14)
 abbrev pub noTenYearEvidence : ℕ
 noTenYearEvidence = 18
+
+-- no evidence of the source for the tier's term (02, 2/14)
+abbrev pub unverified : ℕ
+unverified = 19
 
 -- a kind, parent, path or count of the opening breaks the rules
 abbrev pub breaksRules : ℕ

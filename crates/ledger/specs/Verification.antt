@@ -1,17 +1,21 @@
--- Source verification of an OBAALSE (01, Tiers, Nominate; cause 11).
+-- Source verification of an OBAALSE (01, Tiers, Nominate; 02, 2/14; causes 19 and 11).
 use Prim.Native.Nat.{ℕ, _+_}
 use mathlib.Core.Bool.{Bool, _&&_, _||_}
 use lib.Dec.{leb, eqb}
 use Rattle.tariff.specs.Sizes.{lastSeasonTier, ownership, contract}
 use Rattle.tariff.specs.Sum.{whenTrue, sumTo}
 use Rattle.tariff.specs.Terms.{termOf}
-use Rattle.tariff.specs.Evidence.{entryKw}
+use Rattle.tariff.specs.Evidence.{countsFor, entryKw}
 use Rattle.ledger.specs.Opening.{Opening, hasSource}
 use Rattle.ledger.specs.Ledger.{Ledger}
 
 -- f summed over the paths from this source
 unfoldable pub sumFromSource : Opening → ℕ → (ℕ → ℕ) → ℕ
 sumFromSource o s f = sumTo (o .paths) (λ p. whenTrue (hasSource o s p) (f p))
+
+-- there is evidence for a term: an entry of either kind counts for it, whatever it comes to (02, 2/14)
+unfoldable pub hasEvidence : Ledger → ℕ → ℕ → ℕ → Bool
+hasEvidence L h s term = countsFor term (L .evidence .entry h s ownership) || countsFor term (L .evidence .entry h s contract)
 
 -- the verified kW for a term: ownership (kind 1) and contract (kind 2) add
 unfoldable pub verifiedKw : Ledger → ℕ → ℕ → ℕ → ℕ

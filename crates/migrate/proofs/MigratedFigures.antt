@@ -10,7 +10,7 @@ use lib.Dec.{eqb}
 use Rattle.tariff.specs.Sizes.{lastMonth, lastTerm, terms, evidenceKinds, ownership, contract}
 use Rattle.tariff.specs.declared.evidence.Entry.{Entry}
 use Rattle.tariff.specs.Terms.{hasMonth}
-use Rattle.tariff.specs.Evidence.{entryKw, isTenYear}
+use Rattle.tariff.specs.Evidence.{isTenYear}
 use Rattle.netting.specs.declared.netting.ClassLine.{ClassLine}
 use Rattle.netting.specs.Netting.{classLinesOf, SameLengths}
 use Rattle.ledger.specs.Opening.{Opening, hasBase}
@@ -21,6 +21,7 @@ use Rattle.ledger.specs.Migration.{transferredWhere, loadsAfter, rightsAfter, p
 use Rattle.ledger.proofs.TierFacts.{MigrateFacts}
 use Rattle.records.specs.Opening.{openingIn}
 use Rattle.slots.specs.Groups.{slotsOf, inSlot}
+use Rattle.slots.specs.Coverage.{coverage}
 use Rattle.slots.specs.Layout.{loadSlot, priorAllocatedSlot, priorRemainingSlot, carriedSlot, awardedSlot, nominatedSlot, awardsSlot, tierSlots, ownershipSlot, contractSlot, tenYearSlot, flag, figureSlots, figureGroups, calendarOf, figuresOf, ledgerIn}
 use Rattle.slots.specs.Steps.{Reachable}
 use Rattle.slots.proofs.CellLaws.{shown-is, shows-agree}
@@ -89,8 +90,8 @@ module _ (o f : List ℕ) (m : List Bool) (e : List Entry) (r : Reachable o f m 
       ∷ change lastMonth 1 (L .rights .awarded) (next .rights .awarded)
       ∷ change 1 0 (λ h p k. L .tiers .nominated h p (L .tiers .currentTier)) (λ h p k. next .tiers .nominated h p (next .tiers .currentTier))
       ∷ change tierSlots 0 (L .tiers .awards) (next .tiers .awards)
-      ∷ change terms 0 (λ h s n. entryKw n (L .evidence .entry h s ownership)) (λ h s n. entryKw n (next .evidence .entry h s ownership))
-      ∷ change terms 0 (λ h s n. entryKw n (L .evidence .entry h s contract)) (λ h s n. entryKw n (next .evidence .entry h s contract))
+      ∷ change terms 0 (λ h s n. coverage n (L .evidence .entry h s ownership)) (λ h s n. coverage n (next .evidence .entry h s ownership))
+      ∷ change terms 0 (λ h s n. coverage n (L .evidence .entry h s contract)) (λ h s n. coverage n (next .evidence .entry h s contract))
       ∷ change evidenceKinds 1 (λ h s kind. flag (isTenYear (L .evidence .entry h s kind))) (λ h s kind. flag (isTenYear (next .evidence .entry h s kind)))
       ∷ []
 
@@ -111,9 +112,9 @@ module _ (o f : List ℕ) (m : List Bool) (e : List Entry) (r : Reachable o f m 
               (
                 λ j k. stays p (awardsSlot + j) h (λ i. L .tiers .awards i p (j + 0)) (omega arith),
                 (
-                  λ j k. stays p (ownershipSlot + j) h (λ i. entryKw (j + 0) (L .evidence .entry i p ownership)) (omega arith),
+                  λ j k. stays p (ownershipSlot + j) h (λ i. coverage (j + 0) (L .evidence .entry i p ownership)) (omega arith),
                   (
-                    λ j k. stays p (contractSlot + j) h (λ i. entryKw (j + 0) (L .evidence .entry i p contract)) (omega arith),
+                    λ j k. stays p (contractSlot + j) h (λ i. coverage (j + 0) (L .evidence .entry i p contract)) (omega arith),
                     (
                       λ j k. stays p (tenYearSlot + j) h (λ i. flag (isTenYear (L .evidence .entry i p (j + 1)))) (omega arith),
                       tt,

@@ -18,11 +18,13 @@ use Rattle.ledger.specs.Ledger.{Ledger}
 use Rattle.ledger.specs.TenYear.{hasTenYear, tenYearAt}
 use Rattle.records.specs.Opening.{openingIn}
 use Rattle.slots.specs.Cells.{readAt}
+use Rattle.slots.specs.Coverage.{coveredKw}
 use Rattle.slots.specs.Layout.{ownershipSlot, contractSlot, tenYearSlot, figureSlots, ledgerIn}
 use Rattle.slots.specs.Steps.{Reachable}
 use Rattle.slots.proofs.Reachable.{counts}
 use Rattle.slots.proofs.ReadBack.{flag-back}
-use Rattle.slots.proofs.Figures.{ownership-read, contract-read, ten-year-read, evidence-fits}
+use Rattle.slots.proofs.Figures.{ten-year-read, evidence-fits}
+use Rattle.nominations.proofs.VerifiedLaws.{owned-kw, contracted-kw}
 
 module _ (o f : List ℕ) (m : List Bool) (x : List Entry) (r : Reachable o f m x) (h s : ℕ) (l : h < openingIn o .holders) (place : s < 16) where
   abbrev L : Ledger
@@ -43,12 +45,12 @@ module _ (o f : List ℕ) (m : List Bool) (x : List Entry) (r : Reachable o f m 
   has-is a b ea eb = λ i. owned-flag a ea i || contract-flag b eb i
 
   -- the kW beside them
-  pub at-is : (a b v w owned contracted : ℕ) → a ≡ readAt figureSlots 0 f h s tenYearSlot → b ≡ readAt figureSlots 0 f h s (tenYearSlot + 1) → v ≡ readAt figureSlots 0 f h s ownershipSlot → w ≡ readAt figureSlots 0 f h s contractSlot → owned ≡ whenTrue (eqb a 1) v → contracted ≡ whenTrue (eqb b 1) w → owned + contracted ≡ tenYearAt L h s
+  pub at-is : (a b v w owned contracted : ℕ) → a ≡ readAt figureSlots 0 f h s tenYearSlot → b ≡ readAt figureSlots 0 f h s (tenYearSlot + 1) → v ≡ coveredKw (readAt figureSlots 0 f h s ownershipSlot) → w ≡ coveredKw (readAt figureSlots 0 f h s contractSlot) → owned ≡ whenTrue (eqb a 1) v → contracted ≡ whenTrue (eqb b 1) w → owned + contracted ≡ tenYearAt L h s
   unfolding tenYearAt tenYearKw
   at-is a b v w owned contracted ea eb ev ew eo ec =
       λ i.
-      (eo ∙ (λ j. whenTrue (owned-flag a ea j) ((ev ∙ ownership-read o f m x r h s 0 holder place (omega arith)) j))) i
-      + (ec ∙ (λ j. whenTrue (contract-flag b eb j) ((ew ∙ contract-read o f m x r h s 0 holder place (omega arith)) j))) i
+      (eo ∙ (λ j. whenTrue (owned-flag a ea j) ((ev ∙ owned-kw o f m x r h s l place 0 (omega arith)) j))) i
+      + (ec ∙ (λ j. whenTrue (contract-flag b eb j) ((ew ∙ contracted-kw o f m x r h s l place 0 (omega arith)) j))) i
 
   kw-fits : (kind : ℕ) → tenYearKw (L .evidence .entry h s kind) ≤ maxKw
   unfolding tenYearKw

@@ -1,29 +1,30 @@
--- What a holder has verified of a source, read in two slots, and cause 11 as code finds it. Assumes nothing.
-use Prim.Native.Nat.{ℕ, _+_, _-_, _≤_, _<_}
+-- What a holder has verified of a source, read in two slots, and causes 19 and 11 as code finds them. Assumes nothing.
+use Prim.Native.Nat.{ℕ, _+_, _*_, _≤_, _<_}
 use mathlib.Core.Path.{_≡_, sym, ap, _∙_}
-use mathlib.Core.Bool.{Bool, true, false, not, _&&_}
+use mathlib.Core.Bool.{Bool, true, false, not, _&&_, _||_}
 use mathlib.Core.List.{List}
-use mathlib.Core.Logic.{_⊎_, inl, inr}
-use native.Mathlib.Nat.{le-trans, le-of-eq}
+use native.Mathlib.Nat.{le-trans}
 use native.Mathlib.Omega.{arith}
 use lib.ListN.{length}
 use lib.Dec.{ltb, eqb}
-use borrow.Author.Tests.{eq-eqb, ne-eqb, ltb-true, ltb-false}
-use Rattle.tariff.specs.Sizes.{terms, ownership, contract}
+use borrow.Author.Tests.{not-true, not-false}
+use Rattle.tariff.specs.Sizes.{terms, longTermStep, ownership, contract}
 use Rattle.tariff.specs.declared.evidence.Entry.{Entry}
-use Rattle.tariff.specs.Evidence.{entryKw}
+use Rattle.tariff.specs.Evidence.{countsFor, entryKw}
 use Rattle.tariff.specs.Ranges.{maxKw}
 use Rattle.tariff.specs.Terms.{termOf, isLongTermStep}
-use Rattle.tariff.proofs.Tests.{decided, and-left-false, and-right-false}
-use Rattle.ledger.specs.Opening.{Opening, holderKind, pathSource}
+use Rattle.tariff.proofs.Tests.{and-left-false}
+use Rattle.ledger.specs.Opening.{Opening, obaalse, holderKind, pathSource}
 use Rattle.ledger.specs.Ledger.{Ledger}
-use Rattle.ledger.specs.Causes.{exceedsVerified}
-use Rattle.ledger.specs.Verification.{verifiedKw, sourceUsage}
+use Rattle.ledger.specs.Causes.{needsVerification, lacksEvidence, exceedsVerified}
+use Rattle.ledger.specs.Verification.{hasEvidence, verifiedKw, sourceUsage}
 use Rattle.records.specs.Opening.{openingIn}
 use Rattle.slots.specs.Cells.{HasCell, readAt}
+use Rattle.slots.specs.Coverage.{coverage, coveredKw, isCovered}
 use Rattle.slots.specs.Layout.{ownershipSlot, contractSlot, figureSlots, figureCount, currentTierIn, ledgerIn}
 use Rattle.slots.specs.Steps.{Reachable}
 use Rattle.slots.proofs.Reachable.{counts, figures-long}
+use Rattle.slots.proofs.CoverageLaws.{kw-back, counts-back}
 use Rattle.slots.proofs.Figures.{ownership-read, contract-read, evidence-fits}
 use Rattle.nominations.proofs.LimitLaws.{open-last, term-below}
 
@@ -43,46 +44,73 @@ module _ (o f : List ℕ) (m : List Bool) (x : List Entry) (r : Reachable o f m 
     source-cell slot k = (record { holder = holder; place = place; inRow = k }, figures-long o f m x r)
 
     -- the four slots of ownership and after them those of the contract, by term
-    owned-is : (term : ℕ) → term < terms → readAt figureSlots 0 f h s (ownershipSlot + term) ≡ entryKw term (L .evidence .entry h s ownership)
+    owned-is : (term : ℕ) → term < terms → readAt figureSlots 0 f h s (ownershipSlot + term) ≡ coverage term (L .evidence .entry h s ownership)
     owned-is term k = ownership-read o f m x r h s term holder place k
 
-    contracted-is : (term : ℕ) → term < terms → readAt figureSlots 0 f h s (ownershipSlot + term + terms) ≡ entryKw term (L .evidence .entry h s contract)
+    contracted-is : (term : ℕ) → term < terms → readAt figureSlots 0 f h s (ownershipSlot + term + terms) ≡ coverage term (L .evidence .entry h s contract)
     contracted-is term k = ap (readAt figureSlots 0 f h s) (let e : ownershipSlot + term + terms ≡ contractSlot + term = omega arith in e) ∙ contract-read o f m x r h s term holder place k
 
-    pub verified-fits : (slot v : ℕ) → ownershipSlot ≤ slot → slot < contractSlot + terms → v ≡ readAt figureSlots 0 f h s slot → v ≤ maxKw
-    verified-fits slot v above below e = le-trans (le-of-eq e) (go (decided (ltb slot contractSlot)))
-      where
-        go : (ltb slot contractSlot ≡ true) ⊎ (ltb slot contractSlot ≡ false) → readAt figureSlots 0 f h s slot ≤ maxKw
-        go (inl t) =
-            let k = ltb-true slot contractSlot t in
-            let at : slot ≡ ownershipSlot + (slot - ownershipSlot) = omega arith in
-            le-trans (le-of-eq (ap (readAt figureSlots 0 f h s) at ∙ owned-is (slot - ownershipSlot) (omega arith))) (evidence-fits o f m x r h s ownership (slot - ownershipSlot))
-        go (inr t) =
-            let k = ltb-false slot contractSlot t in
-            let at : slot ≡ ownershipSlot + (slot - contractSlot) + terms = omega arith in
-            le-trans (le-of-eq (ap (readAt figureSlots 0 f h s) at ∙ contracted-is (slot - contractSlot) (omega arith))) (evidence-fits o f m x r h s contract (slot - contractSlot))
+    -- the kW read in them ..
+    pub owned-kw : (term : ℕ) → term < terms → coveredKw (readAt figureSlots 0 f h s (ownershipSlot + term)) ≡ entryKw term (L .evidence .entry h s ownership)
+    owned-kw term k = ap coveredKw (owned-is term k) ∙ kw-back term (L .evidence .entry h s ownership)
 
-    -- what stands in the two slots of the open tier's term is the verified kW
-    pub verified-is : (tier term a b : ℕ) → tier ≡ currentTierIn f → term ≡ termOf tier → a ≡ readAt figureSlots 0 f h s (ownershipSlot + term) → b ≡ readAt figureSlots 0 f h s (ownershipSlot + term + terms) → a + b ≡ verifiedKw L h s (termOf (L .tiers .currentTier))
-    unfolding verifiedKw ledgerIn
-    verified-is tier term a b now ofTier owned contracted =
-        let k = term-fits tier term now ofTier in
-        (λ i. (owned ∙ owned-is term k) i + (contracted ∙ contracted-is term k) i) ∙ ap (verifiedKw L h s) (ofTier ∙ ap termOf now)
+    pub contracted-kw : (term : ℕ) → term < terms → coveredKw (readAt figureSlots 0 f h s (ownershipSlot + term + terms)) ≡ entryKw term (L .evidence .entry h s contract)
+    contracted-kw term k = ap coveredKw (contracted-is term k) ∙ kw-back term (L .evidence .entry h s contract)
 
--- cause 11 is not of the Long Term step ..
-pub not-in-step : (O : Opening) (L : Ledger) (tier h p kw : ℕ) → tier ≡ 10 → false ≡ exceedsVerified O L tier h p kw
-unfolding exceedsVerified isLongTermStep
-not-in-step O L tier h p kw e = sym (ap (λ t. not t && eqb (holderKind O h) 2 && ltb (verifiedKw L h (pathSource O p) (termOf tier)) (sourceUsage O L tier h (pathSource O p) + kw)) (eq-eqb tier 10 e))
+    -- .. and whether there is evidence
+    owned-counts : (term : ℕ) → term < terms → isCovered (readAt figureSlots 0 f h s (ownershipSlot + term)) ≡ countsFor term (L .evidence .entry h s ownership)
+    owned-counts term k = ap isCovered (owned-is term k) ∙ counts-back term (L .evidence .entry h s ownership)
 
-module _ (O : Opening) (L : Ledger) (tier h p kw kind : ℕ) (is : kind ≡ holderKind O h) where
-  -- .. it is of an OBAALSE ..
-  pub not-obaalse : (kind ≡ 2 → ⊥) → false ≡ exceedsVerified O L tier h p kw
+    contracted-counts : (term : ℕ) → term < terms → isCovered (readAt figureSlots 0 f h s (ownershipSlot + term + terms)) ≡ countsFor term (L .evidence .entry h s contract)
+    contracted-counts term k = ap isCovered (contracted-is term k) ∙ counts-back term (L .evidence .entry h s contract)
+
+    -- what the two slots of the open tier's term say is the verified kW, which fits, ..
+    module _ (tier term : ℕ) (now : tier ≡ currentTierIn f) (ofTier : term ≡ termOf tier) where
+      k : term < terms
+      k = term-fits tier term now ofTier
+
+      sameTerm : term ≡ termOf (L .tiers .currentTier)
+      unfolding ledgerIn
+      sameTerm = ofTier ∙ ap termOf now
+
+      pub verified-is : (a b : ℕ) → a ≡ coveredKw (readAt figureSlots 0 f h s (ownershipSlot + term)) → b ≡ coveredKw (readAt figureSlots 0 f h s (ownershipSlot + term + terms)) → a + b ≡ verifiedKw L h s (termOf (L .tiers .currentTier))
+      unfolding verifiedKw
+      verified-is a b owned contracted = (λ i. (owned ∙ owned-kw term k) i + (contracted ∙ contracted-kw term k) i) ∙ ap (verifiedKw L h s) sameTerm
+
+      pub verified-fits : (a b : ℕ) → a ≡ coveredKw (readAt figureSlots 0 f h s (ownershipSlot + term)) → b ≡ coveredKw (readAt figureSlots 0 f h s (ownershipSlot + term + terms)) → a + b ≤ 2 * maxKw
+      verified-fits a b owned contracted =
+          let first = evidence-fits o f m x r h s ownership term in
+          let second = evidence-fits o f m x r h s contract term in
+          let ofFirst = owned ∙ owned-kw term k in
+          let ofSecond = contracted ∙ contracted-kw term k in
+          omega arith
+
+      -- .. and whether there is evidence for it
+      pub evidence-is : (a b : Bool) → a ≡ isCovered (readAt figureSlots 0 f h s (ownershipSlot + term)) → b ≡ isCovered (readAt figureSlots 0 f h s (ownershipSlot + term + terms)) → (a || b) ≡ hasEvidence L h s (termOf (L .tiers .currentTier))
+      unfolding hasEvidence
+      evidence-is a b owned contracted = (λ i. (owned ∙ owned-counts term k) i || (contracted ∙ contracted-counts term k) i) ∙ ap (hasEvidence L h s) sameTerm
+
+-- whether a holder has to verify its sources, as code finds it
+pub verification-test : (O : Opening) (read tier h kind : ℕ) → read ≡ tier → kind ≡ holderKind O h → (not (eqb read longTermStep) && eqb kind obaalse) ≡ needsVerification O tier h
+unfolding needsVerification isLongTermStep
+verification-test O read tier h kind now is = λ i. not (eqb (now i) longTermStep) && eqb (is i) obaalse
+
+-- causes 19 and 11 are of such a holder ..
+module _ (O : Opening) (L : Ledger) (tier h p : ℕ) where
+  pub none-needed : (kw : ℕ) (needed : Bool) → needed ≡ needsVerification O tier h → not needed ≡ true → (false ≡ lacksEvidence O L tier h p) × (false ≡ exceedsVerified O L tier h p kw)
+  unfolding lacksEvidence exceedsVerified
+  none-needed kw needed is e = let off = sym is ∙ not-true needed e in (sym (and-left-false _ off), sym (and-left-false _ off))
+
+  -- .. 19 where it has no evidence ..
+  pub evidence-test : (source : ℕ) (needed has : Bool) → needed ≡ needsVerification O tier h → not needed ≡ false → source ≡ pathSource O p → has ≡ hasEvidence L h source (termOf tier) → not has ≡ lacksEvidence O L tier h p
+  unfolding lacksEvidence
+  evidence-test source needed has is e s v =
+      ap not (v ∙ ap (λ z. hasEvidence L h z (termOf tier)) s)
+      ∙ sym (ap (λ t. t && not (hasEvidence L h (pathSource O p) (termOf tier))) (sym is ∙ not-false needed e))
+
+  -- .. and 11 where with kw more it uses more than it has verified
+  pub verified-test : (kw source verified usage : ℕ) (needed : Bool) → needed ≡ needsVerification O tier h → not needed ≡ false → source ≡ pathSource O p → verified ≡ verifiedKw L h source (termOf tier) → usage ≡ sourceUsage O L tier h source → ltb verified (usage + kw) ≡ exceedsVerified O L tier h p kw
   unfolding exceedsVerified
-  not-obaalse ne = sym (and-left-false _ (and-right-false (not (isLongTermStep tier)) (ne-eqb (holderKind O h) 2 (λ q. ne (is ∙ q)))))
-
-  -- .. that with kw more uses more than it has verified
-  pub verified-test : (source verified usage : ℕ) → (tier ≡ 10 → ⊥) → kind ≡ 2 → source ≡ pathSource O p → verified ≡ verifiedKw L h source (termOf tier) → usage ≡ sourceUsage O L tier h source → ltb verified (usage + kw) ≡ exceedsVerified O L tier h p kw
-  unfolding exceedsVerified isLongTermStep
-  verified-test source verified usage other outside s v u =
+  verified-test kw source verified usage needed is e s v u =
       (λ i. ltb ((v ∙ ap (λ z. verifiedKw L h z (termOf tier)) s) i) ((u ∙ ap (sourceUsage O L tier h) s) i + kw))
-      ∙ sym (λ i. not (ne-eqb tier 10 other i) && eq-eqb (holderKind O h) 2 (sym is ∙ outside) i && ltb (verifiedKw L h (pathSource O p) (termOf tier)) (sourceUsage O L tier h (pathSource O p) + kw))
+      ∙ sym (ap (λ t. t && ltb (verifiedKw L h (pathSource O p) (termOf tier)) (sourceUsage O L tier h (pathSource O p) + kw)) (sym is ∙ not-false needed e))

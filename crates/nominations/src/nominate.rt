@@ -1,7 +1,8 @@
-// Nominate: what a holder asks for in the open tier (01, Tiers, Nominate; 02, 1/14).
+// Nominate: what a holder asks for in the open tier (01, Tiers, Nominate; 02, 1/14 and 2/14).
 use crate::limits::tier_limit;
 use crate::long_term_step::exceeds_tier_1_award;
 use crate::long_term_step::lacks_ten_year;
+use crate::source_usage::has_evidence;
 use crate::source_usage::source_usage;
 use crate::source_usage::verified_kw;
 use records::answers::Answer;
@@ -16,6 +17,7 @@ use records::numbers::NOT_AT_THIS_TIME;
 use records::numbers::NOT_IN_BOOK;
 use records::numbers::OUT_OF_RANGE;
 use records::numbers::SINK_INELIGIBLE;
+use records::numbers::UNVERIFIED;
 use records::refusals::kw_out_of_range;
 use records::refusals::refuse;
 use records::setup::holder_kind;
@@ -40,9 +42,9 @@ ghost use lib.Dec.{eqb};
 ghost use Rattle.ledger.specs.Opening.{pathSink};
 ghost use Rattle.ledger.specs.Call.{nominate};
 ghost use Rattle.ledger.specs.Numbers.{firstMet};
-ghost use Rattle.ledger.specs.Causes.{kindIneligible, isSubLap, exceedsVerified, exceedsPrior, exceedsLimit, nominateCauses, refusal};
+ghost use Rattle.ledger.specs.Causes.{kindIneligible, isSubLap, needsVerification, lacksEvidence, exceedsVerified, exceedsPrior, exceedsLimit, nominateCauses, refusal};
 ghost use Rattle.slots.specs.Steps.{ReachableFigures, InFigures, FiguresStep};
-ghost use Rattle.nominations.specs.Inputs.{NominationInputs};
+ghost use Rattle.nominations.specs.Inputs.{NominationInputs, PathInputs};
 ghost use Rattle.nominations.specs.CauseOrder.{causesBeforeTier, causesBeforeStep};
 
 // Cause 10: the path's sink is not for the holder, or is a Sub-LAP in tier 1.
@@ -54,16 +56,30 @@ fn sink_ineligible(o: &[u64], f: &[u64], h: u64, p: u64) -> bool
     kind_ineligible(o, h, sink) | sub_lap
 }
 
-// Cause 11: with kw more, an OBAALSE uses more of the path's source than it has verified; not in the Long Term step.
+// Causes 19 and 11: whether a holder has to verify its sources. An OBAALSE has to, in every tier but the Long Term step.
+fn needs_verification(o: &[u64], f: &[u64], h: u64) -> bool
+    ensures { λ r. ⌜ InFigures (now (o .entry)) (now (f .entry)) (λ O L. r ≡ needsVerification O (L .tiers .currentTier) h) ⌝ }
+{
+    (current_tier(f) != LONG_TERM_STEP) & (holder_kind(o, h) == OBAALSE)
+}
+
+// Cause 19: the path's source has no evidence for the tier's term.
+fn lacks_evidence(o: &[u64], f: &[u64], h: u64, p: u64) -> bool
+    requires { ⌜ PathInputs (now o) (now f) h p ⌝ }
+    ensures { λ r. ⌜ InFigures (now (o .entry)) (now (f .entry)) (λ O L. r ≡ lacksEvidence O L (L .tiers .currentTier) h p) ⌝ }
+{
+    if !needs_verification(o, f, h) {
+        return false;
+    }
+    !has_evidence(o, f, h, path_source(o, p))
+}
+
+// Cause 11: with kw more, the holder uses more of the path's source than it has verified.
 fn exceeds_verified(o: &[u64], f: &[u64], h: u64, p: u64, kw: u64) -> bool
     requires { ⌜ NominationInputs (now o) (now f) h p kw ⌝ }
     ensures { λ r. ⌜ InFigures (now (o .entry)) (now (f .entry)) (λ O L. r ≡ exceedsVerified O L (L .tiers .currentTier) h p kw) ⌝ }
 {
-    if current_tier(f) == LONG_TERM_STEP {
-        return false;
-    }
-    let kind = holder_kind(o, h);
-    if kind != OBAALSE {
+    if !needs_verification(o, f, h) {
         return false;
     }
     let source = path_source(o, p);
@@ -108,13 +124,16 @@ fn refusal_by_limit(o: &[u64], f: &[u64], h: u64, p: u64, kw: u64) -> u64
     refuse(ABOVE_LIMIT, limit, 0)
 }
 
-// The first cause that a nomination meets in the open tier, 0 for none: 10, 11, 12 and then those above.
+// The first cause that a nomination meets in the open tier, 0 for none: 10, 19, 11, 12 and then those above.
 fn refusal_in_tier(o: &[u64], f: &[u64], h: u64, p: u64, kw: u64) -> u64
     requires { ⌜ NominationInputs (now o) (now f) h p kw ⌝ }
     ensures { λ r. ⌜ InFigures (now (o .entry)) (now (f .entry)) (λ O L. r ≡ firstMet (drop causesBeforeTier (nominateCauses O L h p kw))) ⌝ }
 {
     if sink_ineligible(o, f, h, p) {
         return SINK_INELIGIBLE;
+    }
+    if lacks_evidence(o, f, h, p) {
+        return UNVERIFIED;
     }
     if exceeds_verified(o, f, h, p, kw) {
         return ABOVE_VERIFIED;

@@ -1,6 +1,7 @@
-// What a holder has verified of a source, and what it uses of it (01, Tiers, Nominate; cause 11).
+// What a holder has verified of a source, and what it uses of it (01, Tiers, Nominate; 02, 2/14; causes 19 and 11).
 use slots::calendar::current_tier;
-use slots::cells::read;
+use slots::coverage::covered_kw;
+use slots::coverage::is_covered;
 use slots::layout::AWARDS_SLOT;
 use slots::layout::NOMINATED_SLOT;
 use slots::layout::VERIFIED_SLOT;
@@ -10,10 +11,20 @@ use tariff::sizes::TERMS;
 use tariff::terms::term_of;
 ghost use mathlib.Core.Path.{_≡_};
 ghost use Rattle.tariff.specs.Terms.{termOf};
-ghost use Rattle.ledger.specs.Verification.{verifiedKw, usesSameEvidence, usedBefore, sourceUsage};
+ghost use Rattle.ledger.specs.Verification.{hasEvidence, verifiedKw, usesSameEvidence, usedBefore, sourceUsage};
 ghost use Rattle.slots.specs.Steps.{InFigures};
 ghost use Rattle.nominations.specs.Inputs.{HolderInputs, SourceInputs, UsageInputs};
 ghost use Rattle.nominations.specs.Usage.{awardsUsed};
+
+// Whether a holder has evidence of a source for the open tier's term, of either kind, whatever it comes to.
+pub fn has_evidence(o: &[u64], f: &[u64], h: u64, s: u64) -> bool
+    requires { ⌜ SourceInputs (now o) (now f) h s ⌝ }
+    ensures { λ r. ⌜ InFigures (now (o .entry)) (now (f .entry)) (λ O L. r ≡ hasEvidence L h s (termOf (L .tiers .currentTier))) ⌝ }
+{
+    let ownership = VERIFIED_SLOT + term_of(current_tier(f));
+    let contract = ownership + TERMS;
+    is_covered(f, h, s, ownership) | is_covered(f, h, s, contract)
+}
 
 // What a holder has verified of a source for the open tier's term: ownership and contract add.
 pub fn verified_kw(o: &[u64], f: &[u64], h: u64, s: u64) -> u64
@@ -22,7 +33,7 @@ pub fn verified_kw(o: &[u64], f: &[u64], h: u64, s: u64) -> u64
 {
     let ownership = VERIFIED_SLOT + term_of(current_tier(f));
     let contract = ownership + TERMS;
-    read(f, h, s, ownership) + read(f, h, s, contract)
+    covered_kw(f, h, s, ownership) + covered_kw(f, h, s, contract)
 }
 
 // Whether the awards of tier n, before this tier, use the same evidence.

@@ -13,7 +13,7 @@ use Rattle.tariff.specs.declared.evidence.Entry.{Entry}
 use Rattle.tariff.specs.declared.evidence.Filing.{Filing}
 use Rattle.tariff.specs.declared.evidence.Filing.the-variants.{OutOfRange, Valid}
 use Rattle.tariff.specs.Sizes.{terms, ownership, contract, evidenceKinds}
-use Rattle.tariff.specs.Evidence.{emptyEntry, entryOf, entryKw, isTenYear}
+use Rattle.tariff.specs.Evidence.{emptyEntry, entryOf, isTenYear}
 use Rattle.tariff.specs.Filing.{filingOf, filingBy}
 use Rattle.tariff.specs.Ranges.{evidenceOutOfRange}
 use Rattle.tariff.proofs.Tests.{decided, and-right-false}
@@ -32,13 +32,14 @@ use Rattle.records.specs.declared.answers.Answer.the-variants.{Done}
 use Rattle.records.specs.Opening.{openingIn}
 use Rattle.slots.specs.Cells.{HasCell, storedAt, Shows}
 use Rattle.slots.specs.Groups.{SlotGroup, slotGroup, slotsOf, inSlot}
+use Rattle.slots.specs.Coverage.{coverage}
 use Rattle.slots.specs.Layout.{figureSlots, figureCount, postedSlots, postedCount, evidenceSlots, figureGroups, postedGroups, evidenceGroups, calendarOf, figuresOf, postedOf, evidenceOf, ledgerIn, ownershipSlot, contractSlot, tenYearSlot, flag, evidencePostedSlot}
 use Rattle.slots.specs.Steps.{Reachable, Steps}
 use Rattle.slots.proofs.CellLaws.{array-shows, shown-is}
 use Rattle.slots.proofs.StoreLaws.{StoredIn, slot-stored, number-posted}
 use Rattle.slots.proofs.Reachable.{counts, figures-shown, posted-shown, evidence-known, figures-long, posted-long}
 use Rattle.slots.proofs.StepLaws.{accepted-test, steps-accepted}
-use Rattle.postings.specs.VerifiedKw.{storedByTerm, storedEntry}
+use Rattle.postings.specs.StoredEntry.{storedByTerm, storedEntry}
 use Rattle.postings.proofs.TermLaws.{terms-stored}
 
 -- the entry of a filing, none where the evidence is out of range
@@ -62,17 +63,17 @@ of-filed : (say : Entry → ℕ) (here : Bool) (filed old : Entry) → cond here
 of-filed say true filed old = refl
 of-filed say false filed old = refl
 
--- what an entry gives for a term where it was filed, in its kind and in the other one
+-- the coverage of a term where an entry was filed, in its kind and in the other one
 module _ (h s kind : ℕ) (filed : Entry) (old : ℕ → ℕ → ℕ → Entry) (k x y t : ℕ) where
-  this-kind : k ≡ kind → cond (same2 h s x y) (entryKw t filed) (entryKw t (old x y k)) ≡ entryKw t (cond (same3 h s kind x y k) filed (old x y k))
+  this-kind : k ≡ kind → cond (same2 h s x y) (coverage t filed) (coverage t (old x y k)) ≡ coverage t (cond (same3 h s kind x y k) filed (old x y k))
   unfolding same2 same3
   this-kind e =
-      of-filed (entryKw t) (eqb x h && eqb y s) filed (old x y k)
-      ∙ ap (λ b. entryKw t (cond b filed (old x y k))) (sym (ap (λ b. eqb x h && eqb y s && b) (eq-eqb k kind e) ∙ and-true (eqb x h && eqb y s)))
+      of-filed (coverage t) (eqb x h && eqb y s) filed (old x y k)
+      ∙ ap (λ b. coverage t (cond b filed (old x y k))) (sym (ap (λ b. eqb x h && eqb y s && b) (eq-eqb k kind e) ∙ and-true (eqb x h && eqb y s)))
 
-  other-kind : (k ≡ kind → ⊥) → entryKw t (old x y k) ≡ entryKw t (cond (same3 h s kind x y k) filed (old x y k))
+  other-kind : (k ≡ kind → ⊥) → coverage t (old x y k) ≡ coverage t (cond (same3 h s kind x y k) filed (old x y k))
   unfolding same3
-  other-kind ne = sym (ap (λ b. entryKw t (cond b filed (old x y k))) (and-right-false (eqb x h && eqb y s) (ne-eqb k kind ne)))
+  other-kind ne = sym (ap (λ b. coverage t (cond b filed (old x y k))) (and-right-false (eqb x h && eqb y s) (ne-eqb k kind ne)))
 
 module _ (o f : List ℕ) (m : List Bool) (x : List Entry) (h s kind capacity right first last mark number : ℕ) (r : Reachable o f m x) (found : number ≡ refusal (openingIn o) (ledgerIn f m x) (verify h s kind capacity right first last mark)) (zero : number ≡ 0) where
   abbrev O : Opening
@@ -119,17 +120,17 @@ module _ (o f : List ℕ) (m : List Bool) (x : List Entry) (h s kind capacity ri
   abbrev entries : ℕ → ℕ → ℕ → Entry
   entries = L .evidence .entry
 
-  -- what evidence gives for a term, by kind, with the entry filed
-  abbrev kwFiled : ℕ → ℕ → ℕ → ℕ → ℕ
-  kwFiled k u v n = entryKw n (cond (same3 h s kind u v k) filed (entries u v k))
+  -- the coverage of a term, by kind, with the entry filed
+  abbrev coverageFiled : ℕ → ℕ → ℕ → ℕ → ℕ
+  coverageFiled k u v n = coverage n (cond (same3 h s kind u v k) filed (entries u v k))
 
   abbrev groupsToFlags : List (SlotGroup ℕ)
-  groupsToFlags = take 7 (figureGroups L) ++ (slotGroup terms 0 (kwFiled ownership) ∷ slotGroup terms 0 (kwFiled contract) ∷ [])
+  groupsToFlags = take 7 (figureGroups L) ++ (slotGroup terms 0 (coverageFiled ownership) ∷ slotGroup terms 0 (coverageFiled contract) ∷ [])
 
-  -- the kW of the kind's terms are new, ..
-  kw-stored : Shows figureSlots 0 (storedByTerm f h s (ownershipSlot + terms * (kind - 1)) filed) (inSlot 0 (groupsToFlags ++ drop 9 (figureGroups L))) (calendarOf L)
+  -- the coverage of the kind's terms is new, ..
+  coverage-stored : Shows figureSlots 0 (storedByTerm f h s (ownershipSlot + terms * (kind - 1)) filed) (inSlot 0 (groupsToFlags ++ drop 9 (figureGroups L))) (calendarOf L)
   unfolding figureGroups slotsOf
-  kw-stored = go (decided (eqb kind ownership))
+  coverage-stored = go (decided (eqb kind ownership))
     where
       go : (eqb kind ownership ≡ true) ⊎ (eqb kind ownership ≡ false) → Shows figureSlots 0 (storedByTerm f h s (ownershipSlot + terms * (kind - 1)) filed) (inSlot 0 (groupsToFlags ++ drop 9 (figureGroups L))) (calendarOf L)
       go (inl t) =
@@ -137,7 +138,7 @@ module _ (o f : List ℕ) (m : List Bool) (x : List Entry) (h s kind capacity ri
           let from : ownershipSlot ≡ ownershipSlot + terms * (kind - 1) = omega arith in
           subst (λ n. Shows figureSlots 0 (storedByTerm f h s n filed) (inSlot 0 (groupsToFlags ++ drop 9 (figureGroups L))) (calendarOf L)) from
           (subst (λ g. Shows figureSlots 0 (storedByTerm f h s ownershipSlot filed) (inSlot 0 g) (calendarOf L)) (λ i. take 7 (figureGroups L) ++ (slotGroup terms 0 (λ u v n. this-kind h s kind filed entries ownership u v n (sym one) i) ∷ slotGroup terms 0 (λ u v n. other-kind h s kind filed entries contract u v n (λ q. omega (arith, q)) i) ∷ drop 9 (figureGroups L)))
-          (terms-stored (take 7 (figureGroups L)) (drop 8 (figureGroups L)) ownershipSlot (λ u v n. entryKw n (entries u v ownership)) f (calendarOf L) h s filed refl (omega arith) holder source (figures-shown o f m x r)))
+          (terms-stored (take 7 (figureGroups L)) (drop 8 (figureGroups L)) ownershipSlot (λ u v n. coverage n (entries u v ownership)) f (calendarOf L) h s filed refl (omega arith) holder source (figures-shown o f m x r)))
       go (inr t) =
           let other = eqb-false kind ownership t in
           let range = verify-kinds in
@@ -145,7 +146,7 @@ module _ (o f : List ℕ) (m : List Bool) (x : List Entry) (h s kind capacity ri
           let from : contractSlot ≡ ownershipSlot + terms * (kind - 1) = omega arith in
           subst (λ n. Shows figureSlots 0 (storedByTerm f h s n filed) (inSlot 0 (groupsToFlags ++ drop 9 (figureGroups L))) (calendarOf L)) from
           (subst (λ g. Shows figureSlots 0 (storedByTerm f h s contractSlot filed) (inSlot 0 g) (calendarOf L)) (λ i. take 7 (figureGroups L) ++ (slotGroup terms 0 (λ u v n. other-kind h s kind filed entries ownership u v n (λ q. other (sym q)) i) ∷ slotGroup terms 0 (λ u v n. this-kind h s kind filed entries contract u v n two i) ∷ drop 9 (figureGroups L)))
-          (terms-stored (take 8 (figureGroups L)) (drop 9 (figureGroups L)) contractSlot (λ u v n. entryKw n (entries u v contract)) f (calendarOf L) h s filed refl (omega arith) holder source (figures-shown o f m x r)))
+          (terms-stored (take 8 (figureGroups L)) (drop 9 (figureGroups L)) contractSlot (λ u v n. coverage n (entries u v contract)) f (calendarOf L) h s filed refl (omega arith) holder source (figures-shown o f m x r)))
 
   -- the kind's number, from its slot
   kind-back : kind - 1 + 1 ≡ kind
@@ -158,7 +159,7 @@ module _ (o f : List ℕ) (m : List Bool) (x : List Entry) (h s kind capacity ri
       e ∙ shown-is figureSlots 0 _ (storedEntry f h s (kind - 1) filed) (calendarOf L) (omega arith)
       (slot-stored 0 figureSlots tenYearSlot evidenceKinds 1 groupsToFlags [] refl (omega arith) (λ u v k. flag (isTenYear (entries u v k))) (λ u v k. flag (isTenYear (cond (same3 h s kind u v k) filed (entries u v k)))) _ (calendarOf L) h s (kind - 1) (flag (isTenYear filed)) holder source (let range = verify-kinds in omega arith)
       (λ u v k low high. sym (ap (λ n. cond (same3 h s n u v k) (flag (isTenYear filed)) (flag (isTenYear (entries u v k)))) kind-back ∙ of-filed (λ y. flag (isTenYear y)) (same3 h s kind u v k) filed (entries u v k)))
-      kw-stored)
+      coverage-stored)
 
   noted : (m′ : List Bool) → m′ ≡ storedAt postedSlots m h s (evidencePostedSlot + (kind - 1)) true → m′ ≡ postedOf (effect O L call)
   unfolding postedOf postedGroups slotsOf effect withEvidence afterVerify

@@ -1,4 +1,4 @@
 -- Where a number's posting is looked for, loads in slices of numbers, and verified kW term by term.
 pub mod PostedSlot
 pub mod Loads
-pub mod VerifiedKw
+pub mod StoredEntry

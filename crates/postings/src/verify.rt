@@ -15,6 +15,7 @@ use slots::cells::cell;
 use slots::cells::is_posted;
 use slots::cells::set_posted;
 use slots::cells::store;
+use slots::coverage::coverage;
 use slots::layout::EVIDENCE_COUNT;
 use slots::layout::EVIDENCE_POSTED_SLOT;
 use slots::layout::EVIDENCE_SLOTS;
@@ -23,7 +24,6 @@ use slots::layout::VERIFIED_SLOT;
 use tariff::evidence::Entry;
 use tariff::evidence::Evidence;
 use tariff::evidence::Filing;
-use tariff::evidence::entry_kw;
 use tariff::evidence::evidence_in_range;
 use tariff::evidence::file_evidence;
 use tariff::evidence::is_ten_year;
@@ -42,7 +42,7 @@ ghost use Rattle.records.specs.Opening.{openingOf};
 ghost use Rattle.slots.specs.Cells.{HasCell, storedAt};
 ghost use Rattle.slots.specs.Layout.{figureCount, evidenceSlots, evidenceOf, ledgerIn};
 ghost use Rattle.slots.specs.Steps.{Reachable, ReachablePostings, InPostings, EvidenceStep, Steps};
-ghost use Rattle.postings.specs.VerifiedKw.{storedByTerm, HasTerms, storedEntry};
+ghost use Rattle.postings.specs.StoredEntry.{storedByTerm, HasTerms, storedEntry};
 
 // An answer beside the book's evidence after it.
 pub struct VerifyOutcome {
@@ -98,18 +98,18 @@ fn entry_in_range(kind: u64, capacity: u64, right: u64, first: u64, last: u64, m
     }
 }
 
-// What an entry gives for each term, stored at a source in the four slots that begin at `from`.
+// An entry's coverage of each term, stored at a source in the four slots that begin at `from`.
 fn store_by_term(f: &mut [u64], h: u64, s: u64, from: u64, entry: Entry)
     requires { ⌜ HasTerms (now f) h s from ⌝ }
     ensures { λ r. ⌜ now (f .exit) ≡ storedByTerm (now (f .entry)) h s from entry ⌝ }
 {
-    store(f, h, s, from, entry_kw(entry, 0));
-    store(f, h, s, from + 1, entry_kw(entry, 1));
-    store(f, h, s, from + 2, entry_kw(entry, 2));
-    store(f, h, s, from + 3, entry_kw(entry, 3));
+    store(f, h, s, from, coverage(entry, 0));
+    store(f, h, s, from + 1, coverage(entry, 1));
+    store(f, h, s, from + 2, coverage(entry, 2));
+    store(f, h, s, from + 3, coverage(entry, 3));
 }
 
-// What an entry gives for each term and whether it is ten-year evidence, stored at a source in the slots of a kind, 0 for ownership.
+// An entry's coverage of each term and whether it is ten-year evidence, stored at a source in the slots of a kind, 0 for ownership.
 fn store_entry(f: &mut [u64], h: u64, s: u64, slot: u64, entry: Entry)
     requires { ⌜ HasCell evidenceSlots h s slot × (length (now f) ≡ figureCount) ⌝ }
     ensures { λ r. ⌜ now (f .exit) ≡ storedEntry (now (f .entry)) h s slot entry ⌝ }
@@ -136,7 +136,7 @@ fn file(
     evidence
 }
 
-// Posts evidence of a holder for a source: what it gives for each term and whether it is ten-year evidence is stored, and it is noted as posted.
+// Posts evidence of a holder for a source: its coverage of each term and whether it is ten-year evidence is stored, and it is noted as posted.
 pub fn verify(
     o: &[u64],
     f: &mut [u64],

@@ -35,3 +35,5 @@ pub const BREAKS_RULES: u64 = 16;
 pub const ABOVE_TIER_1_AWARD: u64 = 17;
 
 pub const NO_TEN_YEAR_EVIDENCE: u64 = 18;
+
+pub const UNVERIFIED: u64 = 19;

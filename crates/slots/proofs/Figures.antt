@@ -26,9 +26,11 @@ use Rattle.ledger.proofs.Bounds.{maxTogether, one-fits}
 use Rattle.records.specs.Opening.{openingIn}
 use Rattle.slots.specs.Cells.{readAt}
 use Rattle.slots.specs.Groups.{SlotGroup, slotGroup, slotsOf, inSlot, figureFrom}
+use Rattle.slots.specs.Coverage.{coverage}
 use Rattle.slots.specs.Layout.{figureSlots, figureGroups, calendarOf, figureIn, ledgerIn, flag, ownershipSlot, contractSlot, tenYearSlot}
 use Rattle.slots.specs.Sums.{maxFigure, Summable}
 use Rattle.slots.specs.Steps.{Reachable}
+use Rattle.slots.proofs.CoverageLaws.{coverage-le}
 use Rattle.slots.proofs.GroupLaws.{in-group}
 use Rattle.slots.proofs.StoreLaws.{slot-shown}
 use Rattle.slots.proofs.Reachable.{bases-known, counts, fits, figures-shown, figures-long}
@@ -93,13 +95,13 @@ module _ (o f : List ℕ) (m : List Bool) (x : List Entry) (r : Reachable o f m 
       le-trans (nominated-at-base O L h p t k) (one-fits (λ y. nominatedAt O L y (pathBase O p) t) (O .holders) maxTogether h l (fits o f m x r .nominatedFit (pathBase O p) t))
 
   -- what evidence gives for a term stands at the source, ownership and contract apart
-  pub ownership-read : (h s term : ℕ) → h < 8 → s < 16 → term < terms → readAt figureSlots 0 f h s (ownershipSlot + term) ≡ entryKw term (L .evidence .entry h s ownership)
+  pub ownership-read : (h s term : ℕ) → h < 8 → s < 16 → term < terms → readAt figureSlots 0 f h s (ownershipSlot + term) ≡ coverage term (L .evidence .entry h s ownership)
   unfolding figureGroups slotsOf
-  ownership-read h s term a b l = shown 7 ownershipSlot terms 0 (λ h s n. entryKw n (L .evidence .entry h s ownership)) refl (omega arith) refl h s term a b l ∙ ap (λ n. entryKw n (L .evidence .entry h s ownership)) (add-zero term)
+  ownership-read h s term a b l = shown 7 ownershipSlot terms 0 (λ h s n. coverage n (L .evidence .entry h s ownership)) refl (omega arith) refl h s term a b l ∙ ap (λ n. coverage n (L .evidence .entry h s ownership)) (add-zero term)
 
-  pub contract-read : (h s term : ℕ) → h < 8 → s < 16 → term < terms → readAt figureSlots 0 f h s (contractSlot + term) ≡ entryKw term (L .evidence .entry h s contract)
+  pub contract-read : (h s term : ℕ) → h < 8 → s < 16 → term < terms → readAt figureSlots 0 f h s (contractSlot + term) ≡ coverage term (L .evidence .entry h s contract)
   unfolding figureGroups slotsOf
-  contract-read h s term a b l = shown 8 contractSlot terms 0 (λ h s n. entryKw n (L .evidence .entry h s contract)) refl (omega arith) refl h s term a b l ∙ ap (λ n. entryKw n (L .evidence .entry h s contract)) (add-zero term)
+  contract-read h s term a b l = shown 8 contractSlot terms 0 (λ h s n. coverage n (L .evidence .entry h s contract)) refl (omega arith) refl h s term a b l ∙ ap (λ n. coverage n (L .evidence .entry h s contract)) (add-zero term)
 
   -- whether it is ten-year evidence, ownership first
   pub ten-year-read : (h s j : ℕ) → h < 8 → s < 16 → j < evidenceKinds → readAt figureSlots 0 f h s (tenYearSlot + j) ≡ flag (isTenYear (L .evidence .entry h s (j + 1)))
@@ -108,6 +110,9 @@ module _ (o f : List ℕ) (m : List Bool) (x : List Entry) (r : Reachable o f m 
 
   pub evidence-fits : (h s kind term : ℕ) → entryKw term (L .evidence .entry h s kind) ≤ maxKw
   evidence-fits h s kind term = entry-le maxKw term (L .evidence .entry h s kind) (fits o f m x r .evidenceFits h s kind)
+
+  pub coverage-fits : (h s kind term : ℕ) → coverage term (L .evidence .entry h s kind) ≤ maxKw + 1
+  coverage-fits h s kind term = let kw = evidence-fits h s kind term in let most = coverage-le term (L .evidence .entry h s kind) in omega arith
 
   -- the figures of one holder, within what all holders have together
   pub load-fits : (h s t : ℕ) → h < O .holders → L .loads .kw h s t ≤ maxTogether
@@ -136,9 +141,9 @@ module _ (o f : List ℕ) (m : List Bool) (x : List Entry) (r : Reachable o f m 
                   (
                     λ j i. one (λ y. L .tiers .awards y p (j + 0)) (all .awardsFit p (j + 0) k),
                     (
-                      λ j i. le-trans (evidence-fits h p ownership (j + 0)) (omega arith),
+                      λ j i. le-trans (coverage-fits h p ownership (j + 0)) (omega arith),
                       (
-                        λ j i. le-trans (evidence-fits h p contract (j + 0)) (omega arith),
+                        λ j i. le-trans (coverage-fits h p contract (j + 0)) (omega arith),
                         (
                           λ j i. le-trans (flag-le (isTenYear (L .evidence .entry h p (j + 1)))) (omega arith),
                           tt,

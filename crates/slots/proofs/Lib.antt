@@ -1,4 +1,5 @@
 pub mod CellLaws
+pub mod CoverageLaws
 pub mod ClearLaws
 pub mod GroupLaws
 pub mod StoreLaws

@@ -6,11 +6,12 @@ use lib.ListN.{getD}
 use lib.Dec.{eqb}
 use Rattle.tariff.specs.Sizes.{terms, lastMonth, longTermStep, evidenceKinds, ownership, contract}
 use Rattle.tariff.specs.declared.evidence.Entry.{Entry}
-use Rattle.tariff.specs.Evidence.{emptyEntry, entryKw, isTenYear}
+use Rattle.tariff.specs.Evidence.{emptyEntry, isTenYear}
 use Rattle.tariff.specs.Sum.{whenTrue}
 use Rattle.ledger.specs.Ledger.{Ledger}
 use Rattle.slots.specs.Cells.{rows, arrayOf}
 use Rattle.slots.specs.Groups.{SlotGroup, slotGroup, inSlot, figureFrom}
+use Rattle.slots.specs.Coverage.{coverage}
 
 -- the first slot of each figure, in the order of the list below; by month the slot of month 1 comes first
 abbrev pub loadSlot : ℕ
@@ -97,7 +98,7 @@ flag test = whenTrue test 1
 
 module _ (L : Ledger) where
   -- load by term, at a sink; prior's a, and its a − l; carried and awarded holdings by month; what the open tier has nominated, and awards by
-  -- tier, all at a path; and at a source what evidence gives for a term, ownership and contract apart, and by kind whether it is ten-year evidence.
+  -- tier, all at a path; and at a source the coverage of each term, ownership and contract apart, and by kind whether it is ten-year evidence.
   -- In a closed tier the nominations are the awards, so they are kept once
   unfoldable pub figureGroups : List (SlotGroup ℕ)
   figureGroups =
@@ -108,8 +109,8 @@ module _ (L : Ledger) where
       ∷ slotGroup lastMonth 1 (L .rights .awarded)
       ∷ slotGroup 1 0 (λ h p k. L .tiers .nominated h p (L .tiers .currentTier))
       ∷ slotGroup tierSlots 0 (L .tiers .awards)
-      ∷ slotGroup terms 0 (λ h s term. entryKw term (L .evidence .entry h s ownership))
-      ∷ slotGroup terms 0 (λ h s term. entryKw term (L .evidence .entry h s contract))
+      ∷ slotGroup terms 0 (λ h s term. coverage term (L .evidence .entry h s ownership))
+      ∷ slotGroup terms 0 (λ h s term. coverage term (L .evidence .entry h s contract))
       ∷ slotGroup evidenceKinds 1 (λ h s kind. flag (isTenYear (L .evidence .entry h s kind)))
       ∷ []
 

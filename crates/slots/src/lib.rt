@@ -2,6 +2,7 @@
 
 pub mod calendar;
 pub mod cells;
+pub mod coverage;
 pub mod layout;
 pub mod months;
 pub mod sums;

@@ -5,6 +5,7 @@ use crate::sizes::LAST_MONTH;
 use crate::sizes::MAX_KW;
 use crate::sizes::OWNERSHIP;
 use crate::sizes::TEN_YEAR;
+ghost use Prim.Native.Nat.{_+_, _^_, _<_};
 ghost use mathlib.Core.Path.{_≡_};
 ghost use mathlib.Core.Bool.{not};
 ghost use Rattle.tariff.specs.Evidence.{evidenceKw, countsFor, entryKw, highestRight, isTenYear};
@@ -111,9 +112,10 @@ pub fn file_evidence(
     })
 }
 
-// The kW that evidence gives.
+// The kW that evidence gives. One more fits 64 bits, whatever numbers the evidence has.
 pub fn evidence_kw(e: Evidence) -> u64
-    ensures { λ r. ⌜ r ≡ evidenceKw e ⌝ }
+    ensures is { λ r. ⌜ r ≡ evidenceKw e ⌝ }
+    ensures fits { λ r. ⌜ r + 1 < 2 ^ 64 ⌝ }
 {
     match e {
         Evidence::Empty => 0,
@@ -137,7 +139,8 @@ pub fn counts_for(e: Entry, term: u64) -> bool
 
 // The kW of an entry for a term.
 pub fn entry_kw(e: Entry, term: u64) -> u64
-    ensures { λ r. ⌜ r ≡ entryKw term e ⌝ }
+    ensures is { λ r. ⌜ r ≡ entryKw term e ⌝ }
+    ensures fits { λ r. ⌜ r + 1 < 2 ^ 64 ⌝ }
 {
     if counts_for(e, term) {
         let evidence = e.evidence;

@@ -49,7 +49,8 @@ pub(crate) fn hold(writer: &mut Writer, tier: u64) {
 }
 
 /// A nomination, most often at one of the bounds it has to keep. Where there
-/// is no room at all most are left out.
+/// is no room at all most are left out, fewer where it is the evidence that
+/// leaves none.
 fn nominate(writer: &mut Writer, holder: usize, path: usize, tier: u64) -> bool {
     let rooms = [
         verified_room,
@@ -61,7 +62,12 @@ fn nominate(writer: &mut Writer, holder: usize, path: usize, tier: u64) -> bool 
     .map(|room| room(&writer.book, holder, path, tier));
     let room = rooms.into_iter().fold(u64::MAX, u64::min);
     let awarded = tier == LONG_TERM_STEP && rooms[2] > 0;
-    let left_out = if awarded { 30 } else { 92 };
+    let no_verified_room = rooms[0] == 0;
+    let left_out = match (awarded, no_verified_room) {
+        (true, _) => 30,
+        (_, true) => 50,
+        _ => 92,
+    };
     if room == 0 && writer.random.percent(left_out) {
         return false;
     }

@@ -2,10 +2,12 @@
 //! the accepted calls alone.
 #![allow(dead_code)]
 
+mod evidence;
 mod reader;
 mod tally;
 
-use model::{Answer, Book, Call, Migrate, LONG_TERM_STEP};
+pub use evidence::Shown;
+use model::{Answer, Book, Call, Migrate, OnPath, LONG_TERM_STEP};
 pub use reader::{groups, Group};
 use tally::Tally;
 
@@ -14,7 +16,7 @@ use tally::Tally;
 pub struct Coverage {
     pub seasons: u64,
     /// How often each number was answered.
-    pub numbers: [u64; 19],
+    pub numbers: [u64; 20],
     /// Seasons in which tier 9 was opened and closed.
     pub complete: u64,
     /// Seasons in which a migration moved load, by term.
@@ -29,7 +31,7 @@ pub struct Coverage {
     /// Seasons in which the Long Term step was opened.
     pub step_held: u64,
     /// How often each number was answered while the step was open.
-    pub step_numbers: [u64; 19],
+    pub step_numbers: [u64; 20],
     /// Nominations and awards that were accepted in the step.
     pub step_nominated: u64,
     pub step_awarded: u64,
@@ -38,6 +40,12 @@ pub struct Coverage {
     pub step_at_evidence: u64,
     /// Nominations refused with 18 for the source of an earlier one alone.
     pub step_earlier_source: u64,
+    /// Nominations refused with 19 or 11 by what their evidence came to
+    /// ([`Shown`]), in the season's tiers, then in the months'.
+    pub shown: [[u64; 5]; 2],
+    /// Nominations of kind 2 holders that were accepted in the season's tiers,
+    /// then in the months'.
+    pub verified: [u64; 2],
 }
 
 /// One season on its way.
@@ -125,11 +133,34 @@ impl Replay<'_> {
         self.rights_moved[term] |= transfer.rights;
     }
 
+    /// Counts a refused nomination by its evidence; 19 and 11 are checked too.
     fn count_refusal(&mut self, call: &Call, number: u64) {
-        if let (Call::Nominate(nominate), 18) = (call, number) {
-            let source = self.book.path_source(nominate.path as usize);
-            let shown = self.tally.ten_year_at[nominate.holder as usize][source];
-            self.coverage.step_earlier_source += u64::from(shown);
+        match (call, number) {
+            (Call::Nominate(nominate), 18) => {
+                let source = self.book.path_source(nominate.path as usize);
+                let shown = self.tally.filed.ten_year_at[nominate.holder as usize][source];
+                self.coverage.step_earlier_source += u64::from(shown);
+            }
+            (Call::Nominate(nominate), 11 | 19) => {
+                let (tally, seed) = (&self.tally, self.seed);
+                let shown = tally.check_unverified(nominate, number, &self.book, seed);
+                self.coverage.shown[self.of_a_month()][shown as usize] += 1;
+            }
+            _ => {}
+        }
+    }
+
+    /// 1 where the open tier is a month's, else 0.
+    fn of_a_month(&self) -> usize {
+        usize::from(self.book.last_closed() >= 3)
+    }
+
+    /// Counts an accepted nomination of a kind 2 holder, but for the step's.
+    fn count_verified(&mut self, nominate: &OnPath) {
+        let outside = self.book.holder_kind(nominate.holder as usize) == 2;
+        let in_step = self.book.open_tier() == Some(LONG_TERM_STEP);
+        if outside && !in_step {
+            self.coverage.verified[self.of_a_month()] += 1;
         }
     }
 
@@ -138,6 +169,7 @@ impl Replay<'_> {
         match call {
             Call::Nominate(nominate) => {
                 self.coverage.nominated += 1;
+                self.count_verified(nominate);
                 self.coverage.step_nominated += u64::from(in_step);
                 let at = self.tally.at_the_limit(nominate, &self.book);
                 self.coverage.at_the_limit += u64::from(at);

@@ -1,6 +1,7 @@
 //! What the accepted calls come to, and the sums the book has to keep.
 
-use model::{Block, Book, Call, Load, Migrate, OnPath, Query, Verify, LONG_TERM_STEP};
+use super::evidence::{Filed, Shown};
+use model::{Block, Book, Call, Load, Migrate, OnPath, Query, LONG_TERM_STEP};
 
 /// Sums over the accepted calls. No figure here is taken from the book but
 /// the limits, which are reckoned when a tier opens.
@@ -24,10 +25,7 @@ pub struct Tally {
     past_awards: [[[u64; 9]; 16]; 8],
     /// kW awarded in the Long Term step, by holder and path.
     step_awards: [[u64; 16]; 8],
-    /// kW of the ten-year evidence for the season, by holder.
-    ten_year_kw: [u64; 8],
-    /// Whether there is such evidence, by holder and source.
-    pub ten_year_at: [[bool; 16]; 8],
+    pub filed: Filed,
     open: Option<u64>,
 }
 
@@ -49,7 +47,7 @@ impl Tally {
             }
             Call::Award(award) => self.accept_award(award),
             Call::Close => self.open = None,
-            Call::Verify(verify) => self.accept_verify(verify),
+            Call::Verify(verify) => self.filed.accept(verify),
             Call::Migrate(_) => {}
         }
     }
@@ -67,19 +65,6 @@ impl Tally {
                 let answered = book.query(&Query::Limit { holder, sink });
                 assert_eq!(answered, Ok(limit), "seed {seed}");
             }
-        }
-    }
-
-    /// Ten-year evidence is marked and runs through all three months.
-    fn accept_verify(&mut self, verify: &Verify) {
-        let months = (verify.first_month, verify.last_month);
-        if verify.ten_year == 1 && months == (1, 3) {
-            let (holder, source) = (verify.holder as usize, verify.source as usize);
-            self.ten_year_at[holder][source] = true;
-            self.ten_year_kw[holder] += match verify.kind {
-                1 => verify.capacity * verify.right / 10_000,
-                _ => verify.right,
-            };
         }
     }
 
@@ -104,7 +89,7 @@ impl Tally {
 
     /// Limits, said once more: signed, cut off at 0 in the end.
     fn limit(&self, book: &Book, holder: usize, base: usize, tier: u64) -> u64 {
-        let term = [0, 0, 0, 1, 1, 2, 2, 3, 3, 0][tier as usize - 1];
+        let term = term_of(tier);
         let paths: Vec<usize> = (0..book.paths())
             .filter(|&path| book.base(book.path_sink(path)) == base)
             .collect();
@@ -128,7 +113,7 @@ impl Tally {
 
     /// What the Long Term step gives of load A, before LT comes off.
     fn step_limit(&self, kind: u64, holder: usize, a: i64) -> i64 {
-        let evidence = self.ten_year_kw[holder] as i64;
+        let evidence = self.filed.ten_year_kw[holder] as i64;
         match kind {
             2 => a / 2,
             _ if evidence <= a / 5 => a / 5,
@@ -193,7 +178,8 @@ impl Tally {
                 );
                 let asked = self.asks_for_evidence(book, holder, path);
                 let source = book.path_source(path);
-                assert!(!asked || self.ten_year_at[holder][source], "seed {seed}");
+                let shown = self.filed.ten_year_at[holder][source];
+                assert!(!asked || shown, "seed {seed}");
             }
         }
     }
@@ -264,9 +250,62 @@ impl Tally {
                 let awarded = self.tier_awards[holder][path];
                 assert_eq!(book.nominated(holder, path, tier), nominated, "seed {seed}");
                 assert_eq!(book.tier_awards(holder, path, tier), awarded, "seed {seed}");
+                if nominated > 0 && book.holder_kind(holder) == 2 {
+                    let (shown, _) = self.shown(book, holder, path, seed);
+                    assert!(shown.for_the_term(), "seed {seed}");
+                }
             }
         }
     }
+
+    /// A nomination refused with 19 or 11 is of a kind 2 holder and not in the
+    /// Long Term step; 19 is without evidence for the term, 11 above what is
+    /// left of it. Gives what the evidence comes to.
+    pub fn check_unverified(
+        &self,
+        nominate: &OnPath,
+        number: u64,
+        book: &Book,
+        seed: u64,
+    ) -> Shown {
+        let (holder, path) = (nominate.holder as usize, nominate.path as usize);
+        assert_eq!(book.holder_kind(holder), 2, "seed {seed}");
+        assert_ne!(self.open, Some(LONG_TERM_STEP), "seed {seed}");
+        let (shown, left) = self.shown(book, holder, path, seed);
+        assert_eq!(shown.for_the_term(), number == 11, "seed {seed}");
+        assert!(nominate.kw > left, "seed {seed}");
+        shown
+    }
+
+    /// What a kind 2 holder's evidence at a path's source comes to in the open
+    /// tier, and the kW left of it; no more is taken than there is.
+    pub fn shown(&self, book: &Book, holder: usize, path: usize, seed: u64) -> (Shown, u64) {
+        let source = book.path_source(path);
+        let tier = self.open.expect("nominations run in an open tier");
+        let taken = self.taken(book, holder, source, tier);
+        let shown = self.filed.shown(holder, source, term_of(tier), taken);
+        shown.unwrap_or_else(|| panic!("seed {seed}"))
+    }
+
+    /// kW that a holder's evidence at a source has to cover: what it nominated
+    /// in the tier, and its earlier awards of the season and of the tier's month.
+    fn taken(&self, book: &Book, holder: usize, source: usize, tier: u64) -> u64 {
+        let served = |earlier: &u64| [0, term_of(tier)].contains(&term_of(*earlier));
+        let earlier: Vec<usize> = (1..tier).filter(served).map(|n| n as usize - 1).collect();
+        (0..book.paths())
+            .filter(|&path| book.path_source(path) == source)
+            .map(|path| {
+                let awards = self.past_awards[holder][path];
+                let awarded: u64 = earlier.iter().map(|&index| awards[index]).sum();
+                self.nominated[holder][path] + awarded
+            })
+            .sum()
+    }
+}
+
+/// The term of a tier; the Long Term step is the tenth.
+fn term_of(tier: u64) -> usize {
+    [0, 0, 0, 1, 1, 2, 2, 3, 3, 0][tier as usize - 1]
 }
 
 /// The load posted, from the hours themselves: with the hours from the highest

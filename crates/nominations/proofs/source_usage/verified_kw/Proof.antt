@@ -17,25 +17,24 @@ add-ownership c = let fits = term-fits _ _ _ _ (c .before .before .before .befor
 add-contract : tie.Need-add-contract
 add-contract c = let fits = term-fits _ _ _ _ (c .before .before .before .before .pre .figures .reachable) _ _ (c .before .current-tier .ensures) (c .term-of .ensures) in omega arith
 
-read-requires : tie.Need-read-requires
-read-requires c κs =
+covered-kw-requires : tie.Need-covered-kw-requires
+covered-kw-requires c κs =
     let fits = term-fits _ _ _ _ (c .before .before .before .before .pre .figures .reachable) _ _ (c .before .current-tier .ensures) (c .term-of .ensures) in
     source-cell _ _ _ _ (c .before .before .before .before .pre .figures .reachable) _ _ (c .before .before .before .before .pre .holder) (c .before .before .before .before .pre .place) _ (omega arith)
 
-read-requires-2 : tie.Need-read-requires-2
-read-requires-2 c κs =
+covered-kw-requires-2 : tie.Need-covered-kw-requires-2
+covered-kw-requires-2 c κs =
     let fits = term-fits _ _ _ _ (c .before .before .before .before .before .pre .figures .reachable) _ _ (c .before .before .current-tier .ensures) (c .before .term-of .ensures) in
     source-cell _ _ _ _ (c .before .before .before .before .before .pre .figures .reachable) _ _ (c .before .before .before .before .before .pre .holder) (c .before .before .before .before .before .pre .place) _ (omega arith)
 
 add-result : tie.Need-add-result
 add-result c =
-    let fits = term-fits _ _ _ _ (c .before .before .before .before .before .before .pre .figures .reachable) _ _ (c .before .before .before .current-tier .ensures) (c .before .before .term-of .ensures) in
-    let owned = verified-fits _ _ _ _ (c .before .before .before .before .before .before .pre .figures .reachable) _ _ (c .before .before .before .before .before .before .pre .holder) (c .before .before .before .before .before .before .pre .place) _ _ (omega arith) (omega arith) (c .before .read .ensures) in
-    let contracted = verified-fits _ _ _ _ (c .before .before .before .before .before .before .pre .figures .reachable) _ _ (c .before .before .before .before .before .before .pre .holder) (c .before .before .before .before .before .before .pre .place) _ _ (omega arith) (omega arith) (c .read2 .ensures) in
+    let k = c .before .before .before .before .before .before .pre in
+    let fits = verified-fits _ _ _ _ (k .figures .reachable) _ _ (k .holder) (k .place) _ _ (c .before .before .before .current-tier .ensures) (c .before .before .term-of .ensures) _ _ (c .before .covered-kw .ensures) (c .covered-kw2 .ensures) in
     omega arith
 
 returns : tie.Need-returns
-returns c m x r = verified-is _ _ m x r _ _ (c .before .before .before .before .before .before .pre .holder) (c .before .before .before .before .before .before .pre .place) _ _ _ _ (c .before .before .before .current-tier .ensures) (c .before .before .term-of .ensures) (c .before .read .ensures) (c .read2 .ensures)
+returns c m x r = let k = c .before .before .before .before .before .before .pre in verified-is _ _ m x r _ _ (k .holder) (k .place) _ _ (c .before .before .before .current-tier .ensures) (c .before .before .term-of .ensures) _ _ (c .before .covered-kw .ensures) (c .covered-kw2 .ensures)
 
 pub verified-kw-spec : {M : Type 1} → statement M
 verified-kw-spec =
@@ -45,7 +44,7 @@ verified-kw-spec =
     term-of-requires
     add-ownership
     add-contract
-    read-requires
-    read-requires-2
+    covered-kw-requires
+    covered-kw-requires-2
     add-result
     returns)

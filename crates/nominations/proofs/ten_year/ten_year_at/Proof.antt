@@ -15,17 +15,17 @@ add-read c = search needs
 read-requires-2 : tie.Need-read-requires-2
 read-requires-2 c κs = let k = c .before .before .before .pre in source-cell _ _ _ _ (k .figures .reachable) _ _ (k .holder) (k .place) _ (omega arith)
 
-read-requires-3 : tie.Need-read-requires-3
-read-requires-3 c κs = let k = c .before .before .before .before .pre in source-cell _ _ _ _ (k .figures .reachable) _ _ (k .holder) (k .place) _ (omega arith)
+covered-kw-requires : tie.Need-covered-kw-requires
+covered-kw-requires c κs = let k = c .before .before .before .before .pre in source-cell _ _ _ _ (k .figures .reachable) _ _ (k .holder) (k .place) _ (omega arith)
 
 when-true-requires : tie.Need-when-true-requires
 when-true-requires c κs = search needs
 
-add-read-2 : tie.Need-add-read-2
-add-read-2 c = search needs
+add-covered-kw : tie.Need-add-covered-kw
+add-covered-kw c = search needs
 
-read-requires-4 : tie.Need-read-requires-4
-read-requires-4 c κs = let k = c .before .before .before .before .before .before .pre in source-cell _ _ _ _ (k .figures .reachable) _ _ (k .holder) (k .place) _ (omega arith)
+covered-kw-requires-2 : tie.Need-covered-kw-requires-2
+covered-kw-requires-2 c κs = let k = c .before .before .before .before .before .before .pre in source-cell _ _ _ _ (k .figures .reachable) _ _ (k .holder) (k .place) _ (omega arith)
 
 when-true-requires-2 : tie.Need-when-true-requires-2
 when-true-requires-2 c κs = search needs
@@ -34,14 +34,14 @@ add-result : tie.Need-add-result
 add-result c =
     let k = c .before .before .before .before .before .before .before .before .pre in
     let r = k .figures .reachable in
-    let is = at-is _ _ _ _ r _ _ (k .holder) (k .place) _ _ _ _ _ _ (c .before .before .before .before .before .read .ensures) (c .before .before .before .before .read2 .ensures) (c .before .before .before .read3 .ensures) (c .before .read4 .ensures) (c .before .before .when-true .ensures) (c .when-true2 .ensures) in
+    let is = at-is _ _ _ _ r _ _ (k .holder) (k .place) _ _ _ _ _ _ (c .before .before .before .before .before .read .ensures) (c .before .before .before .before .read2 .ensures) (c .before .before .before .covered-kw .ensures) (c .before .covered-kw2 .ensures) (c .before .before .when-true .ensures) (c .when-true2 .ensures) in
     let fits = at-fits _ _ _ _ r _ _ (k .holder) (k .place) in
     omega arith
 
 returns : tie.Need-returns
 returns c m x r =
     let k = c .before .before .before .before .before .before .before .before .pre in
-    at-is _ _ m x r _ _ (k .holder) (k .place) _ _ _ _ _ _ (c .before .before .before .before .before .read .ensures) (c .before .before .before .before .read2 .ensures) (c .before .before .before .read3 .ensures) (c .before .read4 .ensures) (c .before .before .when-true .ensures) (c .when-true2 .ensures)
+    at-is _ _ m x r _ _ (k .holder) (k .place) _ _ _ _ _ _ (c .before .before .before .before .before .read .ensures) (c .before .before .before .before .read2 .ensures) (c .before .before .before .covered-kw .ensures) (c .before .covered-kw2 .ensures) (c .before .before .when-true .ensures) (c .when-true2 .ensures)
 
 pub ten-year-at-spec : {M : Type 1} → statement M
 ten-year-at-spec =
@@ -50,10 +50,10 @@ ten-year-at-spec =
     read-requires
     add-read
     read-requires-2
-    read-requires-3
+    covered-kw-requires
     when-true-requires
-    add-read-2
-    read-requires-4
+    add-covered-kw
+    covered-kw-requires-2
     when-true-requires-2
     add-result
     returns)

@@ -4,8 +4,8 @@ use borrow.Author.Needs.{needs}
 use Rattle.postings.proofs.verify.store_by_term.Statement.{statement}
 use Rattle.postings.proofs.verify.store_by_term.Tie as tie
 
-entry-kw-requires : tie.Need-entry-kw-requires
-entry-kw-requires c κs = search needs
+coverage-requires : tie.Need-coverage-requires
+coverage-requires c κs = search needs
 
 store-requires : tie.Need-store-requires
 store-requires c κs = search needs
@@ -13,8 +13,8 @@ store-requires c κs = search needs
 add-store : tie.Need-add-store
 add-store c = search needs
 
-entry-kw-requires-2 : tie.Need-entry-kw-requires-2
-entry-kw-requires-2 c κs = search needs
+coverage-requires-2 : tie.Need-coverage-requires-2
+coverage-requires-2 c κs = search needs
 
 store-requires-2 : tie.Need-store-requires-2
 store-requires-2 c κs = search needs
@@ -22,8 +22,8 @@ store-requires-2 c κs = search needs
 add-store-2 : tie.Need-add-store-2
 add-store-2 c = search needs
 
-entry-kw-requires-3 : tie.Need-entry-kw-requires-3
-entry-kw-requires-3 c κs = search needs
+coverage-requires-3 : tie.Need-coverage-requires-3
+coverage-requires-3 c κs = search needs
 
 store-requires-3 : tie.Need-store-requires-3
 store-requires-3 c κs = search needs
@@ -31,8 +31,8 @@ store-requires-3 c κs = search needs
 add-store-3 : tie.Need-add-store-3
 add-store-3 c = search needs
 
-entry-kw-requires-4 : tie.Need-entry-kw-requires-4
-entry-kw-requires-4 c κs = search needs
+coverage-requires-4 : tie.Need-coverage-requires-4
+coverage-requires-4 c κs = search needs
 
 store-requires-4 : tie.Need-store-requires-4
 store-requires-4 c κs = search needs
@@ -43,10 +43,10 @@ same-length c = search needs
 returns : tie.Need-returns
 returns c =
     terms-are _ _ _ _ _ _ _ _ _ _ _ _ _
-    (c .before .before .before .before .before .before .before .before .before .before .before .before .before .before .before .before .before .before .entry-kw .ensures)
-    (c .before .before .before .before .before .before .before .before .before .before .before .before .before .entry-kw2 .ensures)
-    (c .before .before .before .before .before .before .before .before .entry-kw3 .ensures)
-    (c .before .before .before .entry-kw4 .ensures)
+    (c .before .before .before .before .before .before .before .before .before .before .before .before .before .before .before .before .before .before .coverage .ensures)
+    (c .before .before .before .before .before .before .before .before .before .before .before .before .before .coverage2 .ensures)
+    (c .before .before .before .before .before .before .before .before .coverage3 .ensures)
+    (c .before .before .before .coverage4 .ensures)
     (c .before .before .before .before .before .before .before .before .before .before .before .before .before .before .before .before .before .store .ensures)
     (c .before .before .before .before .before .before .before .before .before .before .before .before .store2 .ensures)
     (c .before .before .before .before .before .before .before .store3 .ensures)
@@ -56,16 +56,16 @@ pub store-by-term-spec : {M : Type 1} → statement M
 store-by-term-spec =
     tie.close
     (tie.spec
-    entry-kw-requires
+    coverage-requires
     store-requires
     add-store
-    entry-kw-requires-2
+    coverage-requires-2
     store-requires-2
     add-store-2
-    entry-kw-requires-3
+    coverage-requires-3
     store-requires-3
     add-store-3
-    entry-kw-requires-4
+    coverage-requires-4
     store-requires-4
     same-length
     returns)

@@ -1,4 +1,4 @@
--- `postings::verify::store_entry` meets its contract: the kW by term are stored, and then the flag. Assumes nothing.
+-- `postings::verify::store_entry` meets its contract: the coverage by term is stored, and then the flag. Assumes nothing.
 use Rattle.postings.proofs.TermLaws.{entry-is}
 use borrow.Author.Needs.{needs}
 use Rattle.postings.proofs.verify.store_entry.Statement.{statement}

@@ -1,6 +1,7 @@
 -- `tariff::evidence::evidence_kw` meets its contract: each arm is given which evidence it has. Assumes nothing.
 use Rattle.tariff.proofs.Products.{product-32-16}
 use mathlib.Core.Path.{sym, ap}
+use native.Mathlib.Omega.{arith}
 use Rattle.tariff.specs.Evidence.{evidenceKw}
 use borrow.Author.Needs.{needs}
 use Rattle.tariff.proofs.evidence.evidence_kw.Statement.{statement}
@@ -29,15 +30,15 @@ cast-result-3 c = search needs
 
 returns : tie.Need-returns
 unfolding evidenceKw
-returns c = sym (ap evidenceKw (c .enum-told .given .1))
+returns c = (sym (ap evidenceKw (c .enum-told .given .1)), omega arith)
 
 returns-2 : tie.Need-returns-2
 unfolding evidenceKw
-returns-2 c = sym (ap evidenceKw (c .before .e .given .1))
+returns-2 c = (sym (ap evidenceKw (c .before .e .given .1)), let fits = product-32-16 {a = c .before .e .given .0 .0} {b = c .before .e .given .0 .1 .0} (search needs) (search needs) in omega arith)
 
 returns-3 : tie.Need-returns-3
 unfolding evidenceKw
-returns-3 c = sym (ap evidenceKw (c .before .e2 .given .1))
+returns-3 c = (sym (ap evidenceKw (c .before .e2 .given .1)), omega arith)
 
 pub evidence-kw-spec : {M : Type 1} → statement M
 evidence-kw-spec =
