@@ -2,8 +2,8 @@
 use crate::book::Book;
 use awards::holdings::held;
 use awards::holdings::net;
-use nominations::limits::limit;
 use records::answers::Answer;
+use tier_limits::limits::limit;
 ghost use mathlib.Core.Path.{_≡_};
 ghost use Rattle.ledger.specs.Call.{limitOf, heldOn, netOn};
 ghost use Rattle.book.specs.Outcomes.{queryAnswerIn};

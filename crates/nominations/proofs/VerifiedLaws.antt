@@ -1,16 +1,13 @@
--- What a holder has verified of a source, read in two slots, and causes 19 and 11 as code finds them. Assumes nothing.
+-- What a holder has verified of a source for the open tier's term, and causes 19 and 11 as code finds them. Assumes nothing.
 use Prim.Native.Nat.{ℕ, _+_, _*_, _≤_, _<_}
 use mathlib.Core.Path.{_≡_, sym, ap, _∙_}
 use mathlib.Core.Bool.{Bool, true, false, not, _&&_, _||_}
 use mathlib.Core.List.{List}
-use native.Mathlib.Nat.{le-trans}
 use native.Mathlib.Omega.{arith}
-use lib.ListN.{length}
 use lib.Dec.{ltb, eqb}
 use borrow.Author.Tests.{not-true, not-false}
 use Rattle.tariff.specs.Sizes.{terms, longTermStep, ownership, contract}
 use Rattle.tariff.specs.declared.evidence.Entry.{Entry}
-use Rattle.tariff.specs.Evidence.{countsFor, entryKw}
 use Rattle.tariff.specs.Ranges.{maxKw}
 use Rattle.tariff.specs.Terms.{termOf, isLongTermStep}
 use Rattle.tariff.proofs.Tests.{and-left-false}
@@ -19,76 +16,41 @@ use Rattle.ledger.specs.Ledger.{Ledger}
 use Rattle.ledger.specs.Causes.{needsVerification, lacksEvidence, exceedsVerified}
 use Rattle.ledger.specs.Verification.{hasEvidence, verifiedKw, sourceUsage}
 use Rattle.records.specs.Opening.{openingIn}
-use Rattle.slots.specs.Cells.{HasCell, readAt}
-use Rattle.slots.specs.Coverage.{coverage, coveredKw, isCovered}
-use Rattle.slots.specs.Layout.{ownershipSlot, contractSlot, figureSlots, figureCount, currentTierIn, ledgerIn}
+use Rattle.slots.specs.Cells.{readAt}
+use Rattle.slots.specs.Coverage.{coveredKw, isCovered}
+use Rattle.slots.specs.Layout.{ownershipSlot, figureSlots, currentTierIn, ledgerIn}
 use Rattle.slots.specs.Steps.{Reachable}
-use Rattle.slots.proofs.Reachable.{counts, figures-long}
-use Rattle.slots.proofs.CoverageLaws.{kw-back, counts-back}
-use Rattle.slots.proofs.Figures.{ownership-read, contract-read, evidence-fits}
-use Rattle.nominations.proofs.LimitLaws.{open-last, term-below}
+use Rattle.slots.proofs.Figures.{evidence-fits}
+use Rattle.tier_limits.proofs.EvidenceSlots.{term-fits, owned-kw, contracted-kw, owned-counts, contracted-counts}
 
-module _ (o f : List ℕ) (m : List Bool) (x : List Entry) (r : Reachable o f m x) where
+-- what the two slots of the open tier's term say is the verified kW, which fits, ..
+module _ (o f : List ℕ) (m : List Bool) (x : List Entry) (r : Reachable o f m x) (h s : ℕ) (l : h < openingIn o .holders) (place : s < 16) (tier term : ℕ) (now : tier ≡ currentTierIn f) (ofTier : term ≡ termOf tier) where
   abbrev L : Ledger
   L = ledgerIn f m x
 
-  -- the open tier's term
-  pub term-fits : (tier term : ℕ) → tier ≡ currentTierIn f → term ≡ termOf tier → term < terms
-  term-fits tier term now ofTier = let fits = term-below tier (open-last o f m x r tier now) in omega arith
+  k : term < terms
+  k = term-fits o f m x r tier term now ofTier
 
-  module _ (h s : ℕ) (l : h < openingIn o .holders) (place : s < 16) where
-    holder : h < 8
-    holder = le-trans l (counts o f m x r .0)
+  sameTerm : term ≡ termOf (L .tiers .currentTier)
+  unfolding ledgerIn
+  sameTerm = ofTier ∙ ap termOf now
 
-    pub source-cell : (slot : ℕ) → slot < figureSlots → HasCell figureSlots h s slot × (length f ≡ figureCount)
-    source-cell slot k = (record { holder = holder; place = place; inRow = k }, figures-long o f m x r)
+  pub verified-is : (a b : ℕ) → a ≡ coveredKw (readAt figureSlots 0 f h s (ownershipSlot + term)) → b ≡ coveredKw (readAt figureSlots 0 f h s (ownershipSlot + term + terms)) → a + b ≡ verifiedKw L h s (termOf (L .tiers .currentTier))
+  unfolding verifiedKw
+  verified-is a b owned contracted = (λ i. (owned ∙ owned-kw o f m x r h s l place term k) i + (contracted ∙ contracted-kw o f m x r h s l place term k) i) ∙ ap (verifiedKw L h s) sameTerm
 
-    -- the four slots of ownership and after them those of the contract, by term
-    owned-is : (term : ℕ) → term < terms → readAt figureSlots 0 f h s (ownershipSlot + term) ≡ coverage term (L .evidence .entry h s ownership)
-    owned-is term k = ownership-read o f m x r h s term holder place k
+  pub verified-fits : (a b : ℕ) → a ≡ coveredKw (readAt figureSlots 0 f h s (ownershipSlot + term)) → b ≡ coveredKw (readAt figureSlots 0 f h s (ownershipSlot + term + terms)) → a + b ≤ 2 * maxKw
+  verified-fits a b owned contracted =
+      let first = evidence-fits o f m x r h s ownership term in
+      let second = evidence-fits o f m x r h s contract term in
+      let ofFirst = owned ∙ owned-kw o f m x r h s l place term k in
+      let ofSecond = contracted ∙ contracted-kw o f m x r h s l place term k in
+      omega arith
 
-    contracted-is : (term : ℕ) → term < terms → readAt figureSlots 0 f h s (ownershipSlot + term + terms) ≡ coverage term (L .evidence .entry h s contract)
-    contracted-is term k = ap (readAt figureSlots 0 f h s) (let e : ownershipSlot + term + terms ≡ contractSlot + term = omega arith in e) ∙ contract-read o f m x r h s term holder place k
-
-    -- the kW read in them ..
-    pub owned-kw : (term : ℕ) → term < terms → coveredKw (readAt figureSlots 0 f h s (ownershipSlot + term)) ≡ entryKw term (L .evidence .entry h s ownership)
-    owned-kw term k = ap coveredKw (owned-is term k) ∙ kw-back term (L .evidence .entry h s ownership)
-
-    pub contracted-kw : (term : ℕ) → term < terms → coveredKw (readAt figureSlots 0 f h s (ownershipSlot + term + terms)) ≡ entryKw term (L .evidence .entry h s contract)
-    contracted-kw term k = ap coveredKw (contracted-is term k) ∙ kw-back term (L .evidence .entry h s contract)
-
-    -- .. and whether there is evidence
-    owned-counts : (term : ℕ) → term < terms → isCovered (readAt figureSlots 0 f h s (ownershipSlot + term)) ≡ countsFor term (L .evidence .entry h s ownership)
-    owned-counts term k = ap isCovered (owned-is term k) ∙ counts-back term (L .evidence .entry h s ownership)
-
-    contracted-counts : (term : ℕ) → term < terms → isCovered (readAt figureSlots 0 f h s (ownershipSlot + term + terms)) ≡ countsFor term (L .evidence .entry h s contract)
-    contracted-counts term k = ap isCovered (contracted-is term k) ∙ counts-back term (L .evidence .entry h s contract)
-
-    -- what the two slots of the open tier's term say is the verified kW, which fits, ..
-    module _ (tier term : ℕ) (now : tier ≡ currentTierIn f) (ofTier : term ≡ termOf tier) where
-      k : term < terms
-      k = term-fits tier term now ofTier
-
-      sameTerm : term ≡ termOf (L .tiers .currentTier)
-      unfolding ledgerIn
-      sameTerm = ofTier ∙ ap termOf now
-
-      pub verified-is : (a b : ℕ) → a ≡ coveredKw (readAt figureSlots 0 f h s (ownershipSlot + term)) → b ≡ coveredKw (readAt figureSlots 0 f h s (ownershipSlot + term + terms)) → a + b ≡ verifiedKw L h s (termOf (L .tiers .currentTier))
-      unfolding verifiedKw
-      verified-is a b owned contracted = (λ i. (owned ∙ owned-kw term k) i + (contracted ∙ contracted-kw term k) i) ∙ ap (verifiedKw L h s) sameTerm
-
-      pub verified-fits : (a b : ℕ) → a ≡ coveredKw (readAt figureSlots 0 f h s (ownershipSlot + term)) → b ≡ coveredKw (readAt figureSlots 0 f h s (ownershipSlot + term + terms)) → a + b ≤ 2 * maxKw
-      verified-fits a b owned contracted =
-          let first = evidence-fits o f m x r h s ownership term in
-          let second = evidence-fits o f m x r h s contract term in
-          let ofFirst = owned ∙ owned-kw term k in
-          let ofSecond = contracted ∙ contracted-kw term k in
-          omega arith
-
-      -- .. and whether there is evidence for it
-      pub evidence-is : (a b : Bool) → a ≡ isCovered (readAt figureSlots 0 f h s (ownershipSlot + term)) → b ≡ isCovered (readAt figureSlots 0 f h s (ownershipSlot + term + terms)) → (a || b) ≡ hasEvidence L h s (termOf (L .tiers .currentTier))
-      unfolding hasEvidence
-      evidence-is a b owned contracted = (λ i. (owned ∙ owned-counts term k) i || (contracted ∙ contracted-counts term k) i) ∙ ap (hasEvidence L h s) sameTerm
+  -- .. and whether there is evidence for it
+  pub evidence-is : (a b : Bool) → a ≡ isCovered (readAt figureSlots 0 f h s (ownershipSlot + term)) → b ≡ isCovered (readAt figureSlots 0 f h s (ownershipSlot + term + terms)) → (a || b) ≡ hasEvidence L h s (termOf (L .tiers .currentTier))
+  unfolding hasEvidence
+  evidence-is a b owned contracted = (λ i. (owned ∙ owned-counts o f m x r h s l place term k) i || (contracted ∙ contracted-counts o f m x r h s l place term k) i) ∙ ap (hasEvidence L h s) sameTerm
 
 -- whether a holder has to verify its sources, as code finds it
 pub verification-test : (O : Opening) (read tier h kind : ℕ) → read ≡ tier → kind ≡ holderKind O h → (not (eqb read longTermStep) && eqb kind obaalse) ≡ needsVerification O tier h

@@ -1,5 +1,4 @@
--- What a limit, a source's usage and a nomination need of a book's arrays, and the sums that they are made of.
+-- What a source's usage and a nomination need of a book's arrays, the usage of one tier's awards, and how a nomination's causes are cut.
 pub mod Inputs
-pub mod PathSums
 pub mod Usage
 pub mod CauseOrder

@@ -1,5 +1,4 @@
 // What the Long Term step refuses: nominations above the tier 1 award, and sources without ten-year evidence (02, 1/14).
-use crate::ten_year::has_ten_year;
 use records::kinds::OBAALSE;
 use records::setup::holder_kind;
 use records::setup::path_base;
@@ -14,6 +13,7 @@ use slots::layout::NOMINATED_SLOT;
 use slots::sums::sum_at_base;
 use tariff::limit::fifth_of_load;
 use tariff::sizes::LONG_TERM_STEP;
+use tier_limits::ten_year::has_ten_year;
 ghost use mathlib.Core.Path.{_≡_};
 ghost use mathlib.Core.Bool.{not, _&&_};
 ghost use Rattle.tariff.specs.Sum.{anyBelow};

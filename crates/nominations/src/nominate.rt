@@ -1,5 +1,4 @@
 // Nominate: what a holder asks for in the open tier (01, Tiers, Nominate; 02, 1/14 and 2/14).
-use crate::limits::tier_limit;
 use crate::long_term_step::exceeds_tier_1_award;
 use crate::long_term_step::lacks_ten_year;
 use crate::source_usage::has_evidence;
@@ -35,6 +34,7 @@ use slots::layout::NOMINATED_SLOT;
 use slots::layout::PRIOR_REMAINING_SLOT;
 use slots::sums::sum_at_base;
 use tariff::sizes::LONG_TERM_STEP;
+use tier_limits::limits::tier_limit;
 ghost use mathlib.Core.Path.{_≡_};
 ghost use mathlib.Core.Bool.{_||_, _&&_};
 ghost use lib.ListN.{drop};

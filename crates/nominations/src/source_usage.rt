@@ -13,7 +13,8 @@ ghost use mathlib.Core.Path.{_≡_};
 ghost use Rattle.tariff.specs.Terms.{termOf};
 ghost use Rattle.ledger.specs.Verification.{hasEvidence, verifiedKw, usesSameEvidence, usedBefore, sourceUsage};
 ghost use Rattle.slots.specs.Steps.{InFigures};
-ghost use Rattle.nominations.specs.Inputs.{HolderInputs, SourceInputs, UsageInputs};
+ghost use Rattle.tier_limits.specs.Inputs.{HolderInputs, SourceInputs};
+ghost use Rattle.nominations.specs.Inputs.{UsageInputs};
 ghost use Rattle.nominations.specs.Usage.{awardsUsed};
 
 // Whether a holder has evidence of a source for the open tier's term, of either kind, whatever it comes to.

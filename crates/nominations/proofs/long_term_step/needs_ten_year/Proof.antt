@@ -1,7 +1,7 @@
 -- `nominations::long_term_step::needs_ten_year` meets its contract: an OBAALSE needs it, another holder above a fifth of its load. Assumes nothing.
 use native.Mathlib.Omega.{arith}
 use Rattle.slots.proofs.Figures.{summable}
-use Rattle.nominations.proofs.VerifiedLaws.{source-cell}
+use Rattle.tier_limits.proofs.EvidenceSlots.{source-cell}
 use Rattle.nominations.proofs.NominateCauses.{base-room, base-fits}
 use Rattle.nominations.proofs.StepCauses.{obaalse-needs, above-fifth}
 use borrow.Author.Needs.{needs}

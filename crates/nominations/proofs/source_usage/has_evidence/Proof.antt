@@ -1,6 +1,7 @@
 -- `nominations::source_usage::has_evidence` meets its contract. Assumes nothing.
 use native.Mathlib.Omega.{arith}
-use Rattle.nominations.proofs.VerifiedLaws.{term-fits, source-cell, evidence-is}
+use Rattle.tier_limits.proofs.EvidenceSlots.{term-fits, source-cell}
+use Rattle.nominations.proofs.VerifiedLaws.{evidence-is}
 use borrow.Author.Needs.{needs}
 use Rattle.nominations.proofs.source_usage.has_evidence.Statement.{statement}
 use Rattle.nominations.proofs.source_usage.has_evidence.Tie as tie

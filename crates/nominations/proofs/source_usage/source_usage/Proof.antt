@@ -1,7 +1,7 @@
 -- `nominations::source_usage::source_usage` meets its contract. Assumes nothing.
 use native.Mathlib.Omega.{arith}
 use Rattle.slots.proofs.Figures.{summable}
-use Rattle.nominations.proofs.LimitLaws.{open-last}
+use Rattle.tier_limits.proofs.LimitLaws.{open-last}
 use Rattle.nominations.proofs.UsageLaws.{usage-fits, usage-is}
 use borrow.Author.Needs.{needs}
 use Rattle.nominations.proofs.source_usage.source_usage.Statement.{statement}

@@ -1,6 +1,7 @@
 -- `nominations::source_usage::verified_kw` meets its contract. Assumes nothing.
 use native.Mathlib.Omega.{arith}
-use Rattle.nominations.proofs.VerifiedLaws.{term-fits, source-cell, verified-fits, verified-is}
+use Rattle.tier_limits.proofs.EvidenceSlots.{term-fits, source-cell}
+use Rattle.nominations.proofs.VerifiedLaws.{verified-fits, verified-is}
 use borrow.Author.Needs.{needs}
 use Rattle.nominations.proofs.source_usage.verified_kw.Statement.{statement}
 use Rattle.nominations.proofs.source_usage.verified_kw.Tie as tie

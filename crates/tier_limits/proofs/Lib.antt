@@ -1,0 +1,4 @@
+pub mod PathSumLaws
+pub mod LimitLaws
+pub mod EvidenceSlots
+pub mod TenYearLaws
