@@ -1,7 +1,7 @@
 //! Seasons from seeds, replayed beside a tally of their own.
 
 mod replay;
-use replay::{replay, Coverage, Shown};
+use replay::{replay, Coverage, EvidenceState};
 
 /// The plain ledger's sums over 20,000 seasons: holdings are what was carried
 /// in and awarded, loads what was posted, no migration takes more than there
@@ -73,9 +73,9 @@ fn generated_seasons_draw_every_number() {
         );
     }
     assert!(coverage.at_the_limit > coverage.seasons, "{coverage:?}");
-    for (refused, accepted) in coverage.shown.into_iter().zip(coverage.verified) {
-        for shown in Shown::ALL {
-            assert!(refused[shown as usize] > 40, "{shown:?}: {coverage:?}");
+    for (refused, accepted) in coverage.by_evidence.into_iter().zip(coverage.verified) {
+        for state in EvidenceState::ALL {
+            assert!(refused[state as usize] > 40, "{state:?}: {coverage:?}");
         }
         assert!(accepted > 400, "{coverage:?}");
     }

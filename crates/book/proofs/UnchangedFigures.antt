@@ -5,7 +5,7 @@ use mathlib.Core.List.{List}
 use Rattle.ledger.specs.Opening.{Opening, legal}
 use Rattle.ledger.specs.Ledger.{emptyLedger}
 use Rattle.ledger.specs.Limits.{tierLimit}
-use Rattle.ledger.specs.Season.{Request}
+use Rattle.ledger.specs.Season.{Request, net}
 use Rattle.ledger.specs.NumberSplit.{afterWithout}
 use Rattle.ledger.proofs.NumberSplit.{number-split}
 use Rattle.book.specs.Reading.{ledgerOf}
@@ -21,5 +21,6 @@ pub unchanged-figures : UnchangedFigures
 unchanged-figures =
     record {
       figures = figures;
+      nets = λ o requests e p m. ap (λ L. net o L p m) (figures o requests e);
       limits = λ o requests e tier h b. ap (λ L. tierLimit o L tier h b) (figures o requests e);
     }

@@ -6,7 +6,7 @@ use mathlib.Core.List.{List}
 use Rattle.ledger.specs.Opening.{Opening, legal}
 use Rattle.ledger.specs.Ledger.{Ledger, emptyLedger}
 use Rattle.ledger.specs.Limits.{tierLimit}
-use Rattle.ledger.specs.Season.{Request}
+use Rattle.ledger.specs.Season.{Request, net}
 use Rattle.ledger.specs.NumberSplit.{afterWithout}
 use Rattle.book.specs.declared.book.Book.{Book}
 use Rattle.book.specs.Reading.{ledgerOf}
@@ -22,4 +22,5 @@ ledgerWithout o requests = afterWithout o emptyLedger (callsOf requests)
 
 pub record UnchangedFigures : Type 0 where
   pub figures : (o : Opening) (requests : List Request) → legal o ≡ true → ledgerOf (lastBook o requests) ≡ ledgerWithout o requests
+  pub nets : (o : Opening) (requests : List Request) → legal o ≡ true → (p m : ℕ) → net o (ledgerOf (lastBook o requests)) p m ≡ net o (ledgerWithout o requests) p m
   pub limits : (o : Opening) (requests : List Request) → legal o ≡ true → (tier h b : ℕ) → tierLimit o (ledgerOf (lastBook o requests)) tier h b ≡ tierLimit o (ledgerWithout o requests) tier h b

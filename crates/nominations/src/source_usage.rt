@@ -3,8 +3,8 @@ use slots::calendar::current_tier;
 use slots::coverage::covered_kw;
 use slots::coverage::is_covered;
 use slots::layout::AWARDS_SLOT;
+use slots::layout::COVERAGE_SLOT;
 use slots::layout::NOMINATED_SLOT;
-use slots::layout::VERIFIED_SLOT;
 use slots::sums::sum_from_source;
 use tariff::sizes::LAST_SEASON_TIER;
 use tariff::sizes::TERMS;
@@ -22,7 +22,7 @@ pub fn has_evidence(o: &[u64], f: &[u64], h: u64, s: u64) -> bool
     requires { ⌜ SourceInputs (now o) (now f) h s ⌝ }
     ensures { λ r. ⌜ InFigures (now (o .entry)) (now (f .entry)) (λ O L. r ≡ hasEvidence L h s (termOf (L .tiers .currentTier))) ⌝ }
 {
-    let ownership = VERIFIED_SLOT + term_of(current_tier(f));
+    let ownership = COVERAGE_SLOT + term_of(current_tier(f));
     let contract = ownership + TERMS;
     is_covered(f, h, s, ownership) | is_covered(f, h, s, contract)
 }
@@ -32,7 +32,7 @@ pub fn verified_kw(o: &[u64], f: &[u64], h: u64, s: u64) -> u64
     requires { ⌜ SourceInputs (now o) (now f) h s ⌝ }
     ensures { λ r. ⌜ InFigures (now (o .entry)) (now (f .entry)) (λ O L. r ≡ verifiedKw L h s (termOf (L .tiers .currentTier))) ⌝ }
 {
-    let ownership = VERIFIED_SLOT + term_of(current_tier(f));
+    let ownership = COVERAGE_SLOT + term_of(current_tier(f));
     let contract = ownership + TERMS;
     covered_kw(f, h, s, ownership) + covered_kw(f, h, s, contract)
 }

@@ -1,4 +1,4 @@
--- Where a number's posting is looked for, loads in slices of numbers, and verified kW term by term.
+-- Where a number's posting is looked for, loads in slices of numbers, and what is stored of an entry of evidence.
 pub mod PostedSlot
 pub mod Loads
 pub mod StoredEntry

@@ -16,11 +16,11 @@ use slots::cells::is_posted;
 use slots::cells::set_posted;
 use slots::cells::store;
 use slots::coverage::coverage;
+use slots::layout::COVERAGE_SLOT;
 use slots::layout::EVIDENCE_COUNT;
 use slots::layout::EVIDENCE_POSTED_SLOT;
 use slots::layout::EVIDENCE_SLOTS;
 use slots::layout::TEN_YEAR_SLOT;
-use slots::layout::VERIFIED_SLOT;
 use tariff::evidence::Entry;
 use tariff::evidence::Evidence;
 use tariff::evidence::Filing;
@@ -114,7 +114,7 @@ fn store_entry(f: &mut [u64], h: u64, s: u64, slot: u64, entry: Entry)
     requires { ⌜ HasCell evidenceSlots h s slot × (length (now f) ≡ figureCount) ⌝ }
     ensures { λ r. ⌜ now (f .exit) ≡ storedEntry (now (f .entry)) h s slot entry ⌝ }
 {
-    store_by_term(f, h, s, VERIFIED_SLOT + TERMS * slot, entry);
+    store_by_term(f, h, s, COVERAGE_SLOT + TERMS * slot, entry);
     let flag = when_true(is_ten_year(entry), 1);
     store(f, h, s, TEN_YEAR_SLOT + slot, flag);
 }

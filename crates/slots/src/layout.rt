@@ -29,11 +29,11 @@ pub const NOMINATED_SLOT: u64 = AWARDED_SLOT + LAST_MONTH;
 // Awards, by tier 0 to 10; 0 is no tier, and has none, and 10 is the Long Term step (02, 1/14).
 pub const AWARDS_SLOT: u64 = NOMINATED_SLOT + 1;
 
-// What evidence gives, as its coverage, by kind of evidence 1 and 2, and in it by term 0 to 3 (02, 2/14).
-pub const VERIFIED_SLOT: u64 = AWARDS_SLOT + (LONG_TERM_STEP + 1);
+// Coverage of a term by evidence (02, 2/14): by kind of evidence 1 and 2, and within a kind by term 0 to 3.
+pub const COVERAGE_SLOT: u64 = AWARDS_SLOT + (LONG_TERM_STEP + 1);
 
 // Whether evidence is ten-year evidence, 1 or 0, by kind of evidence 1 and 2 (02, 1/14).
-pub const TEN_YEAR_SLOT: u64 = VERIFIED_SLOT + EVIDENCE_KINDS * TERMS;
+pub const TEN_YEAR_SLOT: u64 = COVERAGE_SLOT + EVIDENCE_KINDS * TERMS;
 
 pub const FIGURE_SLOTS: u64 = TEN_YEAR_SLOT + EVIDENCE_KINDS;
 

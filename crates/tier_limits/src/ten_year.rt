@@ -3,8 +3,8 @@ use records::setup::sources;
 use records::sums::when_true;
 use slots::cells::read;
 use slots::coverage::covered_kw;
+use slots::layout::COVERAGE_SLOT;
 use slots::layout::TEN_YEAR_SLOT;
-use slots::layout::VERIFIED_SLOT;
 use tariff::sizes::LONG_TERM_STEP;
 use tariff::sizes::TERMS;
 ghost use mathlib.Core.Path.{_≡_};
@@ -31,8 +31,8 @@ fn ten_year_at(o: &[u64], f: &[u64], h: u64, s: u64) -> u64
 {
     let owned = read(f, h, s, TEN_YEAR_SLOT) == 1;
     let contracted = read(f, h, s, TEN_YEAR_SLOT + 1) == 1;
-    let ownership = when_true(owned, covered_kw(f, h, s, VERIFIED_SLOT));
-    let contract = when_true(contracted, covered_kw(f, h, s, VERIFIED_SLOT + TERMS));
+    let ownership = when_true(owned, covered_kw(f, h, s, COVERAGE_SLOT));
+    let contract = when_true(contracted, covered_kw(f, h, s, COVERAGE_SLOT + TERMS));
     ownership + contract
 }
 

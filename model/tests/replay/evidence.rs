@@ -4,7 +4,7 @@ use model::Verify;
 
 /// Evidence that was filed, by holder, source and term.
 #[derive(Default)]
-pub struct Filed {
+pub struct EvidenceTally {
     /// Whether there is evidence for the term.
     counts: [[[bool; 4]; 16]; 8],
     /// kW of that evidence.
@@ -17,7 +17,7 @@ pub struct Filed {
 
 /// What a holder's evidence at a source comes to in a term.
 #[derive(Clone, Copy, Debug, PartialEq, Eq)]
-pub enum Shown {
+pub enum EvidenceState {
     /// No evidence of any term.
     Nothing,
     /// Evidence of other terms alone.
@@ -30,22 +30,22 @@ pub enum Shown {
     KwLeft,
 }
 
-impl Shown {
-    pub const ALL: [Shown; 5] = [
-        Shown::Nothing,
-        Shown::OtherTerms,
-        Shown::ZeroKw,
-        Shown::UsedUp,
-        Shown::KwLeft,
+impl EvidenceState {
+    pub const ALL: [EvidenceState; 5] = [
+        EvidenceState::Nothing,
+        EvidenceState::OtherTerms,
+        EvidenceState::ZeroKw,
+        EvidenceState::UsedUp,
+        EvidenceState::KwLeft,
     ];
 
     /// Whether there is evidence for the term.
     pub fn for_the_term(self) -> bool {
-        !matches!(self, Shown::Nothing | Shown::OtherTerms)
+        !matches!(self, EvidenceState::Nothing | EvidenceState::OtherTerms)
     }
 }
 
-impl Filed {
+impl EvidenceTally {
     /// Evidence is for its months, and for the season if it runs through all
     /// three. Ten-year evidence is marked and for the season.
     pub fn accept(&mut self, verify: &Verify) {
@@ -68,22 +68,22 @@ impl Filed {
 
     /// What the evidence comes to where so many kW of it are taken, and the kW
     /// left; none where more is taken than there is.
-    pub fn shown(
+    pub fn state(
         &self,
         holder: usize,
         source: usize,
         term: usize,
         taken: u64,
-    ) -> Option<(Shown, u64)> {
+    ) -> Option<(EvidenceState, u64)> {
         let (terms, kw) = (self.counts[holder][source], self.kw[holder][source][term]);
         let left = kw.checked_sub(taken)?;
-        let shown = match (terms[term], left) {
-            (false, _) if terms.contains(&true) => Shown::OtherTerms,
-            (false, _) => Shown::Nothing,
-            (true, 0) if kw == 0 => Shown::ZeroKw,
-            (true, 0) => Shown::UsedUp,
-            (true, _) => Shown::KwLeft,
+        let state = match (terms[term], left) {
+            (false, _) if terms.contains(&true) => EvidenceState::OtherTerms,
+            (false, _) => EvidenceState::Nothing,
+            (true, 0) if kw == 0 => EvidenceState::ZeroKw,
+            (true, 0) => EvidenceState::UsedUp,
+            (true, _) => EvidenceState::KwLeft,
         };
-        Some((shown, left))
+        Some((state, left))
     }
 }

@@ -6,7 +6,7 @@ mod evidence;
 mod reader;
 mod tally;
 
-pub use evidence::Shown;
+pub use evidence::EvidenceState;
 use model::{Answer, Book, Call, Migrate, OnPath, LONG_TERM_STEP};
 pub use reader::{groups, Group};
 use tally::Tally;
@@ -41,8 +41,8 @@ pub struct Coverage {
     /// Nominations refused with 18 for the source of an earlier one alone.
     pub step_earlier_source: u64,
     /// Nominations refused with 19 or 11 by what their evidence came to
-    /// ([`Shown`]), in the season's tiers, then in the months'.
-    pub shown: [[u64; 5]; 2],
+    /// ([`EvidenceState`]), in the season's tiers, then in the months'.
+    pub by_evidence: [[u64; 5]; 2],
     /// Nominations of kind 2 holders that were accepted in the season's tiers,
     /// then in the months'.
     pub verified: [u64; 2],
@@ -138,13 +138,14 @@ impl Replay<'_> {
         match (call, number) {
             (Call::Nominate(nominate), 18) => {
                 let source = self.book.path_source(nominate.path as usize);
-                let shown = self.tally.filed.ten_year_at[nominate.holder as usize][source];
-                self.coverage.step_earlier_source += u64::from(shown);
+                let has_ten_year =
+                    self.tally.evidence.ten_year_at[nominate.holder as usize][source];
+                self.coverage.step_earlier_source += u64::from(has_ten_year);
             }
             (Call::Nominate(nominate), 11 | 19) => {
                 let (tally, seed) = (&self.tally, self.seed);
-                let shown = tally.check_unverified(nominate, number, &self.book, seed);
-                self.coverage.shown[self.of_a_month()][shown as usize] += 1;
+                let state = tally.check_unverified(nominate, number, &self.book, seed);
+                self.coverage.by_evidence[self.of_a_month()][state as usize] += 1;
             }
             _ => {}
         }

@@ -1,6 +1,6 @@
 //! What the accepted calls come to, and the sums the book has to keep.
 
-use super::evidence::{Filed, Shown};
+use super::evidence::{EvidenceState, EvidenceTally};
 use model::{Block, Book, Call, Load, Migrate, OnPath, Query, LONG_TERM_STEP};
 
 /// Sums over the accepted calls. No figure here is taken from the book but
@@ -25,7 +25,7 @@ pub struct Tally {
     past_awards: [[[u64; 9]; 16]; 8],
     /// kW awarded in the Long Term step, by holder and path.
     step_awards: [[u64; 16]; 8],
-    pub filed: Filed,
+    pub evidence: EvidenceTally,
     open: Option<u64>,
 }
 
@@ -47,7 +47,7 @@ impl Tally {
             }
             Call::Award(award) => self.accept_award(award),
             Call::Close => self.open = None,
-            Call::Verify(verify) => self.filed.accept(verify),
+            Call::Verify(verify) => self.evidence.accept(verify),
             Call::Migrate(_) => {}
         }
     }
@@ -113,7 +113,7 @@ impl Tally {
 
     /// What the Long Term step gives of load A, before LT comes off.
     fn step_limit(&self, kind: u64, holder: usize, a: i64) -> i64 {
-        let evidence = self.filed.ten_year_kw[holder] as i64;
+        let evidence = self.evidence.ten_year_kw[holder] as i64;
         match kind {
             2 => a / 2,
             _ if evidence <= a / 5 => a / 5,
@@ -178,8 +178,8 @@ impl Tally {
                 );
                 let asked = self.asks_for_evidence(book, holder, path);
                 let source = book.path_source(path);
-                let shown = self.filed.ten_year_at[holder][source];
-                assert!(!asked || shown, "seed {seed}");
+                let has_ten_year = self.evidence.ten_year_at[holder][source];
+                assert!(!asked || has_ten_year, "seed {seed}");
             }
         }
     }
@@ -251,8 +251,8 @@ impl Tally {
                 assert_eq!(book.nominated(holder, path, tier), nominated, "seed {seed}");
                 assert_eq!(book.tier_awards(holder, path, tier), awarded, "seed {seed}");
                 if nominated > 0 && book.holder_kind(holder) == 2 {
-                    let (shown, _) = self.shown(book, holder, path, seed);
-                    assert!(shown.for_the_term(), "seed {seed}");
+                    let (state, _) = self.state(book, holder, path, seed);
+                    assert!(state.for_the_term(), "seed {seed}");
                 }
             }
         }
@@ -267,24 +267,30 @@ impl Tally {
         number: u64,
         book: &Book,
         seed: u64,
-    ) -> Shown {
+    ) -> EvidenceState {
         let (holder, path) = (nominate.holder as usize, nominate.path as usize);
         assert_eq!(book.holder_kind(holder), 2, "seed {seed}");
         assert_ne!(self.open, Some(LONG_TERM_STEP), "seed {seed}");
-        let (shown, left) = self.shown(book, holder, path, seed);
-        assert_eq!(shown.for_the_term(), number == 11, "seed {seed}");
+        let (state, left) = self.state(book, holder, path, seed);
+        assert_eq!(state.for_the_term(), number == 11, "seed {seed}");
         assert!(nominate.kw > left, "seed {seed}");
-        shown
+        state
     }
 
     /// What a kind 2 holder's evidence at a path's source comes to in the open
     /// tier, and the kW left of it; no more is taken than there is.
-    pub fn shown(&self, book: &Book, holder: usize, path: usize, seed: u64) -> (Shown, u64) {
+    pub fn state(
+        &self,
+        book: &Book,
+        holder: usize,
+        path: usize,
+        seed: u64,
+    ) -> (EvidenceState, u64) {
         let source = book.path_source(path);
         let tier = self.open.expect("nominations run in an open tier");
         let taken = self.taken(book, holder, source, tier);
-        let shown = self.filed.shown(holder, source, term_of(tier), taken);
-        shown.unwrap_or_else(|| panic!("seed {seed}"))
+        let state = self.evidence.state(holder, source, term_of(tier), taken);
+        state.unwrap_or_else(|| panic!("seed {seed}"))
     }
 
     /// kW that a holder's evidence at a source has to cover: what it nominated
