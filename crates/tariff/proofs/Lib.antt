@@ -5,6 +5,7 @@ pub mod Limits
 pub mod Entering
 pub mod EvidenceBounds
 pub mod Products
+pub mod Fractions
 pub mod EvidenceRange
 pub mod Formulas
 pub mod Lists

@@ -2,6 +2,7 @@
 pub mod Sizes
 pub mod Numbers
 pub mod Sum
+pub mod Settings
 pub mod Eligible
 pub mod Terms
 pub mod Limit

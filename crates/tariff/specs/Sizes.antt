@@ -76,3 +76,11 @@ fullOwnership = 10000
 -- the mark of evidence that runs for ten years; 0 is that of any other (02, 1/14)
 abbrev pub tenYear : ℕ
 tenYear = 1
+
+-- the most that a numerator or a denominator of the settings can be (02, 3/14)
+abbrev pub maxFraction : ℕ
+maxFraction = 1000
+
+-- the numbers of the settings: six fractions (02, 3/14)
+abbrev pub settingCount : ℕ
+settingCount = 12

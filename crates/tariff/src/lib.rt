@@ -2,5 +2,6 @@
 
 pub mod evidence;
 pub mod limit;
+pub mod settings;
 pub mod sizes;
 pub mod terms;

@@ -62,3 +62,9 @@ pub const FULL_OWNERSHIP: u64 = 10_000;
 
 // The mark of evidence that runs for ten years; 0 is that of any other (02, 1/14).
 pub const TEN_YEAR: u64 = 1;
+
+// The most that a numerator or a denominator of the settings can be (02, 3/14).
+pub const MAX_FRACTION: u64 = 1_000;
+
+// The numbers of the settings: six fractions (02, 3/14).
+pub const SETTING_COUNT: usize = 12;
