@@ -5,8 +5,8 @@ use season_book::{cause, Answer};
 /// Bytes of a line that are shown.
 const MAX_SHOWN_BYTES: usize = 72;
 
-/// The words of lines that only a head can count.
-const COUNTED_WORDS: [&str; 5] = ["holder", "sink", "path", "block", "class"];
+/// The words of lines that stand in the group of a head before them.
+const COUNTED_WORDS: [&str; 6] = ["holder", "sink", "path", "set", "block", "class"];
 
 /// A group's first line, cut if it is long, with other bytes than ASCII's
 /// printed ones escaped.
@@ -16,7 +16,7 @@ pub fn head(line: &[u8]) -> String {
     format!("{}{cut}", shown.escape_ascii())
 }
 
-/// The lines that a head counts, summed up by their word.
+/// The other lines of a group, summed up by their word.
 pub fn counted(lines: &[&[u8]]) -> String {
     let mut parts = Vec::new();
     let mut others = lines.len();

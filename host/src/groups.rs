@@ -1,4 +1,5 @@
 //! The groups of a script: a head and the lines that it counts get one answer.
+//! To the book's group belongs a line directly after them that begins with `set,`.
 
 /// Where a group stands in its script.
 #[derive(Clone, Copy, Debug, PartialEq, Eq)]
@@ -25,15 +26,15 @@ pub fn groups(script: &[u8]) -> Vec<Group> {
     let mut groups = Vec::new();
     let mut consumed = 0;
     while consumed < lines.len() {
-        let head = lines[consumed];
-        let counted = if consumed == 0 {
-            book_lines(head)
+        let rest = &lines[consumed..];
+        let after_head = if consumed == 0 {
+            book_lines(rest)
         } else {
-            call_lines(head)
+            call_lines(rest[0])
         };
         let group = Group {
             first_line: consumed + 1,
-            lines: (1 + counted).min(lines.len() - consumed),
+            lines: (1 + after_head).min(rest.len()),
         };
         groups.push(group);
         consumed += group.lines;
@@ -41,12 +42,15 @@ pub fn groups(script: &[u8]) -> Vec<Group> {
     groups
 }
 
-/// The lines that the book's head counts: sources have none.
-fn book_lines(head: &[u8]) -> usize {
-    match numbers(head, b"book") {
-        Some([holders, _sources, sinks, paths]) => holders + sinks + paths,
-        None => 0,
-    }
+/// The lines of the book's group after its head: those that the head counts,
+/// sources having none, and the `set` line if there is one. No LF has to end it.
+fn book_lines(lines: &[&[u8]]) -> usize {
+    let Some([holders, _sources, sinks, paths]) = numbers(lines[0], b"book") else {
+        return 0;
+    };
+    let counted = holders + sinks + paths;
+    let next = lines.get(1 + counted);
+    counted + usize::from(next.is_some_and(|line| line.starts_with(b"set,")))
 }
 
 /// The lines that any other head counts: none unless it is a readable load or

@@ -109,6 +109,24 @@ fn odd_scripts_are_explained() {
     assert_eq!(text, "The script is empty and has no answers.\n");
     let text = explained("odd", b"book,0,0,0,0\nload,0,0,0,0,1,2\nclose\n\x1b\xff\n");
     assert!(text.contains("   2  load,0,0,0,0,1,2 with 2 other lines\n"));
+    let text = explained(
+        "set",
+        b"book,1,0,0,0\nholder,1\nset,0,1,0,1,0,1,0,1,0,1,0,1\nset\n",
+    );
+    let said =
+        "   1  book,1,0,0,0 with 1 holder line, 1 set line\n      accepted: the book is open\n";
+    assert!(text.starts_with(said), "{text}");
+    assert!(
+        text[said.len()..].starts_with("   4  set\n      refused with 1: "),
+        "{text}"
+    );
+    let text = explained("set", b"book,0,0,0,0\nset,2,1,0,1,0,1,0,1,0,1,0,1\nclose\n");
+    let said = "   1  book,0,0,0,0 with 1 set line\n      refused with 16: ";
+    assert!(text.starts_with(said), "{text}");
+    assert!(
+        text.ends_with("\nThe run stops here; lines not run: 1.\n"),
+        "{text}"
+    );
     let text = explained("odd", b"\x1b\xff");
     assert!(text.starts_with("   1  \\x1b\\xff\n      refused with 1: "));
     let text = explained("long", &[b'x'; 100]);

@@ -79,6 +79,53 @@ fn a_refused_book_group_is_the_only_one() {
     assert_eq!(places(""), []);
 }
 
+/// A line directly after the book lines that begins with `set,` is of their group,
+/// and no other line of that word is.
+#[test]
+fn a_set_line_is_of_the_book_group() {
+    let set = "set,3,4,2,3,1,200,1,50,1,5,1,2\n";
+    let book = |more: &str| places(&format!("{OPEN_BOOK}{more}"));
+    assert_eq!(book(set), [(1, 5)]);
+    assert_eq!(book(&format!("{set}net,0,1\n")), [(1, 5), (6, 1)]);
+    // A second one, one behind a call, and one that a load counts.
+    assert_eq!(book(&set.repeat(2)), [(1, 5), (6, 1)]);
+    assert_eq!(
+        book(&format!("net,0,1\n{set}net,0,1\n")),
+        [(1, 4), (5, 1), (6, 1), (7, 1)]
+    );
+    assert_eq!(
+        book(&format!("{set}load,0,0,0,0,1,1\n{set}net,0,1\n")),
+        [(1, 5), (6, 2), (8, 1)]
+    );
+    // A bare `set` stands by itself, and so does what comes behind it.
+    assert_eq!(
+        book(&format!("set\n{set}net,0,1\n")),
+        [(1, 4), (5, 1), (6, 1), (7, 1)]
+    );
+    assert_eq!(
+        places(&format!("book,0,0,0,0\n{set}close\n")),
+        [(1, 2), (3, 1)]
+    );
+}
+
+/// A `set` line that is refused is the last that is answered, ended by LF or not.
+#[test]
+fn a_refused_set_line_is_of_the_book_group() {
+    for line in [
+        "set,",
+        "set,\n",
+        "set,1,0\n",
+        "set,1,0,2,3,1,200,1,50,1,5,1,2\n",
+    ] {
+        assert_eq!(places(&format!("{OPEN_BOOK}{line}")), [(1, 5)], "{line:?}");
+    }
+    let more = format!("{OPEN_BOOK}set,x\nnet,0,1\n");
+    assert_eq!(places(&more), [(1, 5)]);
+    // In place of the last book line, and behind a head that cannot be read.
+    assert_eq!(places("book,1,0,0,0\nset,1\nnet,0,1\n"), [(1, 2)]);
+    assert_eq!(places("book,1,0,0\nset,1\nnet,0,1\n"), [(1, 1)]);
+}
+
 /// What an answer line says, on a script with one group.
 fn one_answer(line: &str) -> Result<Answer, AnswerMismatch> {
     let read = group_answers(b"book,0,0,0,0\n", line.as_bytes())?;

@@ -12,6 +12,8 @@ mod limits;
 mod loads;
 #[path = "tariff_rows/netting.rs"]
 mod netting;
+#[path = "tariff_rows/settings.rs"]
+mod settings;
 #[path = "tariff_rows/step.rs"]
 mod step;
 #[path = "tariff_rows/table.rs"]

@@ -2,6 +2,7 @@
 
 use crate::evidence::Entry;
 use crate::opening::{Opening, OBAALSE, SCHEDULING_POINT, SUB_LAP};
+use crate::settings::Settings;
 use crate::sizes::{MAX_HOLDERS, MAX_PATHS, MAX_SINKS, MAX_SOURCES, MONTHS, TERMS, TIERS};
 
 /// One figure for each holder, path and month.
@@ -22,6 +23,8 @@ pub struct Book {
     pub(crate) base: [usize; MAX_SINKS],
     pub(crate) path_source: [usize; MAX_PATHS],
     pub(crate) path_sink: [usize; MAX_PATHS],
+    /// The fractions that limits and load are reckoned with.
+    pub(crate) settings: Settings,
     /// Load by holder, sink and term, after migration.
     pub(crate) load: [[[u64; TERMS]; MAX_SINKS]; MAX_HOLDERS],
     pub(crate) load_posted: [[[bool; TERMS]; MAX_SINKS]; MAX_HOLDERS],
@@ -71,6 +74,7 @@ impl Book {
             book.path_source[path] = opening.path_sources[path] as usize;
             book.path_sink[path] = opening.path_sinks[path] as usize;
         }
+        book.settings = opening.settings;
         Ok(book)
     }
 
@@ -85,6 +89,7 @@ impl Book {
             base: [0; MAX_SINKS],
             path_source: [0; MAX_PATHS],
             path_sink: [0; MAX_PATHS],
+            settings: Settings::PRESENT,
             load: [[[0; TERMS]; MAX_SINKS]; MAX_HOLDERS],
             load_posted: [[[false; TERMS]; MAX_SINKS]; MAX_HOLDERS],
             carried: [[[0; MONTHS]; MAX_PATHS]; MAX_HOLDERS],
@@ -190,6 +195,11 @@ impl Book {
     /// Sink of a path.
     pub fn path_sink(&self, path: usize) -> usize {
         self.path_sink[path]
+    }
+
+    /// The fractions that the book was opened with.
+    pub fn settings(&self) -> Settings {
+        self.settings
     }
 
     /// Load at a sink and term 0 to 3.

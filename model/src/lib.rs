@@ -5,6 +5,7 @@
 //! to be read beside it:
 //!
 //! - [`Opening`] and [`Book::open`]: the book and its sizes;
+//! - [`Settings`]: the six fractions that a `set` line gives;
 //! - [`Book::call`]: the nine calls; [`Book::query`]: the three queries;
 //! - [`refusals`]: the nineteen causes, looked for in ascending number but for
 //!   19, which comes directly before 11, and 17 and 18, straight after 12;
@@ -31,6 +32,7 @@ mod rights;
 pub mod rules;
 mod run;
 mod script;
+pub mod settings;
 pub mod sizes;
 mod tiers;
 pub mod vectors;
@@ -41,3 +43,4 @@ pub use calls::{Answer, Block, Call, ClassLine, Load, Migrate, OnPath, Prior, Qu
 pub use evidence::{Entry, Evidence};
 pub use opening::Opening;
 pub use run::{answers, run};
+pub use settings::{Fraction, Settings};

@@ -3,6 +3,7 @@
 use crate::book::Book;
 use crate::calendar::{term_of, LONG_TERM_STEP};
 use crate::evidence::ten_year_kw;
+use crate::settings::Settings;
 
 /// The limit of a holder at a base in a tier 1 to 9 or in the Long Term step,
 /// chosen by tier number.
@@ -22,36 +23,38 @@ pub(crate) fn limit(book: &Book, holder: usize, base: usize, tier: u64) -> u64 {
     }
 }
 
-/// S, what the season gives: three quarters of load A, rounded down.
-pub(crate) fn seasonal_eligible(load: u64) -> u64 {
-    3 * load / 4
+/// S, what the season gives: three quarters of load A today, rounded down.
+pub(crate) fn seasonal_eligible(settings: &Settings, load: u64) -> u64 {
+    settings.seasonal.of(load)
 }
 
-/// P, what the first two tiers give: two thirds of S, rounded down.
-pub(crate) fn priority_eligible(load: u64) -> u64 {
-    2 * seasonal_eligible(load) / 3
+/// P, what the first two tiers give: two thirds of S today, rounded down.
+pub(crate) fn priority_eligible(settings: &Settings, load: u64) -> u64 {
+    settings.priority.of(seasonal_eligible(settings, load))
 }
 
 /// What the Long Term step gives without ten-year evidence above it: a fifth of
-/// load A, rounded down.
-pub(crate) fn fifth_of_load(load: u64) -> u64 {
-    load / 5
+/// load A today, rounded down.
+pub(crate) fn eligible_without_evidence(settings: &Settings, load: u64) -> u64 {
+    settings.without_evidence.of(load)
 }
 
-/// The most that the Long Term step gives: half of load A, rounded down.
-pub(crate) fn half_of_load(load: u64) -> u64 {
-    load / 2
+/// The most that the Long Term step gives for ten-year evidence, and that tier 1
+/// gives: half of load A today, rounded down.
+pub(crate) fn eligible_with_evidence(settings: &Settings, load: u64) -> u64 {
+    settings.with_evidence.of(load)
 }
 
-/// What LT leaves of a fifth of a holder's load at a base.
-pub(crate) fn fifth_left(book: &Book, holder: usize, base: usize) -> u64 {
+/// What LT leaves of what the Long Term step gives a holder at a base without
+/// ten-year evidence.
+pub(crate) fn left_without_evidence(book: &Book, holder: usize, base: usize) -> u64 {
     let at = AtBase {
         book,
         holder,
         base,
         term: term_of(LONG_TERM_STEP),
     };
-    fifth_of_load(at.load()).saturating_sub(at.long_term())
+    eligible_without_evidence(&book.settings, at.load()).saturating_sub(at.long_term())
 }
 
 /// What one holder has at one base, seen from a tier's term.
@@ -63,38 +66,46 @@ struct AtBase<'a> {
 }
 
 impl AtBase<'_> {
-    /// Tier 1: the lesser of P and last year's allocation, each less LT.
+    /// Tier 1: the least of P, last year's allocation and the most that ten-year
+    /// evidence gives of A, each less LT.
     fn tier_1(&self) -> u64 {
+        let (settings, load) = (&self.book.settings, self.load());
         let allocated = self.sum(|path| self.book.prior_allocated[self.holder][path]);
-        let most = priority_eligible(self.load()).min(allocated);
+        let most = priority_eligible(settings, load)
+            .min(allocated)
+            .min(eligible_with_evidence(settings, load));
         most.saturating_sub(self.long_term())
     }
 
     /// Tier 2: P less tier 1's awards and LT. Tier 3: S less both tiers' awards
     /// and LT.
     fn tier_2_or_3(&self, tier: u64) -> u64 {
+        let (settings, load) = (&self.book.settings, self.load());
         let (most, taken) = match tier {
-            2 => (priority_eligible(self.load()), self.awards(1)),
+            2 => (priority_eligible(settings, load), self.awards(1)),
             _ => (
-                seasonal_eligible(self.load()),
+                seasonal_eligible(settings, load),
                 self.awards(1) + self.awards(2),
             ),
         };
         most.saturating_sub(taken + self.long_term())
     }
 
-    /// The Long Term step: half of A for a kind 2 holder. For any other a fifth
-    /// of A, unless its ten-year evidence is above that; then the evidence, but
-    /// no more than half of A. Each less LT.
+    /// The Long Term step, with today's fractions: half of A for a kind 2 holder.
+    /// For any other a fifth of A, unless its ten-year evidence is above that;
+    /// then the evidence, but no more than half of A, be that less than the
+    /// fifth. Each less LT.
     fn long_term_step(&self) -> u64 {
-        let (fifth, half) = (fifth_of_load(self.load()), half_of_load(self.load()));
+        let (settings, load) = (&self.book.settings, self.load());
+        let without = eligible_without_evidence(settings, load);
+        let with = eligible_with_evidence(settings, load);
         let ten_year = ten_year_kw(self.book, self.holder);
         let most = if self.book.is_obaalse(self.holder) {
-            half
-        } else if ten_year > fifth {
-            ten_year.min(half)
+            with
+        } else if ten_year > without {
+            ten_year.min(with)
         } else {
-            fifth
+            without
         };
         most.saturating_sub(self.long_term())
     }
@@ -130,26 +141,49 @@ impl AtBase<'_> {
 #[cfg(test)]
 mod tests {
     use super::*;
+    use crate::settings::Fraction;
+
+    const PRESENT: Settings = Settings::PRESENT;
+
+    fn s_and_p(settings: &Settings, load: u64) -> (u64, u64) {
+        let s = seasonal_eligible(settings, load);
+        (s, priority_eligible(settings, load))
+    }
 
     /// Limits: S and P are rounded down one after the other (marked case 5).
     #[test]
     fn s_and_p_are_rounded_down_one_after_the_other() {
-        assert_eq!((seasonal_eligible(3), priority_eligible(3)), (2, 1));
-        assert_eq!((seasonal_eligible(0), priority_eligible(0)), (0, 0));
-        assert_eq!(
-            (seasonal_eligible(1_000), priority_eligible(1_000)),
-            (750, 500)
-        );
-        assert_eq!((seasonal_eligible(7), priority_eligible(7)), (5, 3));
+        assert_eq!(s_and_p(&PRESENT, 3), (2, 1));
+        assert_eq!(s_and_p(&PRESENT, 0), (0, 0));
+        assert_eq!(s_and_p(&PRESENT, 1_000), (750, 500));
+        assert_eq!(s_and_p(&PRESENT, 7), (5, 3));
         // Half of A would be 1 and 3 here.
-        assert_eq!((seasonal_eligible(2), priority_eligible(2)), (1, 0));
-        assert_eq!((seasonal_eligible(6), priority_eligible(6)), (4, 2));
+        assert_eq!(s_and_p(&PRESENT, 2), (1, 0));
+        assert_eq!(s_and_p(&PRESENT, 6), (4, 2));
+    }
+
+    /// 02, 3/14: with other fractions P is still of the rounded S.
+    #[test]
+    fn p_is_of_the_rounded_s_with_other_fractions() {
+        let settings = Settings {
+            seasonal: Fraction::new(5, 7),
+            priority: Fraction::new(7, 10),
+            ..PRESENT
+        };
+        assert_eq!(s_and_p(&settings, 14), (10, 7));
+        // 5/7 of 13 is 9.3, and 7/10 of that 6.5; of the rounded 9 it is 6.3.
+        assert_eq!(s_and_p(&settings, 13), (9, 6));
+        // 5/7 of 12 is 8.6, and 7/10 of that 6.0; of the rounded 8 it is 5.6.
+        assert_eq!(s_and_p(&settings, 12), (8, 5));
     }
 
     /// 02, 1/14: a fifth and a half are rounded down.
     #[test]
     fn fifth_and_half_are_rounded_down() {
-        let both = |load| (fifth_of_load(load), half_of_load(load));
+        let both = |load| {
+            let without = eligible_without_evidence(&PRESENT, load);
+            (without, eligible_with_evidence(&PRESENT, load))
+        };
         assert_eq!(both(0), (0, 0));
         assert_eq!(both(1), (0, 0));
         assert_eq!(both(4), (0, 2));

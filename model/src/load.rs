@@ -7,6 +7,7 @@ use crate::refusals::{
     refuse_if, BROKEN_BLOCKS, HOURS_MISSING, NOT_AT_THIS_TIME, NOT_IN_BOOK, OUT_OF_RANGE,
     POSTED_BEFORE, SINK_INELIGIBLE,
 };
+use crate::settings::{Fraction, Settings};
 use crate::sizes::{MAX_BLOCKS, MAX_HOURS, MAX_KW};
 
 /// Load: causes 2 to 7 and 10, then the load posted is added.
@@ -18,7 +19,7 @@ pub(crate) fn post(book: &mut Book, load: &Load) -> Result<(), u64> {
     let (holder, sink) = (load.holder as usize, load.sink as usize);
     let term = load.term as usize;
     refuse_if(book.load_posted[holder][sink][term], POSTED_BEFORE)?;
-    let kw = metered(load)?;
+    let kw = metered(&book.settings, load)?;
     let not_for_it = book.sink_ineligible(holder, sink) || book.is_sub_lap(sink);
     refuse_if(not_for_it, SINK_INELIGIBLE)?;
 
@@ -28,10 +29,10 @@ pub(crate) fn post(book: &mut Book, load: &Load) -> Result<(), u64> {
 }
 
 /// What the meter feed gives: causes 6 and 7, and then the load posted.
-pub(crate) fn metered(load: &Load) -> Result<u64, u64> {
+pub(crate) fn metered(settings: &Settings, load: &Load) -> Result<u64, u64> {
     refuse_if(blocks_broken(load.blocks, load.hours), BROKEN_BLOCKS)?;
-    refuse_if(too_many_missing(load), HOURS_MISSING)?;
-    Ok(load_posted(load))
+    refuse_if(too_many_missing(settings.missing, load), HOURS_MISSING)?;
+    Ok(load_posted(settings.exceedance, load))
 }
 
 /// Cause 3 of a load. First hours and lengths are left to cause 6.
@@ -64,22 +65,24 @@ fn present_hours(blocks: &[Block]) -> u64 {
     blocks.iter().map(|block| block.length).sum()
 }
 
-/// Cause 7: more than 1 hour in 50 is missing.
-fn too_many_missing(load: &Load) -> bool {
-    (load.hours - present_hours(load.blocks)) * 50 > load.hours
+/// Cause 7: more of the hours are missing than the share that may be, which is
+/// not rounded.
+fn too_many_missing(share: Fraction, load: &Load) -> bool {
+    share.passed_by(load.hours - present_hours(load.blocks), load.hours)
 }
 
 /// The load posted: the metric less contract load, not below 0.
-fn load_posted(load: &Load) -> u64 {
-    metric(load.blocks).saturating_sub(load.contract)
+fn load_posted(exceedance: Fraction, load: &Load) -> u64 {
+    metric(load.blocks, exceedance).saturating_sub(load.contract)
 }
 
-/// The lowest block kW that no more than one present hour in 200 lies above.
-/// Hours count, not blocks. With no block it is 0.
+/// The lowest block kW that no more present hours lie above than the exceedance
+/// lets, rounded down: one in 200 today. Hours count, not blocks. With no block
+/// it is 0.
 ///
 /// The blocks must be in range: no more hours than a load can have.
-pub(crate) fn metric(blocks: &[Block]) -> u64 {
-    let allowed = present_hours(blocks) / 200;
+pub(crate) fn metric(blocks: &[Block], exceedance: Fraction) -> u64 {
+    let allowed = exceedance.of(present_hours(blocks));
     let mut falling: Vec<(u64, u64)> = blocks.iter().map(|b| (b.kw, b.length)).collect();
     falling.sort_unstable_by_key(|&(kw, _)| std::cmp::Reverse(kw));
 
@@ -118,20 +121,26 @@ mod tests {
             .collect()
     }
 
+    /// The metric with the exceedance of today.
+    fn metric_today(blocks: &[Block]) -> u64 {
+        metric(blocks, Settings::PRESENT.exceedance)
+    }
+
     /// Load, metric: said over again hour by hour, as slowly as it reads.
-    fn metric_hour_by_hour(blocks: &[Block]) -> u64 {
+    fn metric_hour_by_hour(blocks: &[Block], exceedance: Fraction) -> u64 {
         let hours: Vec<u64> = blocks
             .iter()
             .flat_map(|b| vec![b.kw; b.length as usize])
             .collect();
-        let allowed = hours.len() / 200;
+        let product = hours.len() * exceedance.numerator as usize;
+        let allowed = product / exceedance.denominator as usize;
         let fits = |kw: &u64| hours.iter().filter(|&&h| h > *kw).count() <= allowed;
         blocks.iter().map(|b| b.kw).filter(fits).min().unwrap_or(0)
     }
 
     /// Load, metric: the sorted reckoning agrees with the one hour by hour.
     #[test]
-    fn metric_is_the_smallest_block_kw_exceeded_in_one_hour_of_200() {
+    fn metric_is_the_smallest_block_kw_exceeded_in_so_few_hours() {
         let mut random = Random::new(1);
         for _ in 0..3_000 {
             let count = random.up_to(12);
@@ -140,25 +149,31 @@ mod tests {
                 .map(|_| (1 + random.up_to(180), random.up_to(ceiling)))
                 .collect();
             let blocks = blocks(&list);
-            assert_eq!(metric(&blocks), metric_hour_by_hour(&blocks), "{list:?}");
+            let denominator = random.select(&[1, 2, 7, 100, 200, 1_000]);
+            let any = Fraction::new(random.up_to(denominator), denominator);
+            for exceedance in [Settings::PRESENT.exceedance, any] {
+                let slow = metric_hour_by_hour(&blocks, exceedance);
+                let fast = metric(&blocks, exceedance);
+                assert_eq!(fast, slow, "{list:?} {exceedance:?}");
+            }
         }
     }
 
     /// Load, metric: one hour above is allowed from 200 present hours on.
     #[test]
     fn metric_allows_one_hour_above_from_200_present_hours() {
-        assert_eq!(metric(&blocks(&[(198, 7), (1, 9)])), 9);
-        assert_eq!(metric(&blocks(&[(199, 7), (1, 9)])), 7);
-        assert_eq!(metric(&blocks(&[(197, 7), (1, 8), (2, 9)])), 9);
-        assert_eq!(metric(&blocks(&[(198, 7), (1, 8), (1, 9)])), 8);
-        assert_eq!(metric(&blocks(&[(397, 7), (2, 8), (1, 9)])), 8);
-        assert_eq!(metric(&blocks(&[(398, 7), (1, 8), (1, 9)])), 7);
+        assert_eq!(metric_today(&blocks(&[(198, 7), (1, 9)])), 9);
+        assert_eq!(metric_today(&blocks(&[(199, 7), (1, 9)])), 7);
+        assert_eq!(metric_today(&blocks(&[(197, 7), (1, 8), (2, 9)])), 9);
+        assert_eq!(metric_today(&blocks(&[(198, 7), (1, 8), (1, 9)])), 8);
+        assert_eq!(metric_today(&blocks(&[(397, 7), (2, 8), (1, 9)])), 8);
+        assert_eq!(metric_today(&blocks(&[(398, 7), (1, 8), (1, 9)])), 7);
     }
 
     /// Load, metric: with no block there is nothing to meter.
     #[test]
     fn metric_of_no_block_is_0() {
-        assert_eq!(metric(&[]), 0);
+        assert_eq!(metric_today(&[]), 0);
     }
 
     /// Load, blocks: first hours and lengths of any size end in cause 6.

@@ -1,6 +1,7 @@
 //! The opening: what a book is drawn up from, and when it breaks the rules.
 
 use crate::refusals::{refuse_if, BREAKS_RULES};
+use crate::settings::Settings;
 use crate::sizes::{MAX_HOLDERS, MAX_PATHS, MAX_SINKS, MAX_SOURCES};
 
 /// Holder kind 1: a load-serving entity.
@@ -17,7 +18,7 @@ pub const CUSTOM_LAP: u64 = 3;
 /// Sink kind 4: a scheduling point.
 pub const SCHEDULING_POINT: u64 = 4;
 
-/// What opening takes: four counts and the lists they count.
+/// What opening takes: four counts, the lists they count, and the settings.
 #[derive(Clone, Debug, Default, PartialEq, Eq)]
 pub struct Opening {
     pub holders: u64,
@@ -34,6 +35,8 @@ pub struct Opening {
     pub path_sources: Vec<u64>,
     /// Sink of each path.
     pub path_sinks: Vec<u64>,
+    /// The six fractions; the present ones where no `set` line gives others.
+    pub settings: Settings,
 }
 
 impl Opening {
@@ -44,7 +47,8 @@ impl Opening {
             || !self.kinds_known()
             || !self.parents_fit()
             || !self.paths_fit()
-            || self.path_twice();
+            || self.path_twice()
+            || !self.settings.are_legal();
         refuse_if(broken, BREAKS_RULES)
     }
 

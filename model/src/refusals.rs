@@ -12,7 +12,7 @@ pub const NOT_AT_THIS_TIME: u64 = 4;
 pub const POSTED_BEFORE: u64 = 5;
 /// Meter feed: no block, or blocks that break their order or their end.
 pub const BROKEN_BLOCKS: u64 = 6;
-/// Meter feed: more than one hour in fifty is missing.
+/// Meter feed: more hours are missing than may be, one in fifty today.
 pub const HOURS_MISSING: u64 = 7;
 /// Distribution company: customers moved to their own holder, or a kind 2 holder.
 pub const NOT_BETWEEN_LSES: u64 = 8;

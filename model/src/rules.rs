@@ -7,6 +7,7 @@ use crate::book::Book;
 use crate::calls::{Block, Call, ClassLine, Load, Migrate, Verify};
 use crate::migrate::{all_known, any_loss_exceeds_load, in_range, net, shared_out};
 use crate::opening::{Opening, DEFAULT_LAP, LSE};
+use crate::settings::Settings;
 use crate::sizes::{MAX_HOLDERS, TERMS};
 use crate::{calendar, evidence, limit, load};
 
@@ -27,37 +28,43 @@ pub struct Sums {
 
 /// The load posted, or the refusal: causes 6 and 7.
 ///
-/// Hours and contract may be of any size, as long as 50 times the missing
-/// hours fit 64 bits.
-pub fn posted(blocks: &[Block], hours: u64, contract: u64) -> Result<u64, u64> {
-    load::metered(&Load {
+/// Hours and contract may be of any size, as long as the hours times each
+/// numerator, and the missing hours times their denominator, fit 64 bits.
+pub fn posted(
+    settings: &Settings,
+    blocks: &[Block],
+    hours: u64,
+    contract: u64,
+) -> Result<u64, u64> {
+    let load = Load {
         holder: 0,
         sink: 0,
         term: 0,
         contract,
         hours,
         blocks,
-    })
+    };
+    load::metered(settings, &load)
 }
 
 /// S of a load.
-pub fn seasonal_eligible(load: u64) -> u64 {
-    limit::seasonal_eligible(load)
+pub fn seasonal_eligible(settings: &Settings, load: u64) -> u64 {
+    limit::seasonal_eligible(settings, load)
 }
 
 /// P of a load.
-pub fn priority_eligible(load: u64) -> u64 {
-    limit::priority_eligible(load)
+pub fn priority_eligible(settings: &Settings, load: u64) -> u64 {
+    limit::priority_eligible(settings, load)
 }
 
-/// A fifth of a load.
-pub fn fifth_of_load(load: u64) -> u64 {
-    limit::fifth_of_load(load)
+/// What the Long Term step gives of a load without ten-year evidence.
+pub fn eligible_without_evidence(settings: &Settings, load: u64) -> u64 {
+    limit::eligible_without_evidence(settings, load)
 }
 
-/// Half of a load.
-pub fn half_of_load(load: u64) -> u64 {
-    limit::half_of_load(load)
+/// The most that it gives with such evidence.
+pub fn eligible_with_evidence(settings: &Settings, load: u64) -> u64 {
+    limit::eligible_with_evidence(settings, load)
 }
 
 /// The term of a tier 1 to 9, or of the Long Term step.
@@ -68,9 +75,10 @@ pub fn term_of(tier: u64) -> usize {
 /// The limit of an LSE in a tier 1 to 9, or in the Long Term step without
 /// ten-year evidence, from a book of one path with these sums.
 ///
-/// Three times the load, and the awards with LT, have to fit 64 bits.
-pub fn limit(tier: u64, sums: &Sums) -> u64 {
+/// The load times each numerator, and the awards with LT, have to fit 64 bits.
+pub fn limit(settings: &Settings, tier: u64, sums: &Sums) -> u64 {
     let mut book = book_of(1);
+    book.settings = *settings;
     book.load[0][0] = [sums.load; TERMS];
     book.carried[0][0] = [sums.carried; 3];
     book.prior_allocated[0][0] = sums.prior;
@@ -155,6 +163,7 @@ fn book_of(holders: usize) -> Book {
         sink_parents: vec![0],
         path_sources: vec![0],
         path_sinks: vec![0],
+        settings: Settings::PRESENT,
     };
     Book::open(&opening).expect("an opening that keeps the rules")
 }

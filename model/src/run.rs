@@ -5,6 +5,7 @@ use crate::calls::{Answer, Block, Call, ClassLine, Load, Migrate};
 use crate::opening::Opening;
 use crate::refusals::{OUTPUT_TOO_SHORT, UNREADABLE};
 use crate::script::{self, Head};
+use crate::settings::Settings;
 use crate::sizes::{MAX_SCRIPT_BYTES, MAX_SCRIPT_LINES, OUTPUT_BYTES_PER_LINE};
 use std::io::Write;
 
@@ -71,8 +72,8 @@ pub(crate) fn answer_groups(book: &mut Book, lines: &[&[u8]], out: &mut Vec<u8>)
     }
 }
 
-/// The book group: a readable head and the lines it counts, else 1; then the
-/// opening, which can only be 16.
+/// The book group: a readable head, the lines it counts and a `set` line if one
+/// follows them, else 1; then the opening, which can only be 16.
 fn open_group(lines: &[&[u8]]) -> Result<(Book, usize), u64> {
     let (opening, consumed) = read_opening(lines).ok_or(UNREADABLE)?;
     Ok((Book::open(&opening)?, consumed))
@@ -89,6 +90,8 @@ fn read_opening(lines: &[&[u8]]) -> Option<(Opening, usize)> {
     rest = &rest[sink_lines.len()..];
     let path_lines = script::counted(rest, paths, script::path_line)?;
     rest = &rest[path_lines.len()..];
+    let (settings, set_lines) = read_settings(rest)?;
+    rest = &rest[set_lines..];
     let opening = Opening {
         holders,
         sources,
@@ -99,8 +102,19 @@ fn read_opening(lines: &[&[u8]]) -> Option<(Opening, usize)> {
         sink_parents: sink_lines.iter().map(|&[_, parent]| parent).collect(),
         path_sources: path_lines.iter().map(|&[source, _]| source).collect(),
         path_sinks: path_lines.iter().map(|&[_, sink]| sink).collect(),
+        settings,
     };
     Some((opening, lines.len() - rest.len()))
+}
+
+/// Reads the settings from the lines behind the book lines, and how many lines
+/// they are written on: one that begins with `set,` has to be readable, and
+/// without it the present figures hold.
+fn read_settings(lines: &[&[u8]]) -> Option<(Settings, usize)> {
+    match lines.first() {
+        Some(line) if script::begins_settings(line) => Some((script::set_line(line)?, 1)),
+        _ => Some((Settings::PRESENT, 0)),
+    }
 }
 
 /// One group: its answer and the number of lines it takes. A head takes the

@@ -1,18 +1,12 @@
 //! Reading a script: lines, numbers, heads and the lines that heads count.
 
 use crate::calls::{Block, Call, ClassLine, Load, Migrate, OnPath, Prior, Query, Verify};
+use crate::settings::Settings;
 
-/// The lines of a script. A last line that no LF ends counts, but no one can
-/// read it; it is handed on as an empty line, which is just as unreadable.
+/// The lines of a script, each with its LF. A last line that no LF ends counts,
+/// but no one can read it.
 pub(crate) fn lines(script: &[u8]) -> Vec<&[u8]> {
-    let mut lines: Vec<&[u8]> = script.split(|&byte| byte == b'\n').collect();
-    // What stands after the last LF: nothing there is no line.
-    if let Some(last) = lines.pop() {
-        if !last.is_empty() {
-            lines.push(b"");
-        }
-    }
-    lines
+    script.split_inclusive(|&byte| byte == b'\n').collect()
 }
 
 /// The number of lines, counted without keeping them.
@@ -33,8 +27,9 @@ fn number(field: &[u8]) -> Option<u64> {
     Some(field.iter().fold(0, digit))
 }
 
-/// The fields after the word: exactly N numbers, parted by commas.
+/// The fields after the word: exactly N numbers, parted by commas, then LF.
 fn fields<const N: usize>(line: &[u8], word: &[u8]) -> Option<[u64; N]> {
+    let line = line.strip_suffix(b"\n")?;
     let mut parts = line.split(|&byte| byte == b',');
     if parts.next()? != word {
         return None;
@@ -48,7 +43,8 @@ fn fields<const N: usize>(line: &[u8], word: &[u8]) -> Option<[u64; N]> {
 
 /// The word a line begins with.
 fn word(line: &[u8]) -> &[u8] {
-    line.split(|&byte| byte == b',').next().unwrap_or(b"")
+    let end = |&byte: &u8| byte == b',' || byte == b'\n';
+    line.split(end).next().unwrap_or(b"")
 }
 
 /// A head of a call or query. Load and migrate still lack the lines they count.
@@ -63,8 +59,8 @@ pub(crate) enum Head {
     Migrate(Migrate<'static>, u64),
 }
 
-/// Reads a head by its word. A second `book`, and a line that only a head can
-/// count, are no heads.
+/// Reads a head by its word. A second `book`, a `set` that does not stand behind
+/// the book lines, and a line that only a head can count, are no heads.
 pub(crate) fn head(line: &[u8]) -> Option<Head> {
     match word(line) {
         b"load" => load(line),
@@ -171,6 +167,17 @@ pub(crate) fn path_line(line: &[u8]) -> Option<[u64; 2]> {
     fields(line, b"path")
 }
 
+/// Whether a line, ended or not, is the `set` line of the book group if it stands
+/// directly behind the book lines.
+pub(crate) fn begins_settings(line: &[u8]) -> bool {
+    line.starts_with(b"set,")
+}
+
+/// The six fractions of a `set` line.
+pub(crate) fn set_line(line: &[u8]) -> Option<Settings> {
+    fields(line, b"set").map(Settings::from_numbers)
+}
+
 /// A block of a load.
 pub(crate) fn block_line(line: &[u8]) -> Option<Block> {
     let [first, length, kw] = fields(line, b"block")?;
@@ -234,9 +241,10 @@ mod tests {
     fn lines_end_in_lf_and_bytes_left_over_are_one_more() {
         let none: [&[u8]; 0] = [];
         assert_eq!(lines(b""), none);
-        assert_eq!(lines(b"a\n"), [b"a"]);
-        assert_eq!(lines(b"a\n\nb\n"), [b"a" as &[u8], b"", b"b"]);
-        assert_eq!(lines(b"a\nclose"), [b"a" as &[u8], b""]);
+        assert_eq!(lines(b"a\n"), [b"a\n"]);
+        assert_eq!(lines(b"a\n\nb\n"), [b"a\n" as &[u8], b"\n", b"b\n"]);
+        assert_eq!(lines(b"a\nclose"), [b"a\n" as &[u8], b"close"]);
+        assert!(head(b"close\n").is_some() && head(b"close").is_none());
         for script in ["", "a", "\n", "a\n", "a\n\n", "a\nb", "\n\nb"] {
             assert_eq!(
                 count_lines(script.as_bytes()),
@@ -248,13 +256,32 @@ mod tests {
     /// Script: a line has its word and its count of fields, no more, no less.
     #[test]
     fn fields_are_exactly_those_of_the_word() {
-        assert_eq!(fields(b"close", b"close"), Some([]));
-        assert_eq!(fields(b"open,3", b"open"), Some([3]));
+        assert_eq!(fields(b"close\n", b"close"), Some([]));
+        assert_eq!(fields(b"open,3\n", b"open"), Some([3]));
         for bad in [
             "open", "open,", "open,3,", "open,3,4", "opens,3", "OPEN,3", ",3", "open,3\r",
         ] {
-            assert_eq!(fields::<1>(bad.as_bytes(), b"open"), None, "{bad:?}");
+            let line = format!("{bad}\n");
+            assert_eq!(fields::<1>(line.as_bytes(), b"open"), None, "{bad:?}");
         }
-        assert_eq!(fields::<0>(b"close,", b"close"), None);
+        assert_eq!(fields::<1>(b"open,3", b"open"), None);
+        assert_eq!(fields::<0>(b"close,\n", b"close"), None);
+    }
+
+    /// 02, 3/14: a line is the book group's by its first four bytes, and read
+    /// only if all of it can be.
+    #[test]
+    fn a_set_line_is_told_by_its_first_four_bytes() {
+        for line in ["set,", "set,\n", "set,3", "set,x\n", "set,,\n"] {
+            assert!(begins_settings(line.as_bytes()), "{line:?}");
+            assert!(set_line(line.as_bytes()).is_none(), "{line:?}");
+        }
+        for line in [
+            "set", "set\n", "sets,1\n", "Set,1\n", " set,1\n", "set 1\n", "",
+        ] {
+            assert!(!begins_settings(line.as_bytes()), "{line:?}");
+        }
+        let line = b"set,3,4,2,3,1,200,1,50,1,5,1,2\n";
+        assert!(set_line(line) == Some(Settings::PRESENT) && head(line).is_none());
     }
 }

@@ -4,7 +4,7 @@ use crate::book::Book;
 use crate::calendar::{open_in_time, term_of, LONG_TERM_STEP};
 use crate::calls::OnPath;
 use crate::evidence::{has_evidence, has_ten_year, verified};
-use crate::limit::{fifth_left, limit};
+use crate::limit::{left_without_evidence, limit};
 use crate::refusals::{
     refuse_if, ABOVE_LIMIT, ABOVE_NOMINATED, ABOVE_PRIOR, ABOVE_TIER_1_AWARD, ABOVE_VERIFIED,
     NOT_AT_THIS_TIME, NOT_IN_BOOK, NO_TEN_YEAR_EVIDENCE, OUT_OF_RANGE, SINK_INELIGIBLE, UNVERIFIED,
@@ -178,7 +178,7 @@ pub(crate) fn tier_1_award_room(book: &Book, holder: usize, path: usize, tier: u
 /// Cause 18, as the kW still free: in the Long Term step the source of this
 /// nomination, and of each earlier one at the base, has ten-year evidence.
 /// Where one has none a kind 2 holder has no room, and any other has what LT
-/// and its nominations at the base leave of a fifth of its load.
+/// and its nominations at the base leave of what the step gives without it.
 pub(crate) fn ten_year_room(book: &Book, holder: usize, path: usize, tier: u64) -> u64 {
     let base = book.base_of_path(path);
     let nominated = |other: usize| nominated_in(book, holder, other, tier) > 0;
@@ -192,7 +192,7 @@ pub(crate) fn ten_year_room(book: &Book, holder: usize, path: usize, tier: u64) 
         0
     } else {
         let nominated = nominated_at(book, holder, base, tier);
-        fifth_left(book, holder, base).saturating_sub(nominated)
+        left_without_evidence(book, holder, base).saturating_sub(nominated)
     }
 }
 

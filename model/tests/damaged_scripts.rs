@@ -80,14 +80,14 @@ fn damaged_scripts_never_panic() {
 fn scripts_of_shuffled_words_never_panic() {
     let words = [
         "book", "holder", "sink", "path", "load", "block", "carry", "prior", "verify", "migrate",
-        "class", "open", "nominate", "award", "close", "limit", "held", "net", "",
+        "class", "open", "nominate", "award", "close", "limit", "held", "net", "set", "",
     ];
     let mut random = model::generate::Random::new(3);
     for seed in 0..5_000 {
         let mut script = b"book,1,1,1,1\nholder,1\nsink,1,0\npath,0,0\n".to_vec();
         for _ in 0..random.below(40) {
             script.extend_from_slice(random.select(&words).as_bytes());
-            for _ in 0..random.below(8) {
+            for _ in 0..random.below(14) {
                 let number = random.up_to(3);
                 script.extend_from_slice(format!(",{number}").as_bytes());
             }

@@ -81,6 +81,37 @@ fn generated_seasons_draw_every_number() {
     }
 }
 
+/// Every other season has settings of its own, and many nominations are accepted
+/// under them. Each of tier 1's three is strictly the least in a good many
+/// limits, evidence lowers the step's limit in some, and the `set` line is wrong
+/// in each way: refused with 1 and with 16, and where it does not belong.
+#[test]
+fn generated_seasons_draw_settings() {
+    let mut coverage = Coverage::default();
+    for seed in 60_000..62_000 {
+        replay(seed, &mut coverage);
+    }
+    println!("{coverage:?}");
+    let Coverage { seasons, set, .. } = coverage;
+    assert!(set[0] * 5 > seasons * 2, "{coverage:?}");
+    assert!(set[1] * 10 > seasons * 3, "{coverage:?}");
+    assert!(coverage.set_refused[0] > 30, "{coverage:?}");
+    assert!(coverage.set_refused[1] > 30, "{coverage:?}");
+    assert!(coverage.stray_sets * 2 > seasons, "{coverage:?}");
+    for least in coverage.tier_1_least {
+        assert!(least > 400, "{coverage:?}");
+    }
+    assert!(coverage.lowered_by_evidence > 100, "{coverage:?}");
+    assert!(coverage.mostly_missing > 1_000, "{coverage:?}");
+    for (refused, least) in coverage.by_settings.into_iter().zip([200, 200, 60]) {
+        assert!(refused > least, "{coverage:?}");
+    }
+    // As many for each such season as for one with the present figures, nearly.
+    let others = coverage.nominated - coverage.nominated_by_settings;
+    let by_season = coverage.nominated_by_settings * (seasons - set[1]);
+    assert!(by_season * 10 > others * set[1] * 7, "{coverage:?}");
+}
+
 /// A season comes from its seed alone.
 #[test]
 fn same_seed_gives_same_season() {

@@ -383,6 +383,7 @@ fn book() -> Book {
         sink_parents: vec![0],
         path_sources: vec![0],
         path_sinks: vec![0],
+        ..Opening::default()
     })
     .expect("a book that keeps the rules");
     let block = Block {

@@ -55,3 +55,36 @@ fn every_kind_of_line_is_there() {
         assert!(count(word) >= least, "{word}");
     }
 }
+
+/// The numbers of a table of a file.
+fn numbers(file: &str, table: &str) -> Vec<u64> {
+    let start = file.find(&format!("pub const {table}: ")).expect(table);
+    let lines = file[start..].lines().skip(1);
+    let lines = lines.take_while(|line| *line != "];");
+    let numbers = lines.filter_map(|line| line.trim().strip_suffix(','));
+    numbers.filter_map(|number| number.parse().ok()).collect()
+}
+
+/// 02, 3/14: each row of loads and limits names legal settings by where they
+/// stand, the present ones in some rows and a good many others.
+#[test]
+fn every_row_names_its_settings() {
+    for (name, rows, width) in [
+        ("load_rows.rt", "ROWS", 7),
+        ("limit_rows.rt", "LOADS", 2),
+        ("limit_rows.rt", "ROWS", 11),
+    ] {
+        let file = of_the_crate(&format!("src/{name}"));
+        let (rows, sets) = (numbers(&file, rows), numbers(&file, "SETS"));
+        assert_eq!(rows.len() % width, 0, "{name}");
+        let places = rows.chunks(width).map(|row| row[width - 1] as usize);
+        let mut of_rows: Vec<&[u64]> = places.map(|place| &sets[place..place + 12]).collect();
+        for pair in of_rows.iter().flat_map(|set| set.chunks(2)) {
+            assert!(pair[0] <= pair[1] && (1..=1_000).contains(&pair[1]));
+        }
+        assert!(of_rows.contains(&&model::Settings::PRESENT.numbers()[..]));
+        of_rows.sort();
+        of_rows.dedup();
+        assert!(of_rows.len() > 15, "{name}: {} sets", of_rows.len());
+    }
+}

@@ -2,7 +2,10 @@
 //! as it was.
 
 use model::generate::Random;
-use model::{Block, Book, Call, ClassLine, Load, Migrate, OnPath, Opening, Prior, Query, Verify};
+use model::{
+    Block, Book, Call, ClassLine, Fraction, Load, Migrate, OnPath, Opening, Prior, Query, Settings,
+    Verify,
+};
 
 fn opening() -> Opening {
     Opening {
@@ -15,6 +18,7 @@ fn opening() -> Opening {
         sink_parents: vec![0, 0, 2],
         path_sources: vec![0, 1, 0, 1],
         path_sinks: vec![0, 1, 2, 2],
+        settings: Settings::PRESENT,
     }
 }
 
@@ -197,12 +201,52 @@ fn any_opening_is_a_book_or_16() {
                 *count = any(&mut random);
             }
         }
+        if random.one_in(4) {
+            let mut numbers = opening.settings.numbers();
+            let place = random.below(numbers.len());
+            numbers[place] = any(&mut random);
+            opening.settings = Settings::from_numbers(numbers);
+        }
         match Book::open(&opening) {
             Ok(_) => opened += 1,
             Err(number) => assert_eq!(number, 16),
         }
     }
     assert!(opened > 500);
+}
+
+/// 02, 3/14: the opening takes the settings; a bad pair, in whichever place, is
+/// 16, and the book has the settings that it was opened with.
+#[test]
+fn settings_of_an_opening_are_the_books_or_16() {
+    assert_eq!(Opening::default().settings, Settings::PRESENT);
+    let opened = Book::open(&opening()).expect("a book");
+    assert_eq!(opened.settings(), Settings::PRESENT);
+    let with = |place: usize, numerator, denominator| {
+        let mut fractions = Settings::PRESENT.in_order();
+        fractions[place] = Fraction::new(numerator, denominator);
+        let mut opening = opening();
+        opening.settings = Settings::from_order(fractions);
+        (opening.settings, Book::open(&opening))
+    };
+    for place in 0..6 {
+        for (numerator, denominator) in [(0, 1), (1, 1), (0, 1_000), (1_000, 1_000), (2, 3)] {
+            let (settings, book) = with(place, numerator, denominator);
+            assert_eq!(book.map(|book| book.settings()), Ok(settings));
+        }
+        for (numerator, denominator) in [
+            (0, 0),
+            (2, 1),
+            (1_000, 999),
+            (0, 1_001),
+            (1_001, 1_001),
+            (u64::MAX, u64::MAX),
+            (u64::MAX, 1),
+        ] {
+            let (_, book) = with(place, numerator, denominator);
+            assert_eq!(book, Err(16), "{place}: {numerator}/{denominator}");
+        }
+    }
 }
 
 /// The book: a list longer or shorter than its count is a broken count.

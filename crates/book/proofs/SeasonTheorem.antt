@@ -22,7 +22,7 @@ use Rattle.ledger.proofs.Settled.{step-within-tier-1}
 use Rattle.records.specs.declared.answers.Answer.the-variants.{Value}
 use Rattle.records.specs.Answers.{answerOf}
 use Rattle.book.specs.SeasonTheorem.{callsOf, SeasonHolds, SeasonTheorem}
-use Rattle.book.proofs.ReachableSteps.{bookAt, at-ledger, at-query}
+use Rattle.book.proofs.ReachableSteps.{bookAt, at-opening, at-ledger, at-query}
 use Rattle.book.proofs.SeasonAnswers.{last-book, season-answered}
 
 -- a query that meets no cause is answered with its figure
@@ -43,6 +43,7 @@ holds-at : (o : Opening) (e : legal o ≡ true) (cs : List Call) → SeasonHolds
 unfolding queryValue loadSum
 holds-at o e cs =
     record {
+      opening = at-opening o e cs;
       figures = at-ledger o e cs;
       heldAnswered = λ h p m i j k. at-query o e cs (heldOn h p m) ∙ value-answered o (after o cs) (heldOn h p m) (held-accepted o (after o cs) h p m i j k);
       netAnswered = λ p m j k. at-query o e cs (netOn p m) ∙ value-answered o (after o cs) (netOn p m) (net-accepted o (after o cs) p m j k);

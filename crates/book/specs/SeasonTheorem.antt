@@ -18,7 +18,7 @@ use Rattle.book.specs.declared.book.Book.{Book}
 use Rattle.records.specs.declared.answers.Answer.{Answer}
 use Rattle.records.specs.declared.answers.Answer.the-variants.{Value}
 use Rattle.records.specs.Answers.{answerIn}
-use Rattle.book.specs.Reading.{ledgerOf}
+use Rattle.book.specs.Reading.{ledgerOf, openingOfBook}
 use Rattle.book.specs.Outcomes.{outcomeOf, queryAnswerIn}
 use Rattle.book.specs.Opened.{openingOutcome}
 
@@ -46,7 +46,9 @@ seasonAnswers o requests = openingOutcome o .answer ∷ cond (legal o) (answersO
 
 -- what holds of the last book after a legal opening
 pub record SeasonHolds (o : Opening) (cs : List Call) (last : Book) : Type 0 where
-  -- 2. Its arrays hold the plain ledger's figures, all of them, and held and net answer the ledger's holding and its sum over the holders.
+  -- 2. It keeps its opening, the settings with it, and its arrays hold the plain ledger's figures, all of them; held and net answer the ledger's holding and its sum
+  -- over the holders.
+  pub opening : openingOfBook last ≡ o
   pub figures : ledgerOf last ≡ after o cs
   pub heldAnswered : (h p m : ℕ) → h < o .holders → p < o .paths → isMonth m ≡ true → queryAnswerIn last (heldOn h p m) ≡ Value (held (after o cs) h p m)
   pub netAnswered : (p m : ℕ) → p < o .paths → isMonth m ≡ true → queryAnswerIn last (netOn p m) ≡ Value (net o (after o cs) p m)

@@ -1,4 +1,4 @@
-// Opening a book (01, The book; cause 16).
+// Opening a book (01, The book; 02, 3/14; cause 16).
 use crate::book::Book;
 use crate::book::Outcome;
 use opening::opening::open;
@@ -8,6 +8,7 @@ use slots::layout::FIGURE_COUNT;
 use slots::layout::POSTED_COUNT;
 use tariff::evidence::Entry;
 use tariff::evidence::Evidence;
+use tariff::settings::Settings;
 ghost use mathlib.Core.Path.{_≡_};
 ghost use Rattle.ledger.specs.Ledger.{emptyLedger};
 ghost use Rattle.records.specs.Opening.{openingFrom};
@@ -27,7 +28,7 @@ pub fn no_evidence() -> [Entry; EVIDENCE_COUNT]
     [none; EVIDENCE_COUNT]
 }
 
-// Opens a book, for any counts and slices.
+// Opens a book, for any counts, slices and settings.
 pub fn open_book(
     holders: u64,
     sources: u64,
@@ -38,8 +39,9 @@ pub fn open_book(
     sink_parents: &[u64],
     path_sources: &[u64],
     path_sinks: &[u64],
+    settings: Settings,
 ) -> Outcome
-    ensures { λ r. ⌜ r ≡ openingOutcome (openingFrom holders sources sinks paths (now («holder_kinds» .entry)) (now («sink_kinds» .entry)) (now («sink_parents» .entry)) (now («path_sources» .entry)) (now («path_sinks» .entry))) ⌝ }
+    ensures { λ r. ⌜ r ≡ openingOutcome (openingFrom holders sources sinks paths (now («holder_kinds» .entry)) (now («sink_kinds» .entry)) (now («sink_parents» .entry)) (now («path_sources» .entry)) (now («path_sinks» .entry)) settings) ⌝ }
 {
     let mut kept = [0u64; OPENING_COUNT];
     let answer = open(
@@ -53,6 +55,7 @@ pub fn open_book(
         sink_parents,
         path_sources,
         path_sinks,
+        settings,
     );
     let evidence = no_evidence();
     Outcome {

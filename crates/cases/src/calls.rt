@@ -4,6 +4,7 @@ use book::book::Book;
 use book::book::Outcome;
 use book::opened::open_book;
 use netting::netting::ClassLine;
+use tariff::settings::present_settings;
 ghost use mathlib.Core.Path.{_≡_};
 ghost use Prim.Native.Nat.{_≤_};
 ghost use lib.ListN.{take};
@@ -39,6 +40,7 @@ pub fn open(kinds: &[u64], sink_kind: u64, path_sources: &[u64], path_sinks: &[u
         &sink_parents,
         path_sources,
         path_sinks,
+        present_settings(),
     ))
 }
 

@@ -24,7 +24,7 @@ use Rattle.book.proofs.OpenedLaws.{opened-reachable}
 use Rattle.lines.specs.declared.rows.Row.{Row}
 use Rattle.lines.specs.declared.book_lines.BookLists.{BookLists}
 use Rattle.lines.specs.declared.lines.NextRow.{NextRow}
-use Rattle.lines.specs.Rows.{rowsOf, bookLine, holderLine, sinkLine, pathLine, field, allOfKind, counted, holderRows, sinkRows, pathRows}
+use Rattle.lines.specs.Rows.{rowsOf, bookLine, holderLine, sinkLine, pathLine, field, allOfKind, counted, holderRows, sinkRows, pathRows, setReadable, bookLineCount}
 use Rattle.lines.specs.Reading.{nextRow}
 use Rattle.lines.specs.Counted.{bytesOfLines}
 use Rattle.lines.specs.BookLines.{bookLinesComplete, bookListsOf}
@@ -62,7 +62,8 @@ readable-parts head rows =
     let h = counted holderLine (field 0 head) (holderRows head rows) in
     let s = counted sinkLine (field 2 head) (sinkRows head rows) in
     let p = counted pathLine (field 3 head) (pathRows head rows) in
-    ap (λ t. t && p) (and-assoc kind h s) ∙ and-assoc kind (h && s) p ∙ and-comm kind ((h && s) && p)
+    let r = setReadable head rows in
+    ap (λ t. (t && p) && r) (and-assoc kind h s) ∙ ap (λ t. t && r) (and-assoc kind (h && s) p) ∙ and-assoc kind ((h && s) && p) r ∙ and-comm kind (((h && s) && p) && r)
 
 -- the lists of the lines that a head counts, read from what is left after it
 module _ (head : Row) (rest : List ℕ) (lists : BookLists) (e : lists ≡ bookListsOf head rest) where
@@ -70,18 +71,18 @@ module _ (head : Row) (rest : List ℕ) (lists : BookLists) (e : lists ≡ bookL
   rows = rowsOf rest
 
   abbrev group : ℕ → BookGroup
-  group consumed = bookGroupWith head rows (consumed + bytesOfLines (field 0 head + field 2 head + field 3 head) rest)
+  group consumed = bookGroupWith head rows (consumed + bytesOfLines (bookLineCount head rows) rest)
 
   lists-complete : lists .complete ≡ bookLinesComplete head rows
   unfolding bookListsOf
   lists-complete = ap (λ l. l .complete) e
 
-  lists-consumed : lists .consumed ≡ bytesOfLines (field 0 head + field 2 head + field 3 head) rest
+  lists-consumed : lists .consumed ≡ bytesOfLines (bookLineCount head rows) rest
   unfolding bookListsOf
   lists-consumed = ap (λ l. l .consumed) e
 
   pub lists-within : lists .consumed ≤ length rest
-  lists-within = le-trans (le-of-eq lists-consumed) (bytes-within (field 0 head + field 2 head + field 3 head) rest)
+  lists-within = le-trans (le-of-eq lists-consumed) (bytes-within (bookLineCount head rows) rest)
 
   is-readable : (lists .complete && eqb (head .kind) bookLine) ≡ bookReadable head rows
   is-readable = ap (λ t. t && eqb (head .kind) bookLine) lists-complete ∙ sym (readable-parts head rows)
@@ -92,7 +93,7 @@ module _ (head : Row) (rest : List ℕ) (lists : BookLists) (e : lists ≡ bookL
     unfolding bookLinesComplete
     all-counted =
         let there = sym lists-complete ∙ and-both (lists .complete) (eqb (head .kind) bookLine) readable .0 in
-        let last = and-both _ _ there in
+        let last = and-both _ _ (and-both _ _ there .0) in
         let first = and-both _ _ (last .0) in
         (as-counted holderLine (field 0 head) (holderRows head rows) (first .0), as-counted sinkLine (field 2 head) (sinkRows head rows) (first .1), as-counted pathLine (field 3 head) (pathRows head rows) (last .1))
 
@@ -104,7 +105,7 @@ module _ (head : Row) (rest : List ℕ) (lists : BookLists) (e : lists ≡ bookL
         let so = sym (sym is-readable ∙ readable) in
         let done = ed ∙ ap isDone ea' ∙ done-legal o in
         (λ i. record { answer = ea' i; consumed = consumed + lists-consumed i; «is_open» = done i })
-        ∙ (λ i. record { answer = cond (so i) (openingAnswer o) (Refused unreadable); consumed = consumed + bytesOfLines (field 0 head + field 2 head + field 3 head) rest; «is_open» = so i && legal o })
+        ∙ (λ i. record { answer = cond (so i) (openingAnswer o) (Refused unreadable); consumed = consumed + bytesOfLines (bookLineCount head rows) rest; «is_open» = so i && legal o })
 
     pub opening-put : (o₀ o₁ : List ℕ) → o₁ ≡ openingArray (resultingOpening (openingKept head lists)) → o₁ ≡ openingLeft head rows o₀
     unfolding openingLeft
@@ -118,7 +119,7 @@ module _ (head : Row) (rest : List ℕ) (lists : BookLists) (e : lists ≡ bookL
         let o = openingOfRows head rows in
         let so = sym (sym is-readable ∙ unread) in
         (λ i. record { answer = Refused unreadable; consumed = consumed + lists-consumed i; «is_open» = false })
-        ∙ (λ i. record { answer = cond (so i) (openingAnswer o) (Refused unreadable); consumed = consumed + bytesOfLines (field 0 head + field 2 head + field 3 head) rest; «is_open» = so i && legal o })
+        ∙ (λ i. record { answer = cond (so i) (openingAnswer o) (Refused unreadable); consumed = consumed + bytesOfLines (bookLineCount head rows) rest; «is_open» = so i && legal o })
 
     pub opening-stays : (o : List ℕ) → o ≡ openingLeft head rows o
     unfolding openingLeft
@@ -126,9 +127,9 @@ module _ (head : Row) (rest : List ℕ) (lists : BookLists) (e : lists ≡ bookL
 
 -- the head and what is left are those of the script
 groupAt : NextRow → List ℕ → BookGroup
-groupAt f rest = bookGroupWith (f .row) (rowsOf rest) (f .consumed + bytesOfLines (field 0 (f .row) + field 2 (f .row) + field 3 (f .row)) rest)
+groupAt f rest = bookGroupWith (f .row) (rowsOf rest) (f .consumed + bytesOfLines (bookLineCount (f .row) (rowsOf rest)) rest)
 
-pub whole-group : (script : List ℕ) (f : NextRow) → f ≡ nextRow script → bookGroupWith (f .row) (rowsOf (take (length script - f .consumed) (drop (f .consumed) script))) (f .consumed + bytesOfLines (field 0 (f .row) + field 2 (f .row) + field 3 (f .row)) (take (length script - f .consumed) (drop (f .consumed) script))) ≡ bookGroupOf script
+pub whole-group : (script : List ℕ) (f : NextRow) → f ≡ nextRow script → bookGroupWith (f .row) (rowsOf (take (length script - f .consumed) (drop (f .consumed) script))) (f .consumed + bytesOfLines (bookLineCount (f .row) (rowsOf (take (length script - f .consumed) (drop (f .consumed) script)))) (take (length script - f .consumed) (drop (f .consumed) script))) ≡ bookGroupOf script
 unfolding bookGroupOf groupAt
 whole-group script f e =
     ap (groupAt f) (rest-all script (f .consumed))
@@ -141,7 +142,7 @@ whole-opening script o f e =
     ∙ ap (λ g. openingLeft (g .row) (rowsOf (drop (g .consumed) script)) o) e
 
 -- where the calls begin
-pub group-consumed : (script : List ℕ) → bookGroupOf script .consumed ≡ nextRow script .consumed + bytesOfLines (field 0 (nextRow script .row) + field 2 (nextRow script .row) + field 3 (nextRow script .row)) (drop (nextRow script .consumed) script)
+pub group-consumed : (script : List ℕ) → bookGroupOf script .consumed ≡ nextRow script .consumed + bytesOfLines (bookLineCount (nextRow script .row) (rowsOf (drop (nextRow script .consumed) script))) (drop (nextRow script .consumed) script)
 unfolding bookGroupOf bookGroupWith
 group-consumed script = refl
 
@@ -153,7 +154,7 @@ module _ (script : List ℕ) where
   left = drop (nextRow script .consumed) script
 
   abbrev counted-lines : ℕ
-  counted-lines = field 0 first + field 2 first + field 3 first
+  counted-lines = bookLineCount first (rowsOf left)
 
   pub group-within : bookGroupOf script .consumed ≤ length script
   group-within =

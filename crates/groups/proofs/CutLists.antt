@@ -20,7 +20,7 @@ use Rattle.records.specs.declared.answers.Answer.the-variants.{Refused}
 use Rattle.opening.specs.Opened.{openingAnswer, resultingOpening}
 use Rattle.lines.specs.declared.rows.Row.{Row}
 use Rattle.lines.specs.declared.book_lines.BookLists.{BookLists}
-use Rattle.lines.specs.Rows.{rowsOf, field, holderRows, sinkRows, pathRows}
+use Rattle.lines.specs.Rows.{rowsOf, field, holderRows, sinkRows, pathRows, settingsOfRows}
 use Rattle.lines.specs.BookLines.{firstPlaces, firstFields, bookListsOf}
 use Rattle.groups.specs.Groups.{openingOfRows}
 use Rattle.groups.specs.BookGroup.{FullLists, openingKept}
@@ -28,7 +28,7 @@ use Rattle.groups.specs.BookGroup.{FullLists, openingKept}
 -- a count above its size breaks the rules
 not-legal : (o : Opening) → countsFit o ≡ false → legal o ≡ false
 unfolding legal
-not-legal o e = and-left-false _ (and-left-false _ (and-left-false _ (and-left-false _ (and-left-false _ e))))
+not-legal o e = and-left-false _ (and-left-false _ (and-left-false _ (and-left-false _ (and-left-false _ (and-left-false _ e)))))
 
 refused-for-counts : (o : Opening) → countsFit o ≡ false → openingAnswer o ≡ Refused breaksRules
 unfolding openingAnswer openingRefusal
@@ -94,7 +94,7 @@ module _ (head : Row) (lists : BookLists) (full : FullLists lists) where
   abbrev count : ℕ → ℕ
   count k = getD (head .fields) k 0
 
-  pub lent-opening : (h s p : ℕ) → h ≡ min (count 0) maxPlaces → s ≡ min (count 2) maxPlaces → p ≡ min (count 3) maxPlaces → openingFrom (count 0) (count 1) (count 2) (count 3) (take h (lists .«holder_kinds»)) (take s (lists .«sink_kinds»)) (take s (lists .«sink_parents»)) (take p (lists .«path_sources»)) (take p (lists .«path_sinks»)) ≡ openingKept head lists
+  pub lent-opening : (h s p : ℕ) → h ≡ min (count 0) maxPlaces → s ≡ min (count 2) maxPlaces → p ≡ min (count 3) maxPlaces → openingFrom (count 0) (count 1) (count 2) (count 3) (take h (lists .«holder_kinds»)) (take s (lists .«sink_kinds»)) (take s (lists .«sink_parents»)) (take p (lists .«path_sources»)) (take p (lists .«path_sinks»)) (lists .settings) ≡ openingKept head lists
   unfolding openingKept field
   lent-opening h s p eh es ep =
       λ i.
@@ -104,11 +104,24 @@ module _ (head : Row) (lists : BookLists) (full : FullLists lists) where
       (lent-cut (count 2) s es (lists .«sink_parents») (full .ofSinkParents) i)
       (lent-cut (count 3) p ep (lists .«path_sources») (full .ofPathSources) i)
       (lent-cut (count 3) p ep (lists .«path_sinks») (full .ofPathSinks) i)
+      (lists .settings)
 
 -- the lists that are kept of a head's lines
 module _ (head : Row) (rest : List ℕ) (lists : BookLists) (e : lists ≡ bookListsOf head rest) where
   abbrev rows : List Row
   rows = rowsOf rest
+
+  -- each has its 16 numbers
+  pub full-lists : FullLists lists
+  unfolding bookListsOf firstFields firstPlaces
+  full-lists =
+      record {
+        ofHolderKinds = ap (λ l. length (l .«holder_kinds»)) e ∙ length-tabulate maxPlaces _;
+        ofSinkKinds = ap (λ l. length (l .«sink_kinds»)) e ∙ length-tabulate maxPlaces _;
+        ofSinkParents = ap (λ l. length (l .«sink_parents»)) e ∙ length-tabulate maxPlaces _;
+        ofPathSources = ap (λ l. length (l .«path_sources»)) e ∙ length-tabulate maxPlaces _;
+        ofPathSinks = ap (λ l. length (l .«path_sinks»)) e ∙ length-tabulate maxPlaces _;
+      }
 
   module _ (there : (length (holderRows head rows) ≡ field 0 head) × (length (sinkRows head rows) ≡ field 2 head) × (length (pathRows head rows) ≡ field 3 head)) where
     abbrev read : Opening
@@ -130,6 +143,7 @@ module _ (head : Row) (rest : List ℕ) (lists : BookLists) (e : lists ≡ bookL
           sinkParents = fields-are-all 1 (field 2 head) (sinkRows head rows) (there .1) (small .1) i;
           pathSources = fields-are-all 0 (field 3 head) (pathRows head rows) (there .2) (small .2) i;
           pathSinks = fields-are-all 1 (field 3 head) (pathRows head rows) (there .2) (small .2) i;
+          settings = settingsOfRows head rows;
         }
 
     same-counts : countsFit (openingKept head lists) ≡ countsFit read

@@ -1,4 +1,4 @@
--- The book group that a script begins with: what it is answered, the opening that it leaves, and where the calls begin (01, Script and host).
+-- The book group that a script begins with: what it is answered, the opening that it leaves, and where the calls begin (01, Script and host; 02, 3/14).
 use Prim.Native.Nat.{ℕ, _+_}
 use mathlib.Core.Path.{_≡_}
 use mathlib.Core.Bool.{Bool, true, false, cond, _&&_}
@@ -13,7 +13,7 @@ use Rattle.records.specs.declared.answers.Answer.the-variants.{Done, Value, Ref
 use Rattle.opening.specs.Opened.{openingAnswer, resultingOpening}
 use Rattle.lines.specs.declared.rows.Row.{Row}
 use Rattle.lines.specs.declared.book_lines.BookLists.{BookLists}
-use Rattle.lines.specs.Rows.{rowsOf, field}
+use Rattle.lines.specs.Rows.{rowsOf, field, bookLineCount}
 use Rattle.lines.specs.Reading.{nextRow}
 use Rattle.lines.specs.Counted.{bytesOfLines}
 use Rattle.groups.specs.declared.book_group.BookGroup.{BookGroup}
@@ -33,7 +33,7 @@ pub record FullLists (lists : BookLists) : Type 0 where
   pub ofPathSources : length (lists .«path_sources») ≡ maxPlaces
   pub ofPathSinks : length (lists .«path_sinks») ≡ maxPlaces
 
--- the opening of a head with the lists that were kept: of each as many as the head counts, or all that there are
+-- the opening of a head with the lists and the settings that were kept: of each as many as the head counts, or all that there are
 unfoldable pub openingKept : Row → BookLists → Opening
 openingKept head lists =
     openingFrom (field 0 head) (field 1 head) (field 2 head) (field 3 head)
@@ -42,6 +42,7 @@ openingKept head lists =
     (take (field 2 head) (lists .«sink_parents»))
     (take (field 3 head) (lists .«path_sources»))
     (take (field 3 head) (lists .«path_sinks»))
+    (lists .settings)
 
 module _ (head : Row) (rows : List Row) where
   -- a group that is unreadable is refused with 1; like a refused opening it opens no book
@@ -62,7 +63,7 @@ unfoldable pub bookGroupOf : List ℕ → BookGroup
 bookGroupOf script =
     let head = nextRow script .row in
     let rest = drop (nextRow script .consumed) script in
-    bookGroupWith head (rowsOf rest) (nextRow script .consumed + bytesOfLines (field 0 head + field 2 head + field 3 head) rest)
+    bookGroupWith head (rowsOf rest) (nextRow script .consumed + bytesOfLines (bookLineCount head (rowsOf rest)) rest)
 
 unfoldable pub openingAfter : List ℕ → List ℕ → List ℕ
 openingAfter script o = openingLeft (nextRow script .row) (rowsOf (drop (nextRow script .consumed) script)) o

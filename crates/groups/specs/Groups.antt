@@ -1,5 +1,5 @@
 -- Groups: a head and the lines that it counts, and the request that they make (01, Script and host).
-use Prim.Native.Nat.{ℕ, zero, suc, _+_}
+use Prim.Native.Nat.{ℕ, zero, suc}
 use mathlib.Core.Bool.{Bool, cond, _&&_}
 use mathlib.Core.List.{List, [], _∷_, map}
 use lib.ListN.{length, take, drop}
@@ -10,7 +10,7 @@ use Rattle.ledger.specs.Opening.{Opening}
 use Rattle.ledger.specs.Call.{load, carry, prior, verify, migrate, openTier, nominate, award, closeTier, limitOf, heldOn, netOn}
 use Rattle.ledger.specs.Season.{Request, call, query}
 use Rattle.lines.specs.declared.rows.Row.{Row}
-use Rattle.lines.specs.Rows.{field, counted, bookLine, holderLine, sinkLine, pathLine, loadLine, blockLine, carryLine, priorLine, verifyLine, migrateLine, classLine, openLine, nominateLine, awardLine, closeLine, limitLine, heldLine, netLine, holderRows, sinkRows, pathRows}
+use Rattle.lines.specs.Rows.{field, counted, bookLine, holderLine, sinkLine, pathLine, loadLine, blockLine, carryLine, priorLine, verifyLine, migrateLine, classLine, openLine, nominateLine, awardLine, closeLine, limitLine, heldLine, netLine, holderRows, sinkRows, pathRows, setReadable, settingsOfRows, bookLineCount}
 
 unfoldable pub blockOf : Row → Block
 blockOf r = record { first = field 0 r; hours = field 1 r; kw = field 2 r }
@@ -67,7 +67,7 @@ groupsFrom (suc most) (r ∷ rows) = requestOf r (take (linesCounted r) rows) �
 unfoldable pub groupsOf : List Row → List Group
 groupsOf rows = groupsFrom (length rows) rows
 
--- the book group: its head and the rows after that
+-- the book group: its head and the rows after that; a set line directly after the lines that the head counts is of the group (02, 3/14)
 module _ (head : Row) (rows : List Row) where
   unfoldable pub bookReadable : Bool
   bookReadable =
@@ -75,6 +75,7 @@ module _ (head : Row) (rows : List Row) where
       && counted holderLine (field 0 head) (holderRows head rows)
       && counted sinkLine (field 2 head) (sinkRows head rows)
       && counted pathLine (field 3 head) (pathRows head rows)
+      && setReadable head rows
 
   unfoldable pub openingOfRows : Opening
   openingOfRows =
@@ -88,8 +89,9 @@ module _ (head : Row) (rows : List Row) where
         sinkParents = map (field 1) (sinkRows head rows);
         pathSources = map (field 0) (pathRows head rows);
         pathSinks = map (field 1) (pathRows head rows);
+        settings = settingsOfRows head rows;
       }
 
   -- the rows after the book group
   unfoldable pub callRows : List Row
-  callRows = drop (field 0 head + field 2 head + field 3 head) rows
+  callRows = drop (bookLineCount head rows) rows

@@ -1,4 +1,4 @@
-// The book group that a script begins with (01, Script and host).
+// The book group that a script begins with (01, Script and host; 02, 3/14).
 use lines::book_lines::BookLists;
 use lines::book_lines::read_book_lines;
 use lines::lines::next_row;
@@ -33,7 +33,7 @@ fn lent_length(count: u64) -> usize
     MAX_PLACES
 }
 
-// Opens the book of a head, in a lent array, from the lists of its lines. Where a count is above 16 a list is cut, and the count alone breaks the rules.
+// Opens the book of a head, in a lent array, from the lists and the settings of its lines. Where a count is above 16 a list is cut, and the count alone breaks the rules.
 fn open_from_lists(o: &mut [u64], head: Row, lists: BookLists) -> Answer
     requires opening { ⌜ length (now o) ≡ openingCount ⌝ }
     requires lists { ⌜ FullLists lists ⌝ }
@@ -49,6 +49,7 @@ fn open_from_lists(o: &mut [u64], head: Row, lists: BookLists) -> Answer
     let sink_parents = lists.sink_parents;
     let path_sources = lists.path_sources;
     let path_sinks = lists.path_sinks;
+    let settings = lists.settings;
     open(
         o,
         fields[0],
@@ -60,6 +61,7 @@ fn open_from_lists(o: &mut [u64], head: Row, lists: BookLists) -> Answer
         &sink_parents[..sinks],
         &path_sources[..paths],
         &path_sinks[..paths],
+        settings,
     )
 }
 

@@ -18,6 +18,7 @@ use Rattle.ledger.specs.Call.{Call}
 use Rattle.ledger.specs.Limits.{sumAtBase, nominatedAt}
 use Rattle.tariff.specs.Ranges.{maxKw}
 use Rattle.ledger.specs.Season.{after}
+use Rattle.ledger.proofs.LegalFacts.{legal-facts}
 use Rattle.ledger.proofs.Conserved.{carriedSum, awardedSum, loadSum}
 use Rattle.ledger.proofs.Once.{once-bound}
 use Rattle.ledger.proofs.TierBounds.{Bounded, bounded, nominatedSum, awardsSum}
@@ -29,10 +30,9 @@ maxTogether = 8 * maxKw
 
 -- a legal opening has at most 8 holders and 16 paths
 pub legal-counts : (o : Opening) → legal o ≡ true → (o .holders ≤ 8) × (o .sources ≤ 16) × (o .sinks ≤ 16) × (o .paths ≤ 16)
-unfolding legal countsFit
+unfolding countsFit
 legal-counts o e =
-    let counts = and-both _ _ (and-both _ _ (and-both _ _ (and-both _ _ (and-both _ _ e .0) .0) .0) .0) .0 in
-    let three = and-both _ _ counts in
+    let three = and-both _ _ (legal-facts o e .countsFit) in
     let two = and-both _ _ (three .0) in
     let one = and-both _ _ (two .0) in
     (leb-true _ _ (one .0), leb-true _ _ (one .1), leb-true _ _ (two .1), leb-true _ _ (three .1))
@@ -66,7 +66,7 @@ figures-fit o ok cs =
     let L = after o cs in
     let n = o .holders in
     let few = legal-counts o ok .0 in
-    let k = bounded o cs in
+    let k = bounded o (legal-facts o ok .settings) cs in
     let one = k .once in
     let awardsAll = awards-fit few k in
     record {

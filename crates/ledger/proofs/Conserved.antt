@@ -106,7 +106,7 @@ module _ (o : Opening) (p m : ℕ) where
 module _ (o : Opening) (s t : ℕ) where
   pub load-adds : Adds (loadSum o s t) (λ L c. contribution o L c .posted s t) o
   unfolding loadSum contribution noContribution effect withLoads withRights withPriors withEvidence withTiers migrated transferredWhere loadsAfter afterLoad loadBefore
-  load-adds L (load h q term contract n blocks) e = in-place o h q term (loadPosted contract blocks) (L .loads .kw) s t (load-facts o L h q term contract n blocks e .holder)
+  load-adds L (load h q term contract n blocks) e = in-place o h q term (loadPosted (o .settings) contract blocks) (L .loads .kw) s t (load-facts o L h q term contract n blocks e .holder)
   load-adds L (carry h q kw) e = omega arith
   load-adds L (prior h q a l) e = omega arith
   load-adds L (verify h q kind capacity right first last mark) e = omega arith

@@ -5,6 +5,7 @@ pub mod QueryFacts
 pub mod PostingFacts
 pub mod TierFacts
 pub mod NumberSplit
+pub mod PresentFigures
 pub mod Steps
 pub mod Columns
 pub mod Conserved
@@ -21,3 +22,4 @@ pub mod NeverBelowZero
 pub mod Bounds
 pub mod SumBounds
 pub mod Outside
+pub mod LegalFacts

@@ -43,7 +43,7 @@ once-load o L x q term contract n blocks k e =
     record {
       loadColumn =
           λ s t.
-          once-post (o .holders) x (loadPosted contract blocks) (eqb s q && eqb t term) (eqb s q && eqb t term) (λ h. L .loads .kw h s t) (λ h. L .loads .posted h s t) (λ h. eqb h x && eqb s q && eqb t term) (λ h. eqb h x && eqb s q && eqb t term) (λ h. and-assoc (eqb h x) (eqb s q) (eqb t term)) (λ h. and-assoc (eqb h x) (eqb s q) (eqb t term)) (f .holder) (posted-le maxKw contract blocks (f .blockKw)) (λ w. w) (λ w. let both = and-both (eqb s q) (eqb t term) w in (λ i. L .loads .posted x (eqb-true s q (both .0) i) (eqb-true t term (both .1) i)) ∙ f .new) (k .loadColumn s t);
+          once-post (o .holders) x (loadPosted (o .settings) contract blocks) (eqb s q && eqb t term) (eqb s q && eqb t term) (λ h. L .loads .kw h s t) (λ h. L .loads .posted h s t) (λ h. eqb h x && eqb s q && eqb t term) (λ h. eqb h x && eqb s q && eqb t term) (λ h. and-assoc (eqb h x) (eqb s q) (eqb t term)) (λ h. and-assoc (eqb h x) (eqb s q) (eqb t term)) (f .holder) (posted-le (o .settings) maxKw contract blocks (f .blockKw)) (λ w. w) (λ w. let both = and-both (eqb s q) (eqb t term) w in (λ i. L .loads .posted x (eqb-true s q (both .0) i) (eqb-true t term (both .1) i)) ∙ f .new) (k .loadColumn s t);
       carriedColumn = k .carriedColumn;
       allocatedColumn = k .allocatedColumn;
       remainingColumn = k .remainingColumn;

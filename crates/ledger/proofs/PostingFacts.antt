@@ -34,7 +34,7 @@ pub record LoadFacts (o : Opening) (L : Ledger) (h s term contract n : ℕ) (blo
   pub early : L .tiers .lastClosed < firstTierOf term
   pub new : L .loads .posted h s term ≡ false
   pub unbroken : blocksBroken n blocks ≡ false
-  pub present : tooManyMissing n blocks ≡ false
+  pub present : tooManyMissing (o .settings) n blocks ≡ false
   pub sinkEligible : kindIneligible o h s ≡ false
   pub isBase : isSubLap o s ≡ false
 

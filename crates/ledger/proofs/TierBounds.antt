@@ -8,6 +8,7 @@ use native.Mathlib.Omega.{arith}
 use lib.Dec.{eqb}
 use borrow.Author.Tests.{eqb-true, eqb-false}
 use Rattle.tariff.specs.Sum.{whenTrue, sumTo}
+use Rattle.tariff.specs.Settings.{settingsLegal}
 use Rattle.tariff.specs.Terms.{termOf, hasMonth, enteringKw}
 use Rattle.tariff.proofs.Sums.{when-is-true, when-le, when-zero, sum-ext, sum-le, sum-zero}
 use Rattle.tariff.proofs.Limits.{limit-le-load}
@@ -39,21 +40,21 @@ nominatedSum o L b t = sumTo (o .holders) (λ h. nominatedAt o L h b t)
 abbrev pub NominatedBound : Opening → Ledger → Type 0
 NominatedBound o L = (b t : ℕ) → nominatedSum o L b t ≤ o .holders * maxKw
 
-tier-limit-le-load : (o : Opening) (L : Ledger) (t h b : ℕ) → 1 ≤ t → tierLimit o L t h b ≤ L .loads .kw h b (termOf t)
+tier-limit-le-load : (o : Opening) (L : Ledger) (t h b : ℕ) → settingsLegal (o .settings) ≡ true → 1 ≤ t → tierLimit o L t h b ≤ L .loads .kw h b (termOf t)
 unfolding tierLimit limitSums
-tier-limit-le-load o L t h b l = limit-le-load t (limitSums o L t h b) l
+tier-limit-le-load o L t h b legal l = limit-le-load (o .settings) legal (limitSums o L t h b) t l
 
 -- in an open tier nominations are within limits, those within loads, and those are bounded
-open-bound : (o : Opening) (L : Ledger) (b : ℕ) → WithinLimit o L → PostedOnce o L → 1 ≤ L .tiers .currentTier → nominatedSum o L b (L .tiers .currentTier) ≤ o .holders * maxKw
+open-bound : (o : Opening) (L : Ledger) (b : ℕ) → settingsLegal (o .settings) ≡ true → WithinLimit o L → PostedOnce o L → 1 ≤ L .tiers .currentTier → nominatedSum o L b (L .tiers .currentTier) ≤ o .holders * maxKw
 unfolding nominatedSum
-open-bound o L b w k isOpen =
+open-bound o L b legal w k isOpen =
     let t = L .tiers .currentTier in
-    le-trans (sum-le (o .holders) (λ h l. le-trans (w isOpen h b) (tier-limit-le-load o L t h b isOpen)))
+    le-trans (sum-le (o .holders) (λ h l. le-trans (w isOpen h b) (tier-limit-le-load o L t h b legal isOpen)))
     (once-bound (o .holders) (λ h. L .loads .kw h b (termOf t)) (λ h. L .loads .posted h b (termOf t)) (k .loadColumn b (termOf t)))
 
-nominate-bound : (o : Opening) (L : Ledger) (x q kw : ℕ) → TiersSound (L .tiers) → WithinLimit o L → PostedOnce o L → NominatedBound o L → accepted o L (nominate x q kw) ≡ true → NominatedBound o (effect o L (nominate x q kw))
+nominate-bound : (o : Opening) (L : Ledger) (x q kw : ℕ) → settingsLegal (o .settings) ≡ true → TiersSound (L .tiers) → WithinLimit o L → PostedOnce o L → NominatedBound o L → accepted o L (nominate x q kw) ≡ true → NominatedBound o (effect o L (nominate x q kw))
 unfolding effect withTiers afterNominate nominatedSum nominatedAt
-nominate-bound o L x q kw k w one old e b t = go (eqb t (L .tiers .currentTier)) refl
+nominate-bound o L x q kw legal k w one old e b t = go (eqb t (L .tiers .currentTier)) refl
   where
     c : Call
     c = nominate x q kw
@@ -61,7 +62,7 @@ nominate-bound o L x q kw k w one old e b t = go (eqb t (L .tiers .currentTier))
     go : (d : Bool) → eqb t (L .tiers .currentTier) ≡ d → nominatedSum o (effect o L c) b t ≤ o .holders * maxKw
     go true d =
         subst (λ n. nominatedSum o (effect o L c) b n ≤ o .holders * maxKw) (sym (eqb-true t (L .tiers .currentTier) d))
-        (open-bound o (effect o L c) b (within-effect o L c k w e) (once-effect o L c one e) (nominate-facts o L x q kw e .isOpen))
+        (open-bound o (effect o L c) b legal (within-effect o L c k w e) (once-effect o L c one e) (nominate-facts o L x q kw e .isOpen))
     go false d =
         le-trans
         (le-of-eq
@@ -79,17 +80,17 @@ close-bound o L k old b t =
     lower true h p false = le-refl (L .tiers .nominated h p t)
     lower false h p d = le-refl 0
 
-nominated-effect : (o : Opening) (L : Ledger) (c : Call) → TiersSound (L .tiers) → WithinLimit o L → PostedOnce o L → NominatedBound o L → accepted o L c ≡ true → NominatedBound o (effect o L c)
+nominated-effect : (o : Opening) (L : Ledger) (c : Call) → settingsLegal (o .settings) ≡ true → TiersSound (L .tiers) → WithinLimit o L → PostedOnce o L → NominatedBound o L → accepted o L c ≡ true → NominatedBound o (effect o L c)
 unfolding effect withLoads withRights withPriors withEvidence withTiers migrated afterOpen awardsAfter nominatedSum nominatedAt
-nominated-effect o L (load h s term contract n blocks) k w one old e = old
-nominated-effect o L (carry h p kw) k w one old e = old
-nominated-effect o L (prior h p a l) k w one old e = old
-nominated-effect o L (verify h s kind capacity right first last mark) k w one old e = old
-nominated-effect o L (migrate term sink lines) k w one old e = old
-nominated-effect o L (openTier tier) k w one old e = old
-nominated-effect o L (nominate h p kw) k w one old e = nominate-bound o L h p kw k w one old e
-nominated-effect o L (award h p kw) k w one old e = old
-nominated-effect o L closeTier k w one old e = close-bound o L k old
+nominated-effect o L (load h s term contract n blocks) legal k w one old e = old
+nominated-effect o L (carry h p kw) legal k w one old e = old
+nominated-effect o L (prior h p a l) legal k w one old e = old
+nominated-effect o L (verify h s kind capacity right first last mark) legal k w one old e = old
+nominated-effect o L (migrate term sink lines) legal k w one old e = old
+nominated-effect o L (openTier tier) legal k w one old e = old
+nominated-effect o L (nominate h p kw) legal k w one old e = nominate-bound o L h p kw legal k w one old e
+nominated-effect o L (award h p kw) legal k w one old e = old
+nominated-effect o L closeTier legal k w one old e = close-bound o L k old
 
 -- per path, the awards of all holders in all tiers; the Long Term step's stand in no holding and are left out
 unfoldable pub awardsSum : Opening → Ledger → ℕ → ℕ
@@ -159,13 +160,13 @@ pub record Bounded (o : Opening) (L : Ledger) : Type 0 where
   pub nominations : NominatedBound o L
   pub awards : AwardedBound o L
 
-bounded-step : (o : Opening) (L : Ledger) (c : Call) → Bounded o L → Bounded o (step o L c)
-bounded-step o L c k =
+bounded-step : (o : Opening) → settingsLegal (o .settings) ≡ true → (L : Ledger) (c : Call) → Bounded o L → Bounded o (step o L c)
+bounded-step o legal L c k =
     record {
       sound = sound-step o L c (k .sound);
       within = within-step o L c (k .sound) (k .within);
       once = once-step o L c (k .once);
-      nominations = step-keeps (NominatedBound o) o L c (k .nominations) (nominated-effect o L c (k .sound) (k .within) (k .once) (k .nominations));
+      nominations = step-keeps (NominatedBound o) o L c (k .nominations) (nominated-effect o L c legal (k .sound) (k .within) (k .once) (k .nominations));
       awards = step-keeps (AwardedBound o) o L c (k .awards) (awarded-effect o L c (k .sound) (k .awards));
     }
 
@@ -180,6 +181,6 @@ bounded-empty o =
       awards = λ p m. le-trans (le-of-eq (sum-zero (o .holders) (λ h l. refl))) zero-le;
     }
 
--- it holds after every list of calls
-pub bounded : (o : Opening) (cs : List Call) → Bounded o (after o cs)
-bounded o cs = after-keeps (Bounded o) o (bounded-step o) (bounded-empty o) cs
+-- it holds after every list of calls, whatever the legal settings
+pub bounded : (o : Opening) → settingsLegal (o .settings) ≡ true → (cs : List Call) → Bounded o (after o cs)
+bounded o legal cs = after-keeps (Bounded o) o (bounded-step o legal) (bounded-empty o) cs

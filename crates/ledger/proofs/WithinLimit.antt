@@ -40,7 +40,7 @@ limit-steady o L (migrate term sink lines) h b e isOpen = absurd (closed-only L 
 limit-steady o L (openTier tier) h b e isOpen = absurd (closed-only L (open-facts o L tier e .idle) isOpen)
 limit-steady o L (nominate x q kw) h b e isOpen = refl
 limit-steady o L (award x q kw) h b e isOpen =
-    limit-reads-before (L .tiers .currentTier) (limitSums o (effect o L (award x q kw)) (L .tiers .currentTier) h b) (limitSums o L (L .tiers .currentTier) h b) isOpen
+    limit-reads-before (o .settings) (limitSums o (effect o L (award x q kw)) (L .tiers .currentTier) h b) (limitSums o L (L .tiers .currentTier) h b) (L .tiers .currentTier) isOpen
     (record {
       load = refl;
       carried = refl;

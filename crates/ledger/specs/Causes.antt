@@ -8,7 +8,7 @@ use Rattle.netting.specs.declared.netting.ClassLine.{ClassLine}
 use Rattle.tariff.specs.Sum.{anyOf, anyBelow}
 use Rattle.load_metric.specs.Load.{Block, blocksBroken, tooManyMissing}
 use Rattle.tariff.specs.Terms.{termOf, isLongTermStep}
-use Rattle.tariff.specs.Eligible.{fifthOfLoad}
+use Rattle.tariff.specs.Eligible.{eligibleWithoutEvidence}
 use Rattle.netting.specs.Migration.{netted, lostBy}
 use Rattle.ledger.specs.Opening.{Opening, lse, obaalse, subLap, schedulingPoint, holderKind, sinkKind, pathSource, pathSink, pathBase, hasBase}
 use Rattle.ledger.specs.Call.{Call, load, carry, prior, verify, migrate, openTier, nominate, award, closeTier, Query, limitOf, heldOn, netOn}
@@ -65,11 +65,11 @@ unfoldable pub exceedsTier1Award : Ledger → ℕ → ℕ → ℕ → ℕ → Bo
 exceedsTier1Award L tier h p kw = isLongTermStep tier && ltb (L .tiers .awards h p 1) (L .tiers .nominated h p tier + kw)
 
 -- cause 18: ten-year evidence is needed by an OBAALSE, and by any other holder whose nominations at the base, kw more with them, plus LT of month 1 exceed
--- a fifth of its load of the season (02, 1/14)
+-- the fifth fraction of its load of the season (02, 1/14 and 3/14)
 unfoldable pub needsTenYear : Opening → Ledger → ℕ → ℕ → ℕ → ℕ → Bool
 needsTenYear o L tier h b kw =
     eqb (holderKind o h) obaalse
-    || ltb (fifthOfLoad (L .loads .kw h b 0)) (nominatedAt o L h b tier + kw + longTermAt o L h b 1)
+    || ltb (eligibleWithoutEvidence (o .settings) (L .loads .kw h b 0)) (nominatedAt o L h b tier + kw + longTermAt o L h b 1)
 
 -- it is needed at the source of this path, and of each path at its base that the holder has nominated on in the tier (02, 1/14)
 unfoldable pub needsEvidenceAt : Opening → Ledger → ℕ → ℕ → ℕ → ℕ → Bool
@@ -98,7 +98,7 @@ module _ (o : Opening) (L : Ledger) where
       ∷ cause notAtThisTime (not (loadInTime term L))
       ∷ cause postedBefore (L .loads .posted h s term)
       ∷ cause brokenBlocks (blocksBroken n blocks)
-      ∷ cause hoursMissing (tooManyMissing n blocks)
+      ∷ cause hoursMissing (tooManyMissing (o .settings) n blocks)
       ∷ cause sinkIneligible (kindIneligible o h s || isSubLap o s)
       ∷ []
 

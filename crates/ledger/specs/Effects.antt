@@ -119,7 +119,7 @@ afterClose x =
 
 -- the ledger after an accepted call
 unfoldable pub effect : Opening → Ledger → Call → Ledger
-effect o L (load h s term contract n blocks) = withLoads L (afterLoad (L .loads) h s term (loadPosted contract blocks))
+effect o L (load h s term contract n blocks) = withLoads L (afterLoad (L .loads) h s term (loadPosted (o .settings) contract blocks))
 effect o L (carry h p kw) = withRights L (afterCarry (L .rights) h p kw)
 effect o L (prior h p a l) = withPriors L (afterPrior (L .priors) h p a l)
 effect o L (verify h s kind capacity right first last mark) =

@@ -18,3 +18,5 @@ pub mod NumberSplit
 pub mod Marked
 pub mod StepCases
 pub mod EvidenceCases
+pub mod SettingsCases
+pub mod PresentFigures

@@ -1,4 +1,4 @@
--- The sums that a limit is made of, and the limit of a holder at a base in a tier (01, Limits; 02, 1/14).
+-- The sums that a limit is made of, and the limit of a holder at a base in a tier (01, Limits; 02, 1/14 and 3/14).
 use Prim.Native.Nat.{ℕ, _-_}
 use lib.Dec.{eqb}
 use Rattle.tariff.specs.Sum.{whenTrue, sumTo}
@@ -44,6 +44,6 @@ limitSums o L tier h b =
       obaalse = eqb (holderKind o h) obaalse;
     }
 
--- the limit on what a holder nominates at a base in a tier
+-- the limit on what a holder nominates at a base in a tier, by the book's settings
 unfoldable pub tierLimit : Opening → Ledger → ℕ → ℕ → ℕ → ℕ
-tierLimit o L tier h b = limitOfSums tier (limitSums o L tier h b)
+tierLimit o L tier h b = limitOfSums (o .settings) tier (limitSums o L tier h b)

@@ -4,6 +4,7 @@ use mathlib.Core.List.{List, [], _∷_, _++_}
 use lib.ListN.{length, replicate}
 use Rattle.netting.specs.declared.netting.ClassLine.{ClassLine}
 use Rattle.load_metric.specs.Load.{Block, metric, loadPosted}
+use Rattle.tariff.specs.Settings.{presentSettings}
 use Rattle.tariff.specs.Eligible.{seasonalEligible, priorityEligible}
 use Rattle.netting.specs.Migration.{netted}
 use Rattle.ledger.specs.Opening.{Opening, lse, obaalse, defaultLap, schedulingPoint}
@@ -20,7 +21,7 @@ unfoldable pub upTo : ℕ → List ℕ
 upTo zero = []
 upTo (suc n) = upTo n ++ (n ∷ [])
 
--- a book with holders of these kinds, one sink, and a path to it from each of so many sources
+-- a book with holders of these kinds, one sink, and a path to it from each of so many sources, by the present figures
 unfoldable pub oneSink : List ℕ → ℕ → ℕ → Opening
 oneSink kinds sources sinkKind =
     record {
@@ -33,6 +34,7 @@ oneSink kinds sources sinkKind =
       sinkParents = 0 ∷ [];
       pathSources = upTo sources;
       pathSinks = replicate sources 0;
+      settings = presentSettings;
     }
 
 unfoldable pub block : ℕ → ℕ → ℕ → Block
@@ -90,7 +92,7 @@ unfoldable pub case2 : Case
 case2 =
     record {
       given =
-          value (metric blocks2)
+          value (metric presentSettings blocks2)
           ∷ season (oneSink (lse ∷ []) 0 defaultLap)
           (call (load 0 0 1 0 400 blocks2) ∷ (passTier 1 ++ passTier 2 ++ passTier 3 ++ (call (openTier 4) ∷ query (limitOf 0 0) ∷ [])));
       expected = value 5000 ∷ (replicate 9 done ++ (value 5000 ∷ []));
@@ -108,15 +110,15 @@ case3 =
 
 -- case 4: a metric of 1,000 and a contract of 1,200 post 0
 unfoldable pub case4 : Case
-case4 = record { given = value (loadPosted 1200 (block 0 100 1000 ∷ [])) ∷ []; expected = value 0 ∷ [] }
+case4 = record { given = value (loadPosted presentSettings 1200 (block 0 100 1000 ∷ [])) ∷ []; expected = value 0 ∷ [] }
 
 -- case 5: a load of 3 has S 2 and P 1: with nothing awarded or carried these are the limits of tiers 3 and 2
 unfoldable pub case5 : Case
 case5 =
     record {
       given =
-          value (seasonalEligible 3)
-          ∷ value (priorityEligible 3)
+          value (seasonalEligible presentSettings 3)
+          ∷ value (priorityEligible presentSettings 3)
           ∷ season (oneSink (lse ∷ []) 0 defaultLap)
           (steadyLoad 0 0 3
           ∷ (passTier 1 ++ (call (openTier 2) ∷ query (limitOf 0 0) ∷ call closeTier ∷ call (openTier 3) ∷ query (limitOf 0 0) ∷ [])));

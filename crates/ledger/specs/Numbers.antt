@@ -58,7 +58,7 @@ noTenYearEvidence = 18
 abbrev pub unverified : ℕ
 unverified = 19
 
--- a kind, parent, path or count of the opening breaks the rules
+-- a kind, parent, path, count or fraction of the opening breaks the rules
 abbrev pub breaksRules : ℕ
 breaksRules = 16
 

@@ -1,14 +1,16 @@
--- What a book is opened with, and when that is legal (01, The book, and cause 16).
+-- What a book is opened with, and when that is legal (01, The book, and cause 16; 02, 3/14).
 use Prim.Native.Nat.{ℕ}
 use mathlib.Core.Bool.{Bool, cond, not, _&&_, _||_}
 use mathlib.Core.List.{List}
 use lib.ListN.{length, getD}
 use lib.Dec.{leb, ltb, eqb}
+use Rattle.tariff.specs.declared.settings.Settings.{Settings}
 use Rattle.tariff.specs.Sizes.{maxHolders, maxPlaces}
 use Rattle.tariff.specs.Sum.{allBelow, anyBelow}
+use Rattle.tariff.specs.Settings.{settingsLegal}
 use Rattle.ledger.specs.Numbers.{breaksRules}
 
--- the counts, and for each holder, sink and path what stands on its line
+-- the counts, for each holder, sink and path what stands on its line, and the fractions of the rules (02, 3/14)
 pub record Opening : Type 0 where
   pub holders : ℕ
   pub sources : ℕ
@@ -19,6 +21,7 @@ pub record Opening : Type 0 where
   pub sinkParents : List ℕ
   pub pathSources : List ℕ
   pub pathSinks : List ℕ
+  pub settings : Settings
 
 -- holder kind 1 is a load-serving entity (LSE), 2 a qualified entity outside the balancing area (OBAALSE)
 abbrev pub lse : ℕ
@@ -110,7 +113,8 @@ legal o =
     && allBelow (o .sinks) (sinkLegal o)
     && allBelow (o .paths) (pathLegal o)
     && allBelow (o .paths) (pathNew o)
+    && settingsLegal (o .settings)
 
--- cause 16: a kind, parent, path or count breaks the rules; 0 for a legal opening
+-- cause 16: a kind, parent, path, count or fraction breaks the rules; 0 for a legal opening
 unfoldable pub openingRefusal : Opening → ℕ
 openingRefusal o = cond (legal o) 0 breaksRules

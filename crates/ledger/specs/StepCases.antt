@@ -2,6 +2,7 @@
 use Prim.Native.Nat.{ℕ}
 use mathlib.Core.List.{List, [], _∷_, _++_}
 use lib.ListN.{replicate}
+use Rattle.tariff.specs.Settings.{presentSettings}
 use Rattle.ledger.specs.Opening.{Opening, lse, obaalse, defaultLap, subLap, schedulingPoint}
 use Rattle.ledger.specs.Call.{load, carry, prior, verify, openTier, nominate, award, closeTier, limitOf, heldOn}
 use Rattle.ledger.specs.Season.{Request, call, query, Answer, done, value, refused, season}
@@ -20,6 +21,7 @@ twoBases =
       sinkParents = 0 ∷ 1 ∷ [];
       pathSources = 0 ∷ 1 ∷ 1 ∷ [];
       pathSinks = 0 ∷ 0 ∷ 1 ∷ [];
+      settings = presentSettings;
     }
 
 -- holder 0 nominates so much on a path and is awarded all of it
@@ -162,6 +164,7 @@ withSubLap =
       sinkParents = 0 ∷ 0 ∷ [];
       pathSources = 0 ∷ 1 ∷ 0 ∷ [];
       pathSinks = 0 ∷ 0 ∷ 1 ∷ [];
+      settings = presentSettings;
     }
 
 -- Its ten-year evidence: 150 and 60 at source 0, 0 kW at source 1, and 10 at source 2, which no path comes from; 400 at source 1 do not run to month 3.

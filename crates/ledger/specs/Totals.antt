@@ -41,7 +41,7 @@ noContribution = record { carried = none; awarded = neither; posted = neither; n
 -- 01, The plain ledger: a load posts at its sink and term, a carry brings in on its path, an award counts on its path in tiers 1 to 3 for every month and else for
 -- the tier's own, but in the Long Term step for none; a nomination counts at its path's base, a close ends the tier; the other calls add nothing
 unfoldable pub contribution : Opening → Ledger → Call → Contribution
-contribution o L (load h s term contract n blocks) = record { carried = none; awarded = neither; posted = λ q t. whenTrue (eqb q s && eqb t term) (loadPosted contract blocks); nominated = neither; closes = false }
+contribution o L (load h s term contract n blocks) = record { carried = none; awarded = neither; posted = λ q t. whenTrue (eqb q s && eqb t term) (loadPosted (o .settings) contract blocks); nominated = neither; closes = false }
 contribution o L (carry h p kw) = record { carried = λ q. whenTrue (eqb q p) kw; awarded = neither; posted = neither; nominated = neither; closes = false }
 contribution o L (prior h p a l) = noContribution
 contribution o L (verify h s kind capacity right first last mark) = noContribution

@@ -4,6 +4,7 @@ pub mod LeadingLaws
 pub mod NumberLaws
 pub mod WordLaws
 pub mod FieldLaws
+pub mod BeginLaws
 pub mod NextRowLaws
 pub mod ReadRowLaws
 pub mod RowSteps
@@ -12,6 +13,8 @@ pub mod KeptFields
 pub mod BufferLaws
 pub mod CountedLaws
 pub mod PairLaws
+pub mod SetLaws
+pub mod SetCases
 pub mod BookLines
 pub mod DigitLaws
 pub mod WritingLaws

@@ -10,8 +10,8 @@ use lib.ListN.{length, take, drop, length-map}
 use lib.Seq.{length-take-le, drop-length}
 use lib.Dec.{ltb}
 use Rattle.tariff.proofs.Tests.{decided}
-use Rattle.lines.specs.Text.{lineFeed, Line, ended, unended, linesOf, fieldsOf}
-use Rattle.lines.specs.Rows.{unreadableRow, rowOfFields, rowOf, rowsOf}
+use Rattle.lines.specs.Text.{bytesOf, lineFeed, Line, ended, unended, linesOf, fieldsOf}
+use Rattle.lines.specs.Rows.{sameBytes, beginsSet, unreadRow, rowOfFields, rowOf, rowsOf}
 use Rattle.lines.specs.Reading.{bytesBefore, lineText, hasLineFeed, firstRow, firstBytes, nextRow}
 use Rattle.lines.proofs.TextLaws.{up-to-le, line-ended, line-unended}
 use Rattle.lines.proofs.LineFields.{feed-found, no-feed}
@@ -34,12 +34,12 @@ unended-bytes (b ∷ bytes) n e l =
     let all : n ≡ length (b ∷ bytes) = omega arith in
     all ∙ sym (ap firstBytes (line-unended b bytes (omega arith)))
 
-pub ended-row : (rest : List ℕ) → hasLineFeed rest ≡ true → firstRow (linesOf rest) ≡ rowOfFields (fieldsOf (lineText rest))
+pub ended-row : (rest : List ℕ) → hasLineFeed rest ≡ true → firstRow (linesOf rest) ≡ rowOfFields (unreadRow (lineText rest)) (fieldsOf (lineText rest))
 unfolding firstRow rowOf lineText
 ended-row rest e = ap firstRow (line-ended rest (feed-found rest e))
 
-pub unended-row : (rest : List ℕ) → hasLineFeed rest ≡ false → firstRow (linesOf rest) ≡ unreadableRow
-unfolding firstRow rowOf linesOf
+pub unended-row : (rest : List ℕ) → hasLineFeed rest ≡ false → firstRow (linesOf rest) ≡ unreadRow rest
+unfolding firstRow rowOf linesOf unreadRow beginsSet sameBytes bytesOf
 unended-row [] e = refl
 unended-row (b ∷ bytes) e = ap firstRow (line-unended b bytes (no-feed (b ∷ bytes) e))
 

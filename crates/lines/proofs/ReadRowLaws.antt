@@ -12,14 +12,16 @@ use Rattle.tariff.specs.Sum.{tabulate}
 use Rattle.tariff.proofs.Lists.{length-tabulate, list-is}
 use Rattle.tariff.proofs.Tests.{decided, both-ways, and-both, and-join}
 use Rattle.lines.specs.declared.text.Token.{Token}
+use Rattle.lines.specs.declared.rows.Row.{Row}
 use Rattle.lines.specs.declared.rows.Fields.{Fields}
 use Rattle.lines.specs.Text.{lineFeed, linesOf, fieldsOf, valueOf}
-use Rattle.lines.specs.Rows.{maxFields, kindOf, allNumbers, row, unreadableRow, rowIf, rowOfFields}
+use Rattle.lines.specs.Rows.{maxFields, kindOf, allNumbers, row, unreadRow, rowIf, rowOfFields}
 use Rattle.lines.specs.Reading.{bytesBefore, leading, fieldsAfter, lineText, fieldEnds, hasLineFeed, fieldsIf, fieldsRead, noFields, firstRow, firstBytes, nextRow, unreadableLine}
 use Rattle.lines.specs.Words.{maxLetters, isLetter, allLetters, letterKey, keyLimit, leadingLetters, wordAt, isWord, wordKey}
 use Rattle.lines.proofs.LineFields.{fieldLength, firstField, first-length, line-fields, feed-after, up-to-after, feed-found}
 use Rattle.lines.proofs.LeadingLaws.{leading-few, leading-all, leading-field, field-continues}
 use Rattle.lines.proofs.WordLaws.{letter-inside, letters-none, letters-more, key-small, no-form, no-word}
+use Rattle.lines.proofs.BeginLaws.{line-begins}
 use Rattle.lines.proofs.NextRowLaws.{ended-bytes, ended-row, unended-row}
 
 -- the values of fields, 0 past the last
@@ -27,16 +29,16 @@ values : List (List ℕ) → List ℕ
 values fields = tabulate maxFields (λ k. getD (map valueOf fields) k 0)
 
 -- a row of no kind
-no-kind : (kind : ℕ) (numbers : List ℕ) → 0 ≡ kind → rowIf kind numbers ≡ unreadableRow
+no-kind : (unread : Row) (kind : ℕ) (numbers : List ℕ) → 0 ≡ kind → rowIf unread kind numbers ≡ unread
 unfolding rowIf
-no-kind kind numbers e = ap (λ t. cond t unreadableRow (row kind numbers)) (eq-eqb kind 0 (sym e))
+no-kind unread kind numbers e = ap (λ t. cond t unread (row kind numbers)) (eq-eqb kind 0 (sym e))
 
-no-row : (word : List ℕ) (fields : List (List ℕ)) → 0 ≡ kindOf word (length fields) → rowOfFields (word ∷ fields) ≡ unreadableRow
+no-row : (unread : Row) (word : List ℕ) (fields : List (List ℕ)) → 0 ≡ kindOf word (length fields) → rowOfFields unread (word ∷ fields) ≡ unread
 unfolding rowOfFields
-no-row word fields e = go (allNumbers fields)
+no-row unread word fields e = go (allNumbers fields)
   where
-    go : (t : Bool) → cond t (rowIf (kindOf word (length fields)) (map valueOf fields)) unreadableRow ≡ unreadableRow
-    go true = no-kind (kindOf word (length fields)) (map valueOf fields) e
+    go : (t : Bool) → cond t (rowIf unread (kindOf word (length fields)) (map valueOf fields)) unread ≡ unread
+    go true = no-kind unread (kindOf word (length fields)) (map valueOf fields) e
     go false = refl
 
 -- what the reading of fields gives
@@ -64,17 +66,21 @@ module _ (readable : Bool) (fields : List (List ℕ)) (end : ℕ) (f : Fields) (
       go false e q = absurd (both-ways (sym (ap (λ g. g .readable) q) ∙ r) refl)
 
   -- the fields of a line with an LF are no row's
-  are-unreadable : (word : List ℕ) → readable ≡ true → f .readable ≡ false → rowOfFields (word ∷ fields) ≡ unreadableRow
+  are-unreadable : (unread : Row) (word : List ℕ) → readable ≡ true → f .readable ≡ false → rowOfFields unread (word ∷ fields) ≡ unread
   unfolding fieldsIf noFields rowOfFields values found
-  are-unreadable word r u = go (allNumbers fields) (leb (length fields) maxFields) refl (read ∙ ap (λ t. found (t && allNumbers fields && leb (length fields) maxFields)) r)
+  are-unreadable unread word r u = go (allNumbers fields) (leb (length fields) maxFields) refl (read ∙ ap (λ t. found (t && allNumbers fields && leb (length fields) maxFields)) r)
     where
-      go : (a b : Bool) → leb (length fields) maxFields ≡ b → f ≡ found (a && b) → cond a (rowIf (kindOf word (length fields)) (map valueOf fields)) unreadableRow ≡ unreadableRow
+      go : (a b : Bool) → leb (length fields) maxFields ≡ b → f ≡ found (a && b) → cond a (rowIf unread (kindOf word (length fields)) (map valueOf fields)) unread ≡ unread
       go false b q e = refl
-      go true false q e = no-kind (kindOf word (length fields)) (map valueOf fields) (no-form word (length fields) (leb-false (length fields) maxFields q))
+      go true false q e = no-kind unread (kindOf word (length fields)) (map valueOf fields) (no-form word (length fields) (leb-false (length fields) maxFields q))
       go true true q e = absurd (both-ways (ap (λ g. g .readable) e) u)
 
 -- a line whose word is read, and its fields after that
 module _ (rest : List ℕ) (word : Token) (f : Fields) (spelt : word ≡ wordAt rest) (read : f ≡ fieldsRead (word .end) (drop (word .end) rest)) where
+  -- the line's row, where it cannot be read
+  unread : Row
+  unread = unreadRow (lineText rest)
+
   letters : List ℕ
   letters = leading isLetter maxLetters rest
 
@@ -119,18 +125,18 @@ module _ (rest : List ℕ) (word : Token) (f : Fields) (spelt : word ≡ wordAt 
     feed-at = up-to-after rest ∙ ap (λ n. n + bytesBefore lineFeed (drop n rest)) width
 
   -- or goes on, and is none
-  continues : fieldEnds bytes ≡ false → rowOfFields (fieldsOf (lineText rest)) ≡ unreadableRow
+  continues : fieldEnds bytes ≡ false → rowOfFields unread (fieldsOf (lineText rest)) ≡ unread
   unfolding isWord letters bytes
-  continues e = ap rowOfFields (line-fields rest) ∙ no-row (firstField rest) _ (no-word (firstField rest) _ (field-continues isLetter letter-inside allLetters letters-more maxLetters rest e))
+  continues e = ap (rowOfFields unread) (line-fields rest) ∙ no-row unread (firstField rest) _ (no-word (firstField rest) _ (field-continues isLetter letter-inside allLetters letters-more maxLetters rest e))
 
   pub fields-unread : f .readable ≡ false → unreadableLine rest ≡ nextRow rest
-  unfolding unreadableLine nextRow
+  unfolding unreadableLine nextRow unread
   fields-unread r = ap (λ q. record { row = q; consumed = firstBytes (linesOf rest) }) (sym (go (decided (hasLineFeed rest)) (decided (fieldEnds bytes))))
     where
-      go : (hasLineFeed rest ≡ true) ⊎ (hasLineFeed rest ≡ false) → (fieldEnds bytes ≡ true) ⊎ (fieldEnds bytes ≡ false) → firstRow (linesOf rest) ≡ unreadableRow
+      go : (hasLineFeed rest ≡ true) ⊎ (hasLineFeed rest ≡ false) → (fieldEnds bytes ≡ true) ⊎ (fieldEnds bytes ≡ false) → firstRow (linesOf rest) ≡ unreadRow rest
       go (inr none) e = unended-row rest none
-      go (inl fd) (inr e) = ended-row rest fd ∙ continues e
-      go (inl fd) (inl e) = ended-row rest fd ∙ ap rowOfFields (parted e) ∙ are-unreadable _ fields _ f read-there letters (and-join e (sym (fed e) ∙ fd)) r
+      go (inl fd) (inr e) = ended-row rest fd ∙ continues e ∙ line-begins rest
+      go (inl fd) (inl e) = ended-row rest fd ∙ ap (rowOfFields unread) (parted e) ∙ are-unreadable _ fields _ f read-there unread letters (and-join e (sym (fed e) ∙ fd)) r ∙ line-begins rest
 
   module _ (r : f .readable ≡ true) where
     facts : Readable (fieldEnds bytes && hasLineFeed bytes) fields (length letters + bytesBefore lineFeed bytes) f
@@ -152,17 +158,17 @@ module _ (rest : List ℕ) (word : Token) (f : Fields) (spelt : word ≡ wordAt 
     end-within = let within = feed-found rest has in let same = at-feed in omega arith
 
     module _ (kind : ℕ) (known : (w : List ℕ) → word .value ≡ wordKey w → kind ≡ kindOf w (f .count)) where
-      first : firstRow (linesOf rest) ≡ rowIf kind (map valueOf fields)
-      unfolding rowOfFields
+      first : firstRow (linesOf rest) ≡ rowIf unread kind (map valueOf fields)
+      unfolding rowOfFields unread
       first =
           ended-row rest has
-          ∙ ap rowOfFields (parted ends)
-          ∙ ap (λ t. cond t (rowIf (kindOf letters (length fields)) (map valueOf fields)) unreadableRow) (facts .all-numbers)
-          ∙ ap (λ k. rowIf k (map valueOf fields)) (sym (known letters key-of ∙ ap (kindOf letters) (facts .counted)))
+          ∙ ap (rowOfFields unread) (parted ends)
+          ∙ ap (λ t. cond t (rowIf unread (kindOf letters (length fields)) (map valueOf fields)) unread) (facts .all-numbers)
+          ∙ ap (λ k. rowIf unread k (map valueOf fields)) (sym (known letters key-of ∙ ap (kindOf letters) (facts .counted)))
 
       pub word-unknown : kind ≡ 0 → unreadableLine rest ≡ nextRow rest
-      unfolding unreadableLine nextRow
-      word-unknown z = ap (λ q. record { row = q; consumed = firstBytes (linesOf rest) }) (sym (first ∙ no-kind kind (map valueOf fields) (sym z)))
+      unfolding unreadableLine nextRow unread
+      word-unknown z = ap (λ q. record { row = q; consumed = firstBytes (linesOf rest) }) (sym (first ∙ no-kind unread kind (map valueOf fields) (sym z) ∙ line-begins rest))
 
       -- the numbers, one by one
       each : f .numbers ≡ tabulate maxFields (λ k. getD (f .numbers) k 0)
@@ -173,4 +179,4 @@ module _ (rest : List ℕ) (word : Token) (f : Fields) (spelt : word ≡ wordAt 
       unfolding nextRow rowIf row values
       row-read z =
           ap₂ (λ ns n. record { row = record { kind = kind; fields = ns }; consumed = n }) (sym each ∙ facts .valued) (ended-bytes rest (f .end) at-feed end-within)
-          ∙ ap (λ q. record { row = q; consumed = firstBytes (linesOf rest) }) (sym (first ∙ ap (λ t. cond t unreadableRow (row kind (map valueOf fields))) (ne-eqb kind 0 z)))
+          ∙ ap (λ q. record { row = q; consumed = firstBytes (linesOf rest) }) (sym (first ∙ ap (λ t. cond t unread (row kind (map valueOf fields))) (ne-eqb kind 0 z)))

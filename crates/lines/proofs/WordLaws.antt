@@ -165,6 +165,10 @@ key-test word known fit some = go (decided (sameBytes word known)) (decided (leb
     go (inr other) (inl w) = ne-eqb (letterKey known) (key word) (λ e. both-ways (ap (λ z. sameBytes z known) (same-key word known (and-both (leb (length word) maxLetters) (allLetters word) w .1) (and-both (leb (length known) maxLetters) (allLetters known) fit .1) (sym (e ∙ ap (λ t. cond t (letterKey word) 0) w))) ∙ same-bytes known) other) ∙ sym other
     go (inr other) (inr w) = ne-eqb (letterKey known) (key word) (λ e. let none = e ∙ ap (λ t. cond t (letterKey word) 0) w in omega (arith, none)) ∙ sym other
 
+-- how many forms there are
+abbrev pub formCount : ℕ
+formCount = 19
+
 -- every form has a word of letters and few enough fields, and its kind is its place in the table, counted from 1
 noForm : Form
 noForm = form "" 0 0
@@ -173,9 +177,9 @@ fits : ℕ → Form → Bool
 unfolding noForm
 fits k (form known fields kind) = (isWord (bytesOf known) && leb 1 (letterKey (bytesOf known))) && leb fields maxFields && eqb kind (k + 1)
 
-forms-fit : (k : ℕ) → k < 18 → fits k (getD forms k noForm) ≡ true
+forms-fit : (k : ℕ) → k < formCount → fits k (getD forms k noForm) ≡ true
 unfolding fits forms noForm isWord allLetters isLetter letterKey keyAfter bytesOf allBelow within
-forms-fit = all-below 18 (λ k. fits k (getD forms k noForm)) refl
+forms-fit = all-below formCount (λ k. fits k (getD forms k noForm)) refl
 
 -- a word and a count of fields are the same where their one number is
 number-test : (known key fields count : ℕ) → fields ≤ maxFields → count ≤ maxFields → eqb (known * countLimit + fields) (key * countLimit + count) ≡ (eqb known key && eqb fields count)
@@ -205,7 +209,7 @@ unfolding kindOf
 none-sought word count = refl
 
 -- one form more: the kind is found, or sought among the later ones
-module _ (word : List ℕ) (count k key : ℕ) (l : k < 18) (few : count ≤ maxFields) (is : key ≡ wordKey word) (so-far : SoughtTo word count k) where
+module _ (word : List ℕ) (count k key : ℕ) (l : k < formCount) (few : count ≤ maxFields) (is : key ≡ wordKey word) (so-far : SoughtTo word count k) where
   opened : kindOf word count ≡ cond (eqb (getD (map formNumber forms) k 0) (key * countLimit + count)) (k + 1) (kindAmong word count (drop (suc k) forms))
   unfolding kindAmong forms formNumber noForm bytesOf letterKey keyAfter
   opened =
@@ -223,9 +227,9 @@ module _ (word : List ℕ) (count k key : ℕ) (l : k < 18) (few : count ≤ max
       ∙ ap (λ t. cond t (k + 1) (kindAmong word count (drop (suc k) forms))) (ne-eqb _ _ e)
       ∙ ap (λ j. kindAmong word count (drop j forms)) (sym (add-one k))
 
-pub all-sought : (word : List ℕ) (count k : ℕ) → k ≤ 18 → 18 ≤ k → SoughtTo word count k → 0 ≡ kindOf word count
+pub all-sought : (word : List ℕ) (count k : ℕ) → k ≤ formCount → formCount ≤ k → SoughtTo word count k → 0 ≡ kindOf word count
 unfolding kindAmong forms
-all-sought word count k l m so-far = sym (so-far ∙ ap (λ j. kindAmong word count (drop j forms)) (let last : k ≡ 18 = omega arith in last))
+all-sought word count k l m so-far = sym (so-far ∙ ap (λ j. kindAmong word count (drop j forms)) (let last : k ≡ formCount = omega arith in last))
 
 -- every form has a word, and no more fields than a row
 proper : List Form → Bool

@@ -13,7 +13,7 @@ use Rattle.lines.specs.declared.rows.Row.{Row}
 use Rattle.lines.specs.declared.rows.Fields.{Fields}
 use Rattle.lines.specs.declared.lines.NextRow.{NextRow}
 use Rattle.lines.specs.Text.{lineFeed, comma, Line, ended, unended, linesOf, fieldsOf, isDigit, maxDigits, isNumber, valueOf}
-use Rattle.lines.specs.Rows.{maxFields, allNumbers, unreadableRow, rowOf}
+use Rattle.lines.specs.Rows.{maxFields, allNumbers, unreadableRow, unreadRow, rowOf}
 
 -- how many bytes stand before the first that is the stop, all of them if none is
 unfoldable pub bytesBefore : ℕ → List ℕ → ℕ
@@ -105,4 +105,4 @@ nextRow rest = record { row = firstRow (linesOf rest); consumed = firstBytes (li
 
 -- the first line passed over
 unfoldable pub unreadableLine : List ℕ → NextRow
-unreadableLine rest = record { row = unreadableRow; consumed = firstBytes (linesOf rest) }
+unreadableLine rest = record { row = unreadRow rest; consumed = firstBytes (linesOf rest) }

@@ -1,11 +1,13 @@
 -- What a line says: its kind, by its word and count of fields, and its numbers (01, Script and host).
 use Prim.Native.Nat.{ℕ, _+_}
 use Prim.Native.String.{String}
-use mathlib.Core.Bool.{Bool, true, false, cond, _&&_}
+use mathlib.Core.Bool.{Bool, true, false, cond, not, _&&_, _||_}
 use mathlib.Core.List.{List, [], _∷_, map}
 use lib.ListN.{length, getD, take, drop}
 use lib.Dec.{eqb}
 use Rattle.tariff.specs.Sum.{tabulate}
+use Rattle.tariff.specs.declared.settings.Settings.{Settings}
+use Rattle.tariff.specs.Settings.{settingsOf, presentSettings}
 use Rattle.lines.specs.declared.rows.Row.{Row}
 use Rattle.lines.specs.Text.{bytesOf, Line, ended, unended, linesOf, fieldsOf, isNumber, valueOf}
 
@@ -67,11 +69,18 @@ heldLine = 17
 abbrev pub netLine : ℕ
 netLine = 18
 
+abbrev pub setLine : ℕ
+setLine = 19
+
+-- a line that begins as a set line and cannot be read; told apart since directly after the book lines it belongs to the book group (02, 3/14)
+abbrev pub brokenSetLine : ℕ
+brokenSetLine = 20
+
 -- a word, how many fields follow it, and the kind of such a line
 pub data Form : Type 0 where
   form : String → (fields kind : ℕ) → Form
 
--- the forms of lines; a verify line ends in the ten-year mark (02, 1/14)
+-- the forms of lines; a verify line ends in the ten-year mark (02, 1/14), a set line has six pairs (02, 3/14)
 unfoldable pub forms : List Form
 forms =
     form "book" 4 bookLine
@@ -92,6 +101,7 @@ forms =
     ∷ form "limit" 2 limitLine
     ∷ form "held" 3 heldLine
     ∷ form "net" 2 netLine
+    ∷ form "set" 12 setLine
     ∷ []
 
 -- the same bytes
@@ -116,7 +126,7 @@ allNumbers (field ∷ fields) = isNumber field && allNumbers fields
 
 -- no line has more fields
 abbrev pub maxFields : ℕ
-maxFields = 8
+maxFields = 12
 
 -- a line's kind and its numbers, 0 past the last
 unfoldable pub row : ℕ → List ℕ → Row
@@ -125,19 +135,27 @@ row kind numbers = record { kind = kind; fields = tabulate maxFields (λ k. getD
 unfoldable pub unreadableRow : Row
 unreadableRow = row unreadableKind []
 
--- a row of a kind, none where that is unreadable
-unfoldable pub rowIf : ℕ → List ℕ → Row
-rowIf kind numbers = cond (eqb kind unreadableKind) unreadableRow (row kind numbers)
+-- a line's text begins with the four bytes `set,` (02, 3/14)
+unfoldable pub beginsSet : List ℕ → Bool
+beginsSet text = sameBytes (take 4 text) (bytesOf "set,")
 
--- the word and the fields after it
-unfoldable pub rowOfFields : List (List ℕ) → Row
-rowOfFields [] = unreadableRow
-rowOfFields (word ∷ fields) = cond (allNumbers fields) (rowIf (kindOf word (length fields)) (map valueOf fields)) unreadableRow
+-- the row of a line of this text, where it cannot be read (02, 3/14)
+unfoldable pub unreadRow : List ℕ → Row
+unreadRow text = cond (beginsSet text) (row brokenSetLine []) unreadableRow
+
+-- a row of a kind, the one given first where that kind is unreadable
+unfoldable pub rowIf : Row → ℕ → List ℕ → Row
+rowIf unread kind numbers = cond (eqb kind unreadableKind) unread (row kind numbers)
+
+-- the word and the fields after it; where they cannot be read, the row given first
+unfoldable pub rowOfFields : Row → List (List ℕ) → Row
+rowOfFields unread [] = unread
+rowOfFields unread (word ∷ fields) = cond (allNumbers fields) (rowIf unread (kindOf word (length fields)) (map valueOf fields)) unread
 
 -- bytes after the last LF are a line that cannot be read
 unfoldable pub rowOf : Line → Row
-rowOf (ended text) = rowOfFields (fieldsOf text)
-rowOf (unended text) = unreadableRow
+rowOf (ended text) = rowOfFields (unreadRow text) (fieldsOf text)
+rowOf (unended text) = unreadRow text
 
 unfoldable pub rowsOf : List ℕ → List Row
 rowsOf script = map rowOf (linesOf script)
@@ -165,3 +183,35 @@ module _ (head : Row) (rows : List Row) where
 
   unfoldable pub pathRows : List Row
   pathRows = take (field 3 head) (drop (field 0 head + field 2 head) rows)
+
+-- how many lines a book head counts
+unfoldable pub headCount : Row → ℕ
+headCount head = field 0 head + field 2 head + field 3 head
+
+-- how many lines of the book group the row directly after those is: one if its line begins with `set,`, read or not (02, 3/14)
+unfoldable pub setCount : Row → ℕ
+setCount r = cond (eqb (r .kind) setLine || eqb (r .kind) brokenSetLine) 1 0
+
+-- it is no such line, or one that can be read (02, 3/14)
+unfoldable pub notBroken : Row → Bool
+notBroken r = not (eqb (r .kind) brokenSetLine)
+
+-- its fractions; those that hold without a set line, where it is none that can be read (02, 3/14)
+unfoldable pub settingsOn : Row → Settings
+settingsOn r = cond (eqb (r .kind) setLine) (settingsOf (r .fields)) presentSettings
+
+-- the same of the rows after a book head (02, 3/14)
+module _ (head : Row) (rows : List Row) where
+  -- the row directly after the lines that are counted, that of an unreadable line where there is none
+  unfoldable pub setRow : Row
+  setRow = getD rows (headCount head) unreadableRow
+
+  unfoldable pub setReadable : Bool
+  setReadable = notBroken setRow
+
+  unfoldable pub settingsOfRows : Settings
+  settingsOfRows = settingsOn setRow
+
+  -- how many lines the book group has after its head
+  unfoldable pub bookLineCount : ℕ
+  bookLineCount = headCount head + setCount setRow

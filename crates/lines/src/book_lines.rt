@@ -1,14 +1,19 @@
-// The lines that a book head counts, read one kind after another (01, Script and host).
+// The lines of the book group after its head: those that the head counts, read one kind after another (01, Script and host), and the set line (02, 3/14).
 use crate::lines::next_row;
+use crate::rows::BROKEN_SET_LINE;
 use crate::rows::HOLDER_LINE;
 use crate::rows::PATH_LINE;
 use crate::rows::Row;
+use crate::rows::SET_LINE;
 use crate::rows::SINK_LINE;
+use tariff::settings::Settings;
+use tariff::settings::present_settings;
+use tariff::settings::settings_of;
 use tariff::sizes::MAX_PLACES;
 ghost use mathlib.Core.Path.{_≡_};
 ghost use Rattle.tariff.specs.Sizes.{maxPlaces};
 ghost use Rattle.tariff.specs.Placed.{placed};
-ghost use Rattle.lines.specs.BookLines.{pairsOf, bookListsOf};
+ghost use Rattle.lines.specs.BookLines.{pairsOf, setLineOf, bookListsOf};
 
 // Lines of at most two fields: whether there are as many as counted, all of one kind, how many bytes they take, and the fields of the first 16.
 pub struct Pairs {
@@ -18,7 +23,15 @@ pub struct Pairs {
     pub seconds: [u64; MAX_PLACES],
 }
 
-// The same of all lines that a book head counts, with a list to a field.
+// The set line that may stand after the lines that a book head counts: whether there is none that cannot be read, how many bytes it takes, and its
+// fractions; where there is none, those that hold without one (02, 3/14).
+pub struct SetLine {
+    pub readable: bool,
+    pub consumed: usize,
+    pub settings: Settings,
+}
+
+// The same of all these lines, with a list to a field.
 pub struct BookLists {
     pub complete: bool,
     pub consumed: usize,
@@ -27,6 +40,7 @@ pub struct BookLists {
     pub sink_parents: [u64; MAX_PLACES],
     pub path_sources: [u64; MAX_PLACES],
     pub path_sinks: [u64; MAX_PLACES],
+    pub settings: Settings,
 }
 
 // A number put into a list. Past its end there is no room, and none is needed: a book with more than 16 of anything is refused.
@@ -77,7 +91,37 @@ fn read_pairs(rest: &[u8], kind: u64, count: u64) -> Pairs
     }
 }
 
-// Reads the lines that a book head counts: holders, then sinks, then paths.
+// Reads the set line if one stands here; it is left alone where another line does.
+fn read_set_line(rest: &[u8]) -> SetLine
+    ensures { λ r. ⌜ r ≡ setLineOf (now (rest .entry)) ⌝ }
+{
+    let next = next_row(rest);
+    let row = next.row;
+    let fields = row.fields;
+    if row.kind == SET_LINE {
+        let settings = settings_of(fields);
+        return SetLine {
+            readable: true,
+            consumed: next.consumed,
+            settings,
+        };
+    }
+    let settings = present_settings();
+    if row.kind == BROKEN_SET_LINE {
+        return SetLine {
+            readable: false,
+            consumed: next.consumed,
+            settings,
+        };
+    }
+    SetLine {
+        readable: true,
+        consumed: 0,
+        settings,
+    }
+}
+
+// Reads the lines that a book head counts, holders, then sinks, then paths, and the set line after them.
 pub fn read_book_lines(rest: &[u8], head: Row) -> BookLists
     ensures { λ r. ⌜ r ≡ bookListsOf head (now (rest .entry)) ⌝ }
 {
@@ -87,18 +131,22 @@ pub fn read_book_lines(rest: &[u8], head: Row) -> BookLists
     let sinks = read_pairs(&rest[at_sinks..], SINK_LINE, fields[2]);
     let at_paths = at_sinks + sinks.consumed;
     let paths = read_pairs(&rest[at_paths..], PATH_LINE, fields[3]);
+    let at_set = at_paths + paths.consumed;
+    let set = read_set_line(&rest[at_set..]);
     let holder_kinds = holders.firsts;
     let sink_kinds = sinks.firsts;
     let sink_parents = sinks.seconds;
     let path_sources = paths.firsts;
     let path_sinks = paths.seconds;
+    let settings = set.settings;
     BookLists {
-        complete: holders.complete & sinks.complete & paths.complete,
-        consumed: at_paths + paths.consumed,
+        complete: holders.complete & sinks.complete & paths.complete & set.readable,
+        consumed: at_set + set.consumed,
         holder_kinds,
         sink_kinds,
         sink_parents,
         path_sources,
         path_sinks,
+        settings,
     }
 }

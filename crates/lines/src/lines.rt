@@ -2,7 +2,7 @@
 use crate::rows::Row;
 use crate::rows::UNREADABLE_KIND;
 use crate::rows::read_fields;
-use crate::rows::unreadable_row;
+use crate::rows::unread_row;
 use crate::text::line_length;
 use crate::words::kind_of;
 use crate::words::read_word;
@@ -20,7 +20,7 @@ fn unreadable_line(rest: &[u8]) -> NextRow
     ensures { λ r. ⌜ r ≡ unreadableLine (now (rest .entry)) ⌝ }
 {
     let length = line_length(rest);
-    let row = unreadable_row();
+    let row = unread_row(rest);
     if length < rest.len() {
         return NextRow {
             row,
@@ -48,7 +48,20 @@ pub fn next_row(rest: &[u8]) -> NextRow
     }
     // Number by number, out of registers: a copy of the whole array would wait for the numbers that were just stored in it.
     let n = fields.numbers;
-    let numbers = [n[0], n[1], n[2], n[3], n[4], n[5], n[6], n[7]];
+    let numbers = [
+        n[0],
+        n[1],
+        n[2],
+        n[3],
+        n[4],
+        n[5],
+        n[6],
+        n[7],
+        n[8],
+        n[9],
+        n[10],
+        n[11],
+    ];
     NextRow {
         row: Row {
             kind,

@@ -3,7 +3,7 @@ use crate::text::LINE_FEED;
 use crate::text::read_field;
 ghost use mathlib.Core.Path.{_≡_};
 ghost use lib.ListN.{getD, drop};
-ghost use Rattle.lines.specs.Rows.{unreadableRow};
+ghost use Rattle.lines.specs.Rows.{unreadableRow, beginsSet, unreadRow};
 ghost use Rattle.lines.specs.Reading.{fieldsRead, noFields};
 
 // The kinds of lines. 0 is a line that cannot be read.
@@ -45,12 +45,17 @@ pub const HELD_LINE: u64 = 17;
 
 pub const NET_LINE: u64 = 18;
 
+pub const SET_LINE: u64 = 19;
+
+// A line that begins as a set line and cannot be read. It is told apart, since directly after the book lines it belongs to the book group (02, 3/14).
+pub const BROKEN_SET_LINE: u64 = 20;
+
 const COMMA: u8 = b',';
 
 // No line has more fields.
-pub const MAX_FIELDS: usize = 8;
+pub const MAX_FIELDS: usize = 12;
 
-// A line's kind, 0 for one that cannot be read, and its numbers, 0 past the last.
+// A line's kind, 0 or 20 for one that cannot be read, and its numbers, 0 past the last.
 pub struct Row {
     pub kind: u64,
     pub fields: [u64; MAX_FIELDS],
@@ -64,8 +69,8 @@ pub struct Fields {
     pub end: usize,
 }
 
-// The row of a line that cannot be read.
-pub fn unreadable_row() -> Row
+// The row of a line that cannot be read and is no set line.
+fn unreadable_row() -> Row
     ensures { λ r. ⌜ r ≡ unreadableRow ⌝ }
 {
     Row {
@@ -92,8 +97,28 @@ fn byte_at(rest: &[u8], at: usize) -> u8
     if at < rest.len() { rest[at] } else { 0 }
 }
 
-// The fields of a line after the word that ends at `start`, up to its LF. One more than a line can have ends the reading. The loop makes no more
-// passes than there can be fields, and little in each, so that the compiler writes them out and the numbers stay in registers.
+// Whether a line begins with `set,` (02, 3/14).
+fn begins_set(rest: &[u8]) -> bool
+    ensures { λ r. ⌜ r ≡ beginsSet (now (rest .entry)) ⌝ }
+{
+    let word = (byte_at(rest, 0) == b's') & (byte_at(rest, 1) == b'e') & (byte_at(rest, 2) == b't');
+    word & (byte_at(rest, 3) == COMMA)
+}
+
+// The row of the next line, where that cannot be read.
+pub fn unread_row(rest: &[u8]) -> Row
+    ensures { λ r. ⌜ r ≡ unreadRow (now (rest .entry)) ⌝ }
+{
+    if begins_set(rest) {
+        return Row {
+            kind: BROKEN_SET_LINE,
+            fields: [0u64; MAX_FIELDS],
+        };
+    }
+    unreadable_row()
+}
+
+// The fields of a line after the word that ends at `start`, up to its LF. One more than a line can have ends the reading.
 pub fn read_fields(rest: &[u8], start: usize) -> Fields
     ensures { λ r. ⌜ r ≡ fieldsRead start (drop start (now (rest .entry))) ⌝ }
 {

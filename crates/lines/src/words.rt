@@ -8,8 +8,8 @@ ghost use mathlib.Core.List.{List};
 ghost use Rattle.lines.specs.Rows.{maxFields, kindOf};
 ghost use Rattle.lines.specs.Words.{wordKey, wordAt, keyLimit};
 
-// How many kinds of lines there are.
-const KINDS: usize = 18;
+// How many kinds of lines can be read.
+const KINDS: usize = 19;
 
 // The most letters of a word.
 const MAX_LETTERS: usize = 8;
@@ -55,6 +55,8 @@ const FORMS: [u64; KINDS] = [
     267_652 * COUNT_LIMIT + 3,
     // net
     14_516 * COUNT_LIMIT + 2,
+    // set, with six pairs (02, 3/14)
+    19_636 * COUNT_LIMIT + 12,
 ];
 
 // The letters at the start of a line, at most eight: 5 bits to a letter, the first letter highest.

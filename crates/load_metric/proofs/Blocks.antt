@@ -1,6 +1,6 @@
 -- Laws of block lists: three lists read side by side, block by block, and what does not look at the first hours or at the kW.
 -- Assumes nothing.
-use Prim.Native.Nat.{ℕ, _+_, _/_, _≤_, _<_}
+use Prim.Native.Nat.{ℕ, _+_, _≤_, _<_}
 use mathlib.Core.Path.{_≡_, refl, sym, ap, ap₂, _∙_, fun-ext}
 use mathlib.Core.Bool.{Bool, _||_}
 use mathlib.Core.List.{List, [], _∷_, map, map-map}
@@ -10,8 +10,10 @@ use native.Mathlib.Omega.{arith}
 use lib.Dec.{leb}
 use lib.ListN.{length, getD, drop, drop-of-length-le}
 use lib.Seq.{drop-cons}
+use Rattle.tariff.specs.declared.settings.Settings.{Settings}
 use Rattle.tariff.specs.Sum.{sumOver, anyOf, filter}
-use Rattle.load_metric.specs.Load.{Block, inOrder, presentHours, hoursAbove, exceedanceHours, withinExceedance, smallest, metric}
+use Rattle.tariff.specs.Settings.{partOf}
+use Rattle.load_metric.specs.Load.{Block, inOrder, presentHours, hoursAbove, exceedanceHours, withinExceedance, smallest, smallestWithin, metric}
 use Rattle.load_metric.specs.Metering.{blocksOf}
 use Rattle.load_metric.specs.Levels.{kwsOf}
 
@@ -79,17 +81,18 @@ present-of-retimed : (bs : List Block) → presentHours (map retimed bs) ≡ pre
 unfolding presentHours retimed
 present-of-retimed bs = sum-of-map retimed (λ b. b .hours) bs
 
-exceedance-of-retimed : (bs : List Block) (kw : ℕ) → withinExceedance (map retimed bs) kw ≡ withinExceedance bs kw
-unfolding withinExceedance exceedanceHours hoursAbove retimed
-exceedance-of-retimed bs kw =
-    ap₂ leb (sum-of-map retimed _ bs) (ap (λ p. p / 200) (present-of-retimed bs))
+module _ (settings : Settings) where
+  exceedance-of-retimed : (bs : List Block) (kw : ℕ) → withinExceedance (exceedanceHours settings (map retimed bs)) (map retimed bs) kw ≡ withinExceedance (exceedanceHours settings bs) bs kw
+  unfolding withinExceedance exceedanceHours hoursAbove retimed
+  exceedance-of-retimed bs kw =
+      ap₂ leb (sum-of-map retimed _ bs) (ap (partOf (settings .exceedance)) (present-of-retimed bs))
 
-metric-of-retimed : (bs : List Block) → metric (map retimed bs) ≡ metric bs
-unfolding metric retimed
-metric-of-retimed bs = ap₂ (λ test ks. smallest (filter test ks)) (fun-ext (exceedance-of-retimed bs)) (map-map (λ b. b .kw) retimed bs)
+  metric-of-retimed : (bs : List Block) → metric settings (map retimed bs) ≡ metric settings bs
+  unfolding metric smallestWithin retimed
+  metric-of-retimed bs = ap₂ (λ test ks. smallest (filter test ks)) (fun-ext (exceedance-of-retimed bs)) (map-map (λ b. b .kw) retimed bs)
 
-pub metric-by-loads : (fs hs ks : List ℕ) → length fs ≡ length hs → metric (blocksOf hs hs ks) ≡ metric (blocksOf fs hs ks)
-metric-by-loads fs hs ks e = ap metric (sym (retimed-all fs hs ks e)) ∙ metric-of-retimed (blocksOf fs hs ks)
+  pub metric-by-loads : (fs hs ks : List ℕ) → length fs ≡ length hs → metric settings (blocksOf hs hs ks) ≡ metric settings (blocksOf fs hs ks)
+  metric-by-loads fs hs ks e = ap (metric settings) (sym (retimed-all fs hs ks e)) ∙ metric-of-retimed (blocksOf fs hs ks)
 
 pub present-by-loads : (fs hs ks : List ℕ) → length fs ≡ length hs → presentHours (blocksOf hs hs ks) ≡ presentHours (blocksOf fs hs ks)
 present-by-loads fs hs ks e = ap presentHours (sym (retimed-all fs hs ks e)) ∙ present-of-retimed (blocksOf fs hs ks)

@@ -1,4 +1,4 @@
--- The smallest number of a list that passes a test: one that stands in the list and passes, where nothing below it passes. And the highest of a list.
+-- The smallest number of a list that passes a test: one that stands in the list and passes, where nothing of the list that is below it passes. And the highest of a list.
 -- Assumes nothing.
 use Prim.Native.Nat.{ℕ, _+_, _≤_, _<_, max}
 use mathlib.Core.Path.{_≡_, refl, subst}
@@ -51,21 +51,21 @@ module _ (test : ℕ → Bool) (v : ℕ) where
       kept true r = inr r
       kept false r = r
 
-  all-passing : ((x : ℕ) → x < v → test x ≡ false) → (xs : List ℕ) → AllFrom v (filter test xs)
+  all-passing : (xs : List ℕ) → ((x : ℕ) → Among x xs → x < v → test x ≡ false) → AllFrom v (filter test xs)
   unfolding filter
-  all-passing low [] = tt
-  all-passing low (x ∷ xs) = kept (test x) refl (all-passing low xs)
+  all-passing [] low = tt
+  all-passing (x ∷ xs) low = kept (test x) refl (all-passing xs (λ y m. low y (inr m)))
     where
       at-least : (t : Bool) → ltb x v ≡ t → test x ≡ true → v ≤ x
-      at-least true l p = absurd (both-ways p (low x (ltb-true x v l)))
+      at-least true l p = absurd (both-ways p (low x (inl refl) (ltb-true x v l)))
       at-least false l p = ltb-false x v l
 
       kept : (t : Bool) → test x ≡ t → AllFrom v (filter test xs) → AllFrom v (cond t (x ∷ filter test xs) (filter test xs))
       kept true p a = (at-least (ltb x v) refl p, a)
       kept false p a = a
 
-  pub smallest-passing : (xs : List ℕ) → Among v xs → test v ≡ true → ((x : ℕ) → x < v → test x ≡ false) → smallest (filter test xs) ≡ v
-  smallest-passing xs m p low = smallest-is v (filter test xs) (among-passing p xs m) (all-passing low xs)
+  pub smallest-passing : (xs : List ℕ) → Among v xs → test v ≡ true → ((x : ℕ) → Among x xs → x < v → test x ≡ false) → smallest (filter test xs) ≡ v
+  smallest-passing xs m p low = smallest-is v (filter test xs) (among-passing p xs m) (all-passing xs low)
 
 -- the larger of two numbers that stand in a list stands there too
 pub among-max : (a b : ℕ) (xs : List ℕ) → Among a xs → Among b xs → Among (max a b) xs

@@ -6,8 +6,9 @@ use mathlib.Core.List.{List, [], _∷_, map}
 use native.Mathlib.Nat.{le-trans, min-le-left, sub-le}
 use lib.Dec.{ltb}
 use borrow.Author.Tests.{ltb-false}
+use Rattle.tariff.specs.declared.settings.Settings.{Settings}
 use Rattle.tariff.specs.Sum.{anyOf, filter}
-use Rattle.load_metric.specs.Load.{Block, smallest, withinExceedance, metric, loadPosted}
+use Rattle.load_metric.specs.Load.{Block, exceedanceHours, smallest, withinExceedance, smallestWithin, metric, loadPosted}
 use Rattle.tariff.proofs.Tests.{or-unmet}
 
 module _ {A : Type 0} (test : A → Bool) where
@@ -36,12 +37,12 @@ smallest-le most (x ∷ []) e = ltb-false most x (or-unmet (ltb most x) false e 
 smallest-le most (x ∷ y ∷ ys) e = le-trans (min-le-left x (smallest (y ∷ ys))) (ltb-false most x (or-unmet (ltb most x) (ltb most y || anyOf ys (λ x. ltb most x)) e .0))
 
 -- where no block is above a kW, neither the metric nor the load posted is
-pub metric-le : (most : ℕ) (bs : List Block) → anyOf bs (λ b. ltb most (b .kw)) ≡ false → metric bs ≤ most
-unfolding metric
-metric-le most bs e =
-    smallest-le most (filter (withinExceedance bs) (map (λ b. b .kw) bs))
-    (none-picked (λ x. ltb most x) (withinExceedance bs) (map (λ b. b .kw) bs) (any-of-map (λ x. ltb most x) (λ b. b .kw) bs e))
+pub metric-le : (settings : Settings) (most : ℕ) (bs : List Block) → anyOf bs (λ b. ltb most (b .kw)) ≡ false → metric settings bs ≤ most
+unfolding metric smallestWithin
+metric-le settings most bs e =
+    smallest-le most (filter (withinExceedance (exceedanceHours settings bs) bs) (map (λ b. b .kw) bs))
+    (none-picked (λ x. ltb most x) (withinExceedance (exceedanceHours settings bs) bs) (map (λ b. b .kw) bs) (any-of-map (λ x. ltb most x) (λ b. b .kw) bs e))
 
-pub posted-le : (most contract : ℕ) (bs : List Block) → anyOf bs (λ b. ltb most (b .kw)) ≡ false → loadPosted contract bs ≤ most
+pub posted-le : (settings : Settings) (most contract : ℕ) (bs : List Block) → anyOf bs (λ b. ltb most (b .kw)) ≡ false → loadPosted settings contract bs ≤ most
 unfolding loadPosted
-posted-le most contract bs e = le-trans (sub-le (metric bs) contract) (metric-le most bs e)
+posted-le settings most contract bs e = le-trans (sub-le (metric settings bs) contract) (metric-le settings most bs e)

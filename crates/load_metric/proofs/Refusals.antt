@@ -1,19 +1,24 @@
 -- What a block list in three slices is refused for, and what it gives, from what a pass over it gives. Assumes nothing.
-use Prim.Native.Nat.{ℕ, _*_, _-_, _/_, _≤_, _<_}
-use mathlib.Core.Path.{_≡_, refl, sym, ap, _∙_}
+use Prim.Native.Nat.{ℕ, _*_, _-_, _≤_, _<_}
+use mathlib.Core.Path.{_≡_, refl, sym, ap, _∙_, subst}
 use mathlib.Core.Bool.{Bool, true, false, cond, _||_}
 use mathlib.Core.List.{List, [], _∷_}
+use native.Mathlib.Nat.{div-lt-iff-lt-mul, le-div-iff-mul-le}
 use native.Mathlib.Omega.{arith}
 use lib.Dec.{eqb}
 use lib.ListN.{length}
 use borrow.Author.Tests.{eq-eqb, eqb-true, lt-ltb, le-ltb}
+use Rattle.tariff.specs.declared.settings.Fraction.{Fraction}
+use Rattle.tariff.specs.declared.settings.Settings.{Settings}
+use Rattle.tariff.specs.Settings.{partOf, settingsLegal}
 use Rattle.load_metric.specs.declared.load.Metering.{Metering}
 use Rattle.load_metric.specs.declared.load.Metering.the-variants.{Unequal, Broken, Missing, Kw}
 use Rattle.load_metric.specs.declared.load.BlockOrder.the-variants.{Hours, Broken as OutOfOrder}
-use Rattle.load_metric.specs.Load.{Block, inOrder, isEmpty, blocksBroken, presentHours, missingHours, tooManyMissing, metric, loadPosted}
+use Rattle.load_metric.specs.Load.{Block, inOrder, isEmpty, blocksBroken, presentHours, missingHours, tooManyMissing, exceedanceHours, smallestWithin, metric, loadPosted}
 use Rattle.load_metric.specs.Metering.{blocksOf, sameLengths, unlessRefused, metricOrCause, loadOrCause, meteringBy, blockRefusal}
 use Rattle.load_metric.specs.Levels.{spansOf, loadsOf, orderedHours, MetricInputs}
 use Rattle.tariff.proofs.Tests.{and-join, and-both}
+use Rattle.tariff.proofs.Fractions.{fraction-facts, legal-settings}
 use Rattle.load_metric.proofs.Blocks.{metric-by-loads, present-by-loads, present-by-spans, order-by-spans}
 use Rattle.load_metric.proofs.Ordered.{order-within, loads-have-hours}
 
@@ -38,14 +43,25 @@ out-of-order : (n : ℕ) (bs : List Block) → inOrder n 0 bs ≡ false → bloc
 unfolding blocksBroken
 out-of-order n bs e = or-right-true (isEmpty bs) (rw e)
 
--- missing hours are compared with n / 50, where the rule compares 50 times as many with n
-too-many : (n present : ℕ) (bs : List Block) → presentHours bs ≡ present → n / 50 < n - present → tooManyMissing n bs ≡ true
-unfolding tooManyMissing missingHours
-too-many n present bs e l = lt-ltb n ((n - presentHours bs) * 50) (omega arith)
+-- missing hours are compared with the rounded part of n, where the rule compares two products
+module _ (settings : Settings) (legal : settingsLegal settings ≡ true) (n present : ℕ) (bs : List Block) (e : presentHours bs ≡ present) where
+  abbrev share : Fraction
+  share = settings .missing
 
-few-enough : (n present : ℕ) (bs : List Block) → presentHours bs ≡ present → n - present ≤ n / 50 → tooManyMissing n bs ≡ false
-unfolding tooManyMissing missingHours
-few-enough n present bs e l = le-ltb n ((n - presentHours bs) * 50) (omega arith)
+  some : 0 < share .denominator
+  some = fraction-facts share (legal-settings settings legal .missing) .some
+
+  too-many : partOf share n < n - present → tooManyMissing settings n bs ≡ true
+  unfolding tooManyMissing missingHours partOf
+  too-many l =
+      lt-ltb (share .numerator * n) ((n - presentHours bs) * share .denominator)
+      (subst (λ p. share .numerator * n < (n - p) * share .denominator) (sym e) (div-lt-iff-lt-mul some .0 l))
+
+  few-enough : n - present ≤ partOf share n → tooManyMissing settings n bs ≡ false
+  unfolding tooManyMissing missingHours partOf
+  few-enough l =
+      le-ltb (share .numerator * n) ((n - presentHours bs) * share .denominator)
+      (subst (λ p. (n - p) * share .denominator ≤ share .numerator * n) (sym e) (le-div-iff-mul-le some .0 l))
 
 -- a pass that finds hours finds the blocks in order; one that finds none does not
 hours-in-order : (n present : ℕ) (bs : List Block) → Hours present ≡ orderedHours n bs → (inOrder n 0 bs ≡ true) × (presentHours bs ≡ present)
@@ -65,8 +81,8 @@ broken-order n bs e = go (inOrder n 0 bs) refl e
     go true p q = absurd (let z : _≡_ {A = ℕ} 0 1 = cc in omega arith)
     go false p q = p
 
-module _ (fs hs ks : List ℕ) (n : ℕ) where
-  pub unequal : sameLengths fs hs ks ≡ false → Unequal ≡ metricOrCause fs hs ks n
+module _ (settings : Settings) (fs hs ks : List ℕ) (n : ℕ) where
+  pub unequal : sameLengths fs hs ks ≡ false → Unequal ≡ metricOrCause settings fs hs ks n
   unfolding metricOrCause meteringBy
   unequal e = rw e
 
@@ -79,17 +95,17 @@ module _ (fs hs ks : List ℕ) (n : ℕ) where
     unfolding sameLengths
     same-lengths = and-join (eq-eqb (length fs) (length hs) p) (eq-eqb (length hs) (length ks) q)
 
-    refused-broken : blocksBroken n (blocksOf fs hs ks) ≡ true → Broken ≡ metricOrCause fs hs ks n
+    refused-broken : blocksBroken n (blocksOf fs hs ks) ≡ true → Broken ≡ metricOrCause settings fs hs ks n
     unfolding metricOrCause unlessRefused meteringBy blockRefusal
     refused-broken e = rw (same-lengths, e)
 
     -- no block
-    pub broken-empty : length hs ≡ 0 → Broken ≡ metricOrCause fs hs ks n
+    pub broken-empty : length hs ≡ 0 → Broken ≡ metricOrCause settings fs hs ks n
     unfolding blocksBroken
     broken-empty e = let none = empty-blocks fs hs ks (p ∙ e) in refused-broken (rw none)
 
     -- blocks out of order
-    pub broken-blocks : OutOfOrder ≡ orderedHours n (spansOf fs hs) → Broken ≡ metricOrCause fs hs ks n
+    pub broken-blocks : OutOfOrder ≡ orderedHours n (spansOf fs hs) → Broken ≡ metricOrCause settings fs hs ks n
     broken-blocks e = refused-broken (out-of-order n (blocksOf fs hs ks) (sym (order-by-spans n fs hs ks q) ∙ broken-order n (spansOf fs hs) e))
 
 -- what is known past the tests of lengths and order
@@ -123,19 +139,27 @@ module _ {fs hs ks : List ℕ} {n present : ℕ} (w : Passed fs hs ks n present)
         eachHasHours = loads-have-hours n fs hs ks (w .timed) in-order;
       }
 
-  -- more than 1 hour in 50 is missing
-  pub missing-hours : n / 50 < n - present → Missing ≡ metricOrCause fs hs ks n
-  unfolding metricOrCause unlessRefused meteringBy blockRefusal
-  missing-hours l =
-      let many = too-many n present (blocksOf fs hs ks) covered l in
-      rw (same-lengths fs hs ks n (w .timed) (w .paired), unbroken, many)
+  module _ (settings : Settings) (legal : settingsLegal settings ≡ true) where
+    -- too many hours are missing
+    pub missing-hours : partOf (settings .missing) n < n - present → Missing ≡ metricOrCause settings fs hs ks n
+    unfolding metricOrCause unlessRefused meteringBy blockRefusal
+    missing-hours l =
+        let many = too-many settings legal n present (blocksOf fs hs ks) covered l in
+        rw (same-lengths settings fs hs ks n (w .timed) (w .paired), unbroken, many)
 
-  -- no refusal
-  pub metered : {kw : ℕ} → n - present ≤ n / 50 → kw ≡ metric (loadsOf hs ks) → Kw kw ≡ metricOrCause fs hs ks n
-  unfolding metricOrCause unlessRefused meteringBy blockRefusal
-  metered l found =
-      let few = few-enough n present (blocksOf fs hs ks) covered l in
-      rw (same-lengths fs hs ks n (w .timed) (w .paired), unbroken, few, found, metric-by-loads fs hs ks (w .timed))
+    -- no refusal: the kW found within the hours that may be exceeded is the metric
+    found-metric : {kw most : ℕ} → most ≡ partOf (settings .exceedance) present → kw ≡ smallestWithin most (loadsOf hs ks) → kw ≡ metric settings (blocksOf fs hs ks)
+    unfolding metric exceedanceHours
+    found-metric m found =
+        found
+        ∙ ap (λ k. smallestWithin k (loadsOf hs ks)) (m ∙ ap (partOf (settings .exceedance)) (sym (covering .covered)))
+        ∙ metric-by-loads settings fs hs ks (w .timed)
+
+    pub metered : {kw most : ℕ} → n - present ≤ partOf (settings .missing) n → most ≡ partOf (settings .exceedance) present → kw ≡ smallestWithin most (loadsOf hs ks) → Kw kw ≡ metricOrCause settings fs hs ks n
+    unfolding metricOrCause unlessRefused meteringBy blockRefusal
+    metered l m found =
+        let few = few-enough settings legal n present (blocksOf fs hs ks) covered l in
+        rw (same-lengths settings fs hs ks n (w .timed) (w .paired), unbroken, few, found-metric m found)
 
 -- contract load off a kW; a refusal stays
 abbrev pub afterContract : ℕ → Metering → Metering
@@ -144,12 +168,12 @@ afterContract contract Broken = Broken
 afterContract contract Missing = Missing
 afterContract contract (Kw kw) = Kw (kw - contract)
 
-posted-after-contract : (fs hs ks : List ℕ) (n contract : ℕ) → afterContract contract (metricOrCause fs hs ks n) ≡ loadOrCause fs hs ks n contract
+posted-after-contract : (settings : Settings) (fs hs ks : List ℕ) (n contract : ℕ) → afterContract contract (metricOrCause settings fs hs ks n) ≡ loadOrCause settings fs hs ks n contract
 unfolding metricOrCause loadOrCause unlessRefused meteringBy blockRefusal loadPosted
-posted-after-contract fs hs ks n contract = go (sameLengths fs hs ks) (blocksBroken n (blocksOf fs hs ks)) (tooManyMissing n (blocksOf fs hs ks))
+posted-after-contract settings fs hs ks n contract = go (sameLengths fs hs ks) (blocksBroken n (blocksOf fs hs ks)) (tooManyMissing settings n (blocksOf fs hs ks))
   where
     kw : ℕ
-    kw = metric (blocksOf fs hs ks)
+    kw = metric settings (blocksOf fs hs ks)
 
     go : (same broken missing : Bool) → afterContract contract (cond same (meteringBy (cond broken 6 (cond missing 7 0)) kw) (meteringBy 1 0))
         ≡ cond same (meteringBy (cond broken 6 (cond missing 7 0)) (kw - contract)) (meteringBy 1 0)
@@ -159,6 +183,6 @@ posted-after-contract fs hs ks n contract = go (sameLengths fs hs ks) (blocksBro
     go true false false = refl
 
 -- the load posted, from what the metric's function returned
-pub posted-from : (fs hs ks : List ℕ) (n contract : ℕ) {given m : Metering} → given ≡ metricOrCause fs hs ks n → given ≡ m
-    → afterContract contract m ≡ loadOrCause fs hs ks n contract
-posted-from fs hs ks n contract e same = ap (afterContract contract) (sym same ∙ e) ∙ posted-after-contract fs hs ks n contract
+pub posted-from : (settings : Settings) (fs hs ks : List ℕ) (n contract : ℕ) {given m : Metering} → given ≡ metricOrCause settings fs hs ks n → given ≡ m
+    → afterContract contract m ≡ loadOrCause settings fs hs ks n contract
+posted-from settings fs hs ks n contract e same = ap (afterContract contract) (sym same ∙ e) ∙ posted-after-contract settings fs hs ks n contract

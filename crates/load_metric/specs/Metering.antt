@@ -6,6 +6,7 @@ use lib.Dec.{eqb}
 use lib.ListN.{length}
 use Rattle.load_metric.specs.declared.load.Metering.{Metering}
 use Rattle.load_metric.specs.declared.load.Metering.the-variants.{Unequal, Broken, Missing, Kw}
+use Rattle.tariff.specs.declared.settings.Settings.{Settings}
 use Rattle.tariff.specs.Numbers.{unreadable, brokenBlocks, hoursMissing}
 use Rattle.load_metric.specs.Load.{Block, blocksBroken, tooManyMissing, metric, loadPosted}
 
@@ -25,17 +26,18 @@ unfoldable pub meteringBy : ℕ → ℕ → Metering
 meteringBy number kw = cond (eqb number unreadable) Unequal (cond (eqb number brokenBlocks) Broken (cond (eqb number hoursMissing) Missing (Kw kw)))
 
 -- the block list broken or empty is cause 6, too many hours missing is cause 7, and the lower number decides; 0 for none (01, Refusals by cause)
-unfoldable pub blockRefusal : ℕ → List Block → ℕ
-blockRefusal n bs = cond (blocksBroken n bs) brokenBlocks (cond (tooManyMissing n bs) hoursMissing 0)
+unfoldable pub blockRefusal : Settings → ℕ → List Block → ℕ
+blockRefusal settings n bs = cond (blocksBroken n bs) brokenBlocks (cond (tooManyMissing settings n bs) hoursMissing 0)
 
-unfoldable pub unlessRefused : ℕ → List Block → ℕ → Metering
-unlessRefused n bs kw = meteringBy (blockRefusal n bs) kw
+unfoldable pub unlessRefused : Settings → ℕ → List Block → ℕ → Metering
+unlessRefused settings n bs kw = meteringBy (blockRefusal settings n bs) kw
 
--- the metric: the smallest kW among the blocks that is exceeded in at most 0.5% of the present hours (01, Posting, Load)
-unfoldable pub metricOrCause : List ℕ → List ℕ → List ℕ → ℕ → Metering
-metricOrCause fs hs ks n = cond (sameLengths fs hs ks) (unlessRefused n (blocksOf fs hs ks) (metric (blocksOf fs hs ks))) (meteringBy unreadable 0)
+-- the metric: the smallest kW among the blocks that is exceeded in few enough of the present hours (01, Posting, Load)
+unfoldable pub metricOrCause : Settings → List ℕ → List ℕ → List ℕ → ℕ → Metering
+metricOrCause settings fs hs ks n =
+    cond (sameLengths fs hs ks) (unlessRefused settings n (blocksOf fs hs ks) (metric settings (blocksOf fs hs ks))) (meteringBy unreadable 0)
 
 -- the load posted: contract load comes off the metric, not below 0 (01, Posting, Load; house)
-unfoldable pub loadOrCause : List ℕ → List ℕ → List ℕ → ℕ → ℕ → Metering
-loadOrCause fs hs ks n contract =
-    cond (sameLengths fs hs ks) (unlessRefused n (blocksOf fs hs ks) (loadPosted contract (blocksOf fs hs ks))) (meteringBy unreadable 0)
+unfoldable pub loadOrCause : Settings → List ℕ → List ℕ → List ℕ → ℕ → ℕ → Metering
+loadOrCause settings fs hs ks n contract =
+    cond (sameLengths fs hs ks) (unlessRefused settings n (blocksOf fs hs ks) (loadPosted settings contract (blocksOf fs hs ks))) (meteringBy unreadable 0)

@@ -1,12 +1,17 @@
-// The load metric over blocks of metered hours, and the load posted (01, Posting, Load).
+// The load metric over blocks of metered hours, and the load posted, by the book's settings (01, Posting, Load; 02, 3/14).
 // A block list is lent as three slices. At one index they hold a block's first hour, its hours and its kW.
 ghost use mathlib.Core.Path.{_≡_};
+ghost use mathlib.Core.Bool.{true};
 ghost use Prim.Native.Nat.{max};
 ghost use lib.ListN.{length};
-ghost use Rattle.load_metric.specs.Load.{metric};
+ghost use Rattle.tariff.specs.Settings.{settingsLegal};
+ghost use Rattle.load_metric.specs.Load.{smallestWithin};
 ghost use Rattle.load_metric.specs.Metering.{sameLengths, metricOrCause, loadOrCause};
 ghost use Rattle.load_metric.specs.Levels.{spansOf, loadsOf, orderedHours, highestKw, levelBelow, Countable, MetricInputs};
+use tariff::limit::min;
 use tariff::limit::saturating_sub;
+use tariff::settings::Settings;
+use tariff::settings::part_of;
 
 // What a block list gives: the kW, or why it is refused.
 pub enum Metering {
@@ -101,18 +106,18 @@ fn level_below(hours: &[u64], kws: &[u64], cap: u64) -> Level
     Level { kw, above }
 }
 
-// The smallest kW among the blocks that is exceeded in at most 0.5% of the present hours, rounded down. From the highest kW it goes
-// down to the next lower one as long as that one is exceeded in few enough hours.
-fn metric_of_blocks(hours: &[u64], kws: &[u64], present: u64) -> u64
+// The smallest kW among the blocks that is exceeded in no more than so many of the present hours. From the highest kW it goes down to the next lower one
+// as long as that one is exceeded in few enough. Where all hours may be exceeded it ends at the lowest block's kW, which has all hours at or above it.
+fn metric_of_blocks(hours: &[u64], kws: &[u64], present: u64, exceedance_hours: u64) -> u64
     requires { ⌜ MetricInputs (now hours) (now kws) present ⌝ }
-    ensures { λ r. ⌜ r ≡ metric (loadsOf (now (hours .entry)) (now (kws .entry))) ⌝ }
+    ensures { λ r. ⌜ r ≡ smallestWithin «exceedance_hours» (loadsOf (now (hours .entry)) (now (kws .entry))) ⌝ }
 {
-    let exceedance_hours = present / 200;
+    let most_above = min(exceedance_hours, saturating_sub(present, 1));
     let mut kw = highest(kws);
     let mut below = level_below(hours, kws, kw);
     // Each pass goes down to a lower kW that some block has, and that block's hours, 1 or more, add to those above the next. So the passes
-    // over the blocks are at most exceedance_hours + 2, for 2,208 hours 13, however many blocks there are.
-    while below.above <= exceedance_hours {
+    // over the blocks are at most exceedance_hours + 2, for 2,208 hours at 1/200 13, however many blocks there are.
+    while below.above <= most_above {
         kw = below.kw;
         below = level_below(hours, kws, kw);
     }
@@ -127,8 +132,15 @@ pub fn same_lengths(firsts: &[u64], hours: &[u64], kws: &[u64]) -> bool
 }
 
 // The load metric of a block list over n hours. Any numbers may stand in the slices.
-pub fn load_metric(firsts: &[u64], hours: &[u64], kws: &[u64], n: u64) -> Metering
-    ensures { λ r. ⌜ r ≡ metricOrCause (now (firsts .entry)) (now (hours .entry)) (now (kws .entry)) n ⌝ }
+pub fn load_metric(
+    settings: Settings,
+    firsts: &[u64],
+    hours: &[u64],
+    kws: &[u64],
+    n: u64,
+) -> Metering
+    requires { ⌜ settingsLegal settings ≡ true ⌝ }
+    ensures { λ r. ⌜ r ≡ metricOrCause settings (now (firsts .entry)) (now (hours .entry)) (now (kws .entry)) n ⌝ }
 {
     if !same_lengths(firsts, hours, kws) {
         return Metering::Unequal;
@@ -139,19 +151,28 @@ pub fn load_metric(firsts: &[u64], hours: &[u64], kws: &[u64], n: u64) -> Meteri
     let BlockOrder::Hours(present) = present_in_order(firsts, hours, n) else {
         return Metering::Broken;
     };
-    // The rule compares 50 times the missing hours with n. That product may not fit, and this test says the same.
+    // The rule compares two products, which may not fit. The hours are whole, so this test says the same.
     let missing = n - present;
-    if missing > n / 50 {
+    if missing > part_of(settings.missing, n) {
         return Metering::Missing;
     }
-    Metering::Kw(metric_of_blocks(hours, kws, present))
+    let exceedance_hours = part_of(settings.exceedance, present);
+    Metering::Kw(metric_of_blocks(hours, kws, present, exceedance_hours))
 }
 
 // The load posted: the metric less the contract load, not below 0.
-pub fn load_posted(firsts: &[u64], hours: &[u64], kws: &[u64], n: u64, contract: u64) -> Metering
-    ensures { λ r. ⌜ r ≡ loadOrCause (now (firsts .entry)) (now (hours .entry)) (now (kws .entry)) n contract ⌝ }
+pub fn load_posted(
+    settings: Settings,
+    firsts: &[u64],
+    hours: &[u64],
+    kws: &[u64],
+    n: u64,
+    contract: u64,
+) -> Metering
+    requires { ⌜ settingsLegal settings ≡ true ⌝ }
+    ensures { λ r. ⌜ r ≡ loadOrCause settings (now (firsts .entry)) (now (hours .entry)) (now (kws .entry)) n contract ⌝ }
 {
-    match load_metric(firsts, hours, kws, n) {
+    match load_metric(settings, firsts, hours, kws, n) {
         Metering::Unequal => Metering::Unequal,
         Metering::Broken => Metering::Broken,
         Metering::Missing => Metering::Missing,

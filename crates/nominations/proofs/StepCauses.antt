@@ -1,6 +1,6 @@
 -- Causes 17 and 18 as code finds them in the Long Term step. Assumes nothing.
 use Prim.Native.Nat.{ℕ, _+_, _<_}
-use mathlib.Core.Path.{_≡_, sym, ap, _∙_}
+use mathlib.Core.Path.{_≡_, sym, ap, _∙_, ap₂}
 use mathlib.Core.Bool.{Bool, true, false, not, _&&_, _||_}
 use mathlib.Core.List.{List}
 use native.Mathlib.Nat.{le-trans}
@@ -10,7 +10,8 @@ use borrow.Author.Tests.{eq-eqb, ne-eqb, not-true, not-false}
 use Rattle.tariff.specs.declared.evidence.Entry.{Entry}
 use Rattle.tariff.specs.Sizes.{lastMonth, terms}
 use Rattle.tariff.specs.Sum.{whenTrue, anyBelow}
-use Rattle.tariff.specs.Eligible.{fifthOfLoad}
+use Rattle.tariff.specs.declared.settings.Settings.{Settings}
+use Rattle.tariff.specs.Eligible.{eligibleWithoutEvidence}
 use Rattle.tariff.specs.Terms.{isLongTermStep}
 use Rattle.tariff.proofs.Sums.{sum-ext}
 use Rattle.ledger.specs.Opening.{Opening, holderKind, pathSource, pathBase, hasBase}
@@ -50,14 +51,14 @@ module _ (o f : List ℕ) (m : List Bool) (x : List Entry) where
   pub obaalse-needs : (tier h b kw kind : ℕ) → kind ≡ holderKind O h → kind ≡ 2 → true ≡ needsTenYear O L tier h b kw
   unfolding needsTenYear
   obaalse-needs tier h b kw kind is e =
-      sym (ap (λ t. t || ltb (fifthOfLoad (L .loads .kw h b 0)) (nominatedAt O L h b tier + kw + longTermAt O L h b 1)) (eq-eqb (holderKind O h) 2 (sym is ∙ e)))
+      sym (ap (λ t. t || ltb (eligibleWithoutEvidence (O .settings) (L .loads .kw h b 0)) (nominatedAt O L h b tier + kw + longTermAt O L h b 1)) (eq-eqb (holderKind O h) 2 (sym is ∙ e)))
 
-  -- .. and by another holder above a fifth of its load
-  pub above-fifth : (r : Reachable o f m x) (h b kw kind load nominated carried fifth : ℕ) → (l : h < O .holders) → b < 16 → kind ≡ holderKind O h → (kind ≡ 2 → ⊥) → load ≡ readAt figureSlots 0 f h b loadSlot → nominated ≡ sumAtBase O b (onPath f h nominatedSlot) → carried ≡ sumAtBase O b (onPath f h carriedSlot) → fifth ≡ fifthOfLoad load → ltb fifth (nominated + kw + carried) ≡ needsTenYear O L (L .tiers .currentTier) h b kw
+  -- .. and by another holder above what the step gives of its load without it
+  pub above-without : (r : Reachable o f m x) (settings : Settings) (h b kw kind load nominated carried without : ℕ) → (l : h < O .holders) → b < 16 → kind ≡ holderKind O h → (kind ≡ 2 → ⊥) → load ≡ readAt figureSlots 0 f h b loadSlot → nominated ≡ sumAtBase O b (onPath f h nominatedSlot) → carried ≡ sumAtBase O b (onPath f h carriedSlot) → settings ≡ O .settings → without ≡ eligibleWithoutEvidence settings load → ltb without (nominated + kw + carried) ≡ needsTenYear O L (L .tiers .currentTier) h b kw
   unfolding needsTenYear longTermAt ledgerIn
-  above-fifth r h b kw kind load nominated carried fifth l place is ne ofLoad n lt q =
-      (λ i. ltb ((q ∙ ap fifthOfLoad (ofLoad ∙ from-zero f loadSlot terms h b 0 holder place (omega arith))) i) ((n ∙ nominated-at o f m x r h l b) i + kw + (lt ∙ month-1) i))
-      ∙ sym (ap (λ u. u || ltb (fifthOfLoad (L .loads .kw h b 0)) (nominatedAt O L h b (L .tiers .currentTier) + kw + longTermAt O L h b 1)) (ne-eqb (holderKind O h) 2 (λ w. ne (is ∙ w))))
+  above-without r settings h b kw kind load nominated carried without l place is ne ofLoad n lt set q =
+      (λ i. ltb ((q ∙ ap₂ eligibleWithoutEvidence set (ofLoad ∙ from-zero f loadSlot terms h b 0 holder place (omega arith))) i) ((n ∙ nominated-at o f m x r h l b) i + kw + (lt ∙ month-1) i))
+      ∙ sym (ap (λ u. u || ltb (eligibleWithoutEvidence (O .settings) (L .loads .kw h b 0)) (nominatedAt O L h b (L .tiers .currentTier) + kw + longTermAt O L h b 1)) (ne-eqb (holderKind O h) 2 (λ w. ne (is ∙ w))))
     where
       holder : h < 8
       holder = le-trans l (counts o f m x r .0)

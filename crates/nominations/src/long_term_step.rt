@@ -1,9 +1,10 @@
-// What the Long Term step refuses: nominations above the tier 1 award, and sources without ten-year evidence (02, 1/14).
+// What the Long Term step refuses: nominations above the tier 1 award, and sources without ten-year evidence (02, 1/14 and 3/14).
 use records::kinds::OBAALSE;
 use records::setup::holder_kind;
 use records::setup::path_base;
 use records::setup::path_source;
 use records::setup::paths;
+use records::setup::settings;
 use slots::calendar::current_tier;
 use slots::cells::read;
 use slots::layout::AWARDS_SLOT;
@@ -11,7 +12,7 @@ use slots::layout::CARRIED_SLOT;
 use slots::layout::LOAD_SLOT;
 use slots::layout::NOMINATED_SLOT;
 use slots::sums::sum_at_base;
-use tariff::limit::fifth_of_load;
+use tariff::limit::eligible_without_evidence;
 use tariff::sizes::LONG_TERM_STEP;
 use tier_limits::ten_year::has_ten_year;
 ghost use mathlib.Core.Path.{_≡_};
@@ -34,7 +35,7 @@ pub fn exceeds_tier_1_award(o: &[u64], f: &[u64], h: u64, p: u64, kw: u64) -> bo
 }
 
 // Whether ten-year evidence is needed: by an OBAALSE always, by another holder where with kw more its nominations at the base, and its carried
-// holding of month 1, exceed a fifth of its load of the season.
+// holding of month 1, exceed what the step gives of its load of the season without it.
 fn needs_ten_year(o: &[u64], f: &[u64], h: u64, base: u64, kw: u64) -> bool
     requires { ⌜ BaseInputs (now o) (now f) h base kw ⌝ }
     ensures { λ r. ⌜ InFigures (now (o .entry)) (now (f .entry)) (λ O L. r ≡ needsTenYear O L (L .tiers .currentTier) h base kw) ⌝ }
@@ -45,7 +46,7 @@ fn needs_ten_year(o: &[u64], f: &[u64], h: u64, base: u64, kw: u64) -> bool
     let load = read(f, h, base, LOAD_SLOT);
     let nominated = sum_at_base(o, f, h, NOMINATED_SLOT, base);
     let carried = sum_at_base(o, f, h, CARRIED_SLOT, base);
-    fifth_of_load(load) < nominated + kw + carried
+    eligible_without_evidence(settings(o), load) < nominated + kw + carried
 }
 
 // Whether it is needed at the source of path q: for a nomination on p at that of p itself, and of each path at its base that the holder has nominated on.

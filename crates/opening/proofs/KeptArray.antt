@@ -5,12 +5,15 @@ use mathlib.Core.List.{List, [], _∷_, _++_, append-assoc}
 use native.Mathlib.Nat.{le-of-eq}
 use native.Mathlib.Omega.{arith}
 use lib.ListN.{length, getD, take, drop, set, length-append, length-set, length-drop}
-use lib.Seq.{length-take-le, take-all, take-at}
+use lib.Seq.{length-take-le, take-all, take-at, drop-drop}
 use borrow.Rule.Slice.PartMut.{midOf, postOf, putMid, same-len-mid}
 use Rattle.tariff.specs.Sum.{tabulate}
 use Rattle.tariff.proofs.Lists.{length-tabulate, list-is}
-use Rattle.records.specs.Opening.{openingCount, basesAt, openingIn, withRoom, openingLists, pathBases, openingArray, openingFrom, emptyOpening}
-use Rattle.ledger.specs.Opening.{base, pathSink, pathBase}
+use Rattle.tariff.specs.declared.settings.Settings.{Settings}
+use Rattle.tariff.specs.Sizes.{settingCount}
+use Rattle.tariff.specs.Settings.{fractionAt, settingsOf, presentSettings, settingsNumbers}
+use Rattle.records.specs.Opening.{openingCount, settingsAt, basesAt, openingIn, withRoom, openingLists, openingNumbers, pathBases, openingArray, openingFrom, emptyOpening}
+use Rattle.ledger.specs.Opening.{Opening, base, pathSink, pathBase}
 
 -- the four counts stored
 counts-first : (o : List ℕ) (holders sources sinks paths : ℕ) → 4 ≤ length o → take 4 (set (set (set (set o 0 holders) 1 sources) 2 sinks) 3 paths) ≡ holders ∷ sources ∷ sinks ∷ paths ∷ []
@@ -37,7 +40,12 @@ module _ (a k : ℕ) (xs from ys : List ℕ) (size : length xs ≡ openingCount)
       ∙ take-at (take a xs ++ ys) (postOf a k xs) (a + k) (let many = length-append (take a xs) ys in let before = length-take-le a xs (omega arith) in let new = ap length copied-list ∙ length-tabulate k _ in omega arith)
       ∙ ap (λ z. take a xs ++ z) copied-list
 
--- bases copied in after the lists
+-- the settings are twelve numbers
+pub numbers-many : (s : Settings) → length (settingsNumbers s) ≡ settingCount
+unfolding settingsNumbers
+numbers-many s = refl
+
+-- bases copied in after the settings
 pub bases-stored : (o bases ys : List ℕ) → length o ≡ openingCount → length bases ≡ 16 → ys ≡ withRoom (length (midOf basesAt 16 o)) bases → putMid basesAt 16 o ys ≡ take basesAt o ++ bases
 bases-stored o bases ys size many copied =
     sym (take-all openingCount (putMid basesAt 16 o ys) (le-of-eq (copied-size basesAt 16 o bases ys size (omega arith) copied)))
@@ -91,7 +99,7 @@ module _ (o : List ℕ) (size : length o ≡ openingCount) (holders sources sink
             front = holders ∷ sources ∷ sinks ∷ paths ∷ []
 
             -- the lists stand after the counts
-            copied-all : take basesAt to5 ≡ ((((front ++ withRoom 8 holderKinds) ++ withRoom 16 sinkKinds) ++ withRoom 16 sinkParents) ++ withRoom 16 pathSources) ++ withRoom 16 pathSinks
+            copied-all : take settingsAt to5 ≡ ((((front ++ withRoom 8 holderKinds) ++ withRoom 16 sinkKinds) ++ withRoom 16 sinkParents) ++ withRoom 16 pathSources) ++ withRoom 16 pathSinks
             copied-all =
                 copied-take 60 16 to4 pathSinks ys5 size-4 (omega arith) fifth
                 ∙ ap (λ z. z ++ withRoom 16 pathSinks) (copied-take 44 16 to3 pathSources ys4 size-3 (omega arith) fourth)
@@ -100,11 +108,28 @@ module _ (o : List ℕ) (size : length o ≡ openingCount) (holders sources sink
                 ∙ ap (λ z. (((z ++ withRoom 16 sinkKinds) ++ withRoom 16 sinkParents) ++ withRoom 16 pathSources) ++ withRoom 16 pathSinks) (copied-take 4 8 counted holderKinds ys1 counted-size (omega arith) first)
                 ∙ ap (λ z. ((((z ++ withRoom 8 holderKinds) ++ withRoom 16 sinkKinds) ++ withRoom 16 sinkParents) ++ withRoom 16 pathSources) ++ withRoom 16 pathSinks) (counts-first o holders sources sinks paths (omega arith))
 
-            pub opening-kept : take basesAt to5 ≡ openingLists (openingFrom holders sources sinks paths holderKinds sinkKinds sinkParents pathSources pathSinks)
+            pub opening-kept : (settings : Settings) → take settingsAt to5 ≡ openingLists (openingFrom holders sources sinks paths holderKinds sinkKinds sinkParents pathSources pathSinks settings)
             unfolding openingLists openingFrom
-            opening-kept = copied-all ∙ simp append-assoc
+            opening-kept settings = copied-all ∙ simp append-assoc
 
--- an array with nothing but 0 keeps the opening with nothing in it
-pub empty-kept : tabulate openingCount (λ k. 0) ≡ openingArray emptyOpening
-unfolding openingArray openingLists pathBases pathBase base pathSink emptyOpening tabulate
-empty-kept = refl
+-- settings copied in after the lists
+pub settings-stored : (o numbers ys : List ℕ) → length o ≡ openingCount → length numbers ≡ settingCount → ys ≡ withRoom (length (midOf settingsAt settingCount o)) numbers → putMid settingsAt settingCount o ys ≡ take settingsAt o ++ (numbers ++ drop basesAt o)
+settings-stored o numbers ys size many copied =
+    ap (λ zs. take settingsAt o ++ (ys ++ zs)) (drop-drop settingCount settingsAt o)
+    ∙ ap (λ zs. take settingsAt o ++ (zs ++ drop basesAt o)) (copied-list settingsAt settingCount o numbers ys size (omega arith) copied ∙ sym (list-is settingCount (λ k. getD numbers k 0) numbers many (λ k l. refl)))
+
+-- then the array has the opening's numbers before the bases
+pub numbers-kept : (o : Opening) (before : List ℕ) → length before ≡ openingCount → take settingsAt before ≡ openingLists o → take basesAt (take settingsAt before ++ (settingsNumbers (o .settings) ++ drop basesAt before)) ≡ openingNumbers o
+unfolding openingNumbers
+numbers-kept o before size keeps =
+    ap (take basesAt) (sym (append-assoc (take settingsAt before) (settingsNumbers (o .settings)) (drop basesAt before)))
+    ∙ take-at (take settingsAt before ++ settingsNumbers (o .settings)) (drop basesAt before) basesAt
+    (let many = length-append (take settingsAt before) (settingsNumbers (o .settings)) in
+    let first = length-take-le settingsAt before (omega arith) in
+    let twelve = numbers-many (o .settings) in omega arith)
+    ∙ ap (λ xs. xs ++ settingsNumbers (o .settings)) keeps
+
+-- an array with nothing but 0 and the present settings keeps the opening with nothing in it
+pub empty-kept : (zeros : List ℕ) → zeros ≡ tabulate openingCount (λ k. 0) → take settingsAt zeros ++ (settingsNumbers presentSettings ++ drop basesAt zeros) ≡ openingArray emptyOpening
+unfolding openingArray openingNumbers openingLists pathBases pathBase base pathSink emptyOpening tabulate presentSettings settingsOf fractionAt settingsNumbers
+empty-kept zeros e = ap (λ zs. take settingsAt zs ++ (settingsNumbers presentSettings ++ drop basesAt zs)) e

@@ -8,14 +8,15 @@ use lib.ListN.{length, getD, take, drop}
 use lib.Seq.{length-take-le}
 use borrow.Author.Tests.{eq-eqb}
 use borrow.Rule.Slice.PartMut.{mid-len}
-use Rattle.tariff.specs.Sum.{allBelow, tabulate}
+use Rattle.tariff.specs.Sum.{allBelow}
+use Rattle.tariff.specs.Settings.{settingsLegal}
 use Rattle.tariff.proofs.Tests.{and-join, and-right-false}
 use Rattle.ledger.specs.Opening.{Opening, countsFit, listsFit, holderLegal, sinkLegal, pathLegal, pathNew, legal, openingRefusal}
+use Rattle.ledger.proofs.LegalFacts.{legal-facts}
 use Rattle.records.specs.declared.answers.Answer.the-variants.{Done, Refused}
-use Rattle.records.specs.Opening.{openingCount, basesAt, openingIn, openingLists, pathBases, openingArray, emptyOpening}
-use Rattle.records.proofs.OpeningLaws.{counts-small, legal-fits, opening-before, opening-by-lists}
+use Rattle.records.specs.Opening.{openingCount, basesAt, openingIn, openingLists, openingNumbers, pathBases, openingArray, emptyOpening}
+use Rattle.records.proofs.OpeningLaws.{counts-small, opening-before, opening-by-lists}
 use Rattle.opening.specs.Opened.{openingAnswer, resultingOpening}
-use Rattle.opening.proofs.KeptArray.{empty-kept}
 
 -- an opening whose counts or lists do not fit is not legal
 pub unfit-counts : (o : Opening) → countsFit o ≡ false → legal o ≡ false
@@ -44,17 +45,17 @@ array-lists o size e =
     (eq-eqb _ _ (counted (getD o 3 0) 16 (take 16 (drop 44 o)) (mid-len 44 60 o (omega arith)) (n .2))))
     (eq-eqb _ _ (counted (getD o 3 0) 16 (take 16 (drop 60 o)) (mid-len 60 76 o (omega arith)) (n .2)))
 
--- where the counts fit, an array is legal by its holders, sinks and paths
-pub legal-by-lines : (o : List ℕ) → length o ≡ openingCount → countsFit (openingIn o) ≡ true → (allBelow (openingIn o .holders) (holderLegal (openingIn o)) && allBelow (openingIn o .sinks) (sinkLegal (openingIn o)) && allBelow (openingIn o .paths) (pathLegal (openingIn o)) && allBelow (openingIn o .paths) (pathNew (openingIn o))) ≡ legal (openingIn o)
+-- where the counts fit, an array is legal by its holders, sinks and paths, and its settings
+pub legal-by-lines : (o : List ℕ) → length o ≡ openingCount → countsFit (openingIn o) ≡ true → (allBelow (openingIn o .holders) (holderLegal (openingIn o)) && allBelow (openingIn o .sinks) (sinkLegal (openingIn o)) && allBelow (openingIn o .paths) (pathLegal (openingIn o)) && allBelow (openingIn o .paths) (pathNew (openingIn o)) && settingsLegal (openingIn o .settings)) ≡ legal (openingIn o)
 unfolding legal openingIn
 legal-by-lines o size e = rw (e, array-lists o size e)
 
 -- an array keeps the counts as they are
-counts-same : (o : Opening) → countsFit (openingIn (openingLists o)) ≡ countsFit o
-unfolding countsFit openingIn openingLists
+counts-same : (o : Opening) → countsFit (openingIn (openingNumbers o)) ≡ countsFit o
+unfolding countsFit openingIn openingNumbers openingLists
 counts-same o = refl
 
-module _ (o : Opening) (kept : List ℕ) (keeps : take basesAt kept ≡ openingLists o) where
+module _ (o : Opening) (kept : List ℕ) (keeps : take basesAt kept ≡ openingNumbers o) where
   -- the lists fit and the array is legal just where the opening is
   legal-kept : (listsFit o && legal (openingIn kept)) ≡ legal o
   legal-kept = go (listsFit o) (countsFit o) refl refl
@@ -74,7 +75,7 @@ module _ (o : Opening) (kept : List ℕ) (keeps : take basesAt kept ≡ openingL
     with-bases left ok bases = bases ∙ (λ i. keeps i ++ pathBases (legal-by-lists-kept ok i))
       where
         legal-by-lists-kept : legal o ≡ true → openingIn kept ≡ o
-        legal-by-lists-kept ok = let fits = legal-fits o ok in opening-by-lists o kept keeps (fits .0) (fits .1)
+        legal-by-lists-kept ok = let fits = legal-facts o ok in opening-by-lists o kept keeps (fits .countsFit) (fits .listsFit)
 
     pub opened-done : (left : List ℕ) → (lists && lines) ≡ true → left ≡ take basesAt kept ++ pathBases (openingIn kept) → (Done ≡ openingAnswer o) × (left ≡ openingArray (resultingOpening o))
     unfolding openingAnswer resultingOpening
@@ -82,8 +83,8 @@ module _ (o : Opening) (kept : List ℕ) (keeps : take basesAt kept ≡ openingL
         let t = tested e in
         (sym (ap (λ t. cond t Done (Refused (openingRefusal o))) t), with-bases left t bases ∙ sym (ap (λ t. openingArray (cond t o emptyOpening)) t))
 
-    pub opened-refused : (left : List ℕ) → (lists && lines) ≡ false → left ≡ tabulate openingCount (λ k. 0) → (Refused 16 ≡ openingAnswer o) × (left ≡ openingArray (resultingOpening o))
+    pub opened-refused : (left : List ℕ) → (lists && lines) ≡ false → left ≡ openingArray emptyOpening → (Refused 16 ≡ openingAnswer o) × (left ≡ openingArray (resultingOpening o))
     unfolding openingAnswer resultingOpening openingRefusal
     opened-refused left e cleared =
         let t = tested e in
-        (sym (ap (λ t. cond t Done (Refused (cond t 0 16))) t), cleared ∙ empty-kept ∙ sym (ap (λ t. openingArray (cond t o emptyOpening)) t))
+        (sym (ap (λ t. cond t Done (Refused (cond t 0 16))) t), cleared ∙ sym (ap (λ t. openingArray (cond t o emptyOpening)) t))

@@ -1,4 +1,4 @@
-// Whether the opening that an array keeps is legal (01, The book; cause 16).
+// Whether the opening that an array keeps is legal (01, The book; 02, 3/14; cause 16).
 use records::kinds::DEFAULT_LAP;
 use records::kinds::LSE;
 use records::kinds::OBAALSE;
@@ -9,10 +9,12 @@ use records::setup::holders;
 use records::setup::path_sink;
 use records::setup::path_source;
 use records::setup::paths;
+use records::setup::settings;
 use records::setup::sink_base;
 use records::setup::sink_kind;
 use records::setup::sinks;
 use records::setup::sources;
+use tariff::settings::settings_legal;
 use tariff::sizes::MAX_HOLDERS;
 use tariff::sizes::MAX_PLACES;
 ghost use mathlib.Core.Path.{_≡_};
@@ -153,5 +155,6 @@ pub fn is_legal(o: &[u64]) -> bool
     if !counts_fit(o) {
         return false;
     }
-    holders_legal(o) & sinks_legal(o) & paths_legal(o) & paths_differ(o)
+    let lines = holders_legal(o) & sinks_legal(o) & paths_legal(o) & paths_differ(o);
+    lines & settings_legal(settings(o))
 }

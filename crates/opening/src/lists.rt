@@ -1,20 +1,27 @@
-// The counts and lists that a book is opened with, kept in an array (01, The book).
+// The counts, lists and settings that a book is opened with, kept in an array (01, The book; 02, 3/14).
+use records::lists::clear;
 use records::setup::BASES_AT;
 use records::setup::HOLDER_KINDS_AT;
 use records::setup::OPENING_COUNT;
 use records::setup::PATH_SINKS_AT;
 use records::setup::PATH_SOURCES_AT;
+use records::setup::SETTINGS_AT;
 use records::setup::SINK_KINDS_AT;
 use records::setup::SINK_PARENTS_AT;
 use records::setup::base_by_sink;
+use tariff::settings::Settings;
+use tariff::settings::present_settings;
+use tariff::settings::settings_numbers;
 use tariff::sizes::MAX_PLACES;
 ghost use mathlib.Core.Path.{_≡_};
 ghost use mathlib.Core.List.{_++_};
 ghost use Prim.Native.Nat.{ℕ};
-ghost use lib.ListN.{length, getD, take};
+ghost use lib.ListN.{length, getD, take, drop};
+ghost use Rattle.tariff.specs.declared.settings.Settings.{Settings};
+ghost use Rattle.tariff.specs.Settings.{settingsNumbers};
 ghost use Rattle.tariff.specs.Sum.{tabulate};
 ghost use Rattle.ledger.specs.Opening.{listsFit};
-ghost use Rattle.records.specs.Opening.{openingCount, basesAt, openingOf, openingLists, pathBases, openingFrom};
+ghost use Rattle.records.specs.Opening.{openingCount, settingsAt, basesAt, openingOf, openingLists, pathBases, openingArray, openingFrom, emptyOpening};
 
 // A list copied into an array: 0 past the list's end, and what finds no room is left out.
 fn copy_into(to: &mut [u64], from: &[u64])
@@ -41,7 +48,7 @@ pub fn keep_opening(
     path_sinks: &[u64],
 )
     requires { ⌜ length (now o) ≡ openingCount ⌝ }
-    ensures { λ r. ⌜ take basesAt (now (o .exit)) ≡ openingLists (openingFrom holders sources sinks paths (now («holder_kinds» .entry)) (now («sink_kinds» .entry)) (now («sink_parents» .entry)) (now («path_sources» .entry)) (now («path_sinks» .entry))) ⌝ }
+    ensures { λ r. ⌜ ((settings : Settings) → take settingsAt (now (o .exit)) ≡ openingLists (openingFrom holders sources sinks paths (now («holder_kinds» .entry)) (now («sink_kinds» .entry)) (now («sink_parents» .entry)) (now («path_sources» .entry)) (now («path_sinks» .entry)) settings)) ⌝ }
 {
     o[0] = holders;
     o[1] = sources;
@@ -51,7 +58,25 @@ pub fn keep_opening(
     copy_into(&mut o[SINK_KINDS_AT..SINK_PARENTS_AT], sink_kinds);
     copy_into(&mut o[SINK_PARENTS_AT..PATH_SOURCES_AT], sink_parents);
     copy_into(&mut o[PATH_SOURCES_AT..PATH_SINKS_AT], path_sources);
-    copy_into(&mut o[PATH_SINKS_AT..BASES_AT], path_sinks);
+    copy_into(&mut o[PATH_SINKS_AT..SETTINGS_AT], path_sinks);
+}
+
+// The settings kept after the lists.
+pub fn keep_settings(o: &mut [u64], settings: Settings)
+    requires { ⌜ length (now o) ≡ openingCount ⌝ }
+    ensures { λ r. ⌜ now (o .exit) ≡ take settingsAt (now (o .entry)) ++ (settingsNumbers settings ++ drop basesAt (now (o .entry))) ⌝ }
+{
+    let numbers = settings_numbers(settings);
+    copy_into(&mut o[SETTINGS_AT..BASES_AT], &numbers);
+}
+
+// An opening with nothing in it, by the present figures.
+pub fn keep_nothing(o: &mut [u64])
+    requires { ⌜ length (now o) ≡ openingCount ⌝ }
+    ensures { λ r. ⌜ now (o .exit) ≡ openingArray emptyOpening ⌝ }
+{
+    clear(o);
+    keep_settings(o, present_settings());
 }
 
 // The base of each path of the opening that an array keeps.
@@ -67,7 +92,7 @@ fn path_bases(o: &[u64]) -> [u64; MAX_PLACES]
     bases
 }
 
-// The bases kept after the lists.
+// The bases kept after the settings.
 pub fn keep_bases(o: &mut [u64])
     requires { ⌜ length (now o) ≡ openingCount ⌝ }
     ensures { λ r. ⌜ now (o .exit) ≡ take basesAt (now (o .entry)) ++ pathBases (openingOf (o .entry)) ⌝ }
@@ -87,7 +112,7 @@ pub fn lists_fit(
     path_sources: &[u64],
     path_sinks: &[u64],
 ) -> bool
-    ensures { λ r. ⌜ ((sources : ℕ) → r ≡ listsFit (openingFrom holders sources sinks paths (now («holder_kinds» .entry)) (now («sink_kinds» .entry)) (now («sink_parents» .entry)) (now («path_sources» .entry)) (now («path_sinks» .entry)))) ⌝ }
+    ensures { λ r. ⌜ ((sources : ℕ) (settings : Settings) → r ≡ listsFit (openingFrom holders sources sinks paths (now («holder_kinds» .entry)) (now («sink_kinds» .entry)) (now («sink_parents» .entry)) (now («path_sources» .entry)) (now («path_sinks» .entry)) settings)) ⌝ }
 {
     let of_holders = holder_kinds.len() as u64 == holders;
     let of_kinds = sink_kinds.len() as u64 == sinks;

@@ -6,6 +6,7 @@ use mathlib.Core.List.{List}
 use native.Mathlib.Omega.{arith}
 use lib.ListN.{length, length-map, getD}
 use lib.Dec.{leb, ltb}
+use Rattle.tariff.specs.declared.settings.Settings.{Settings}
 use Rattle.tariff.specs.Sum.{anyBelow, anyOf}
 use Rattle.load_metric.specs.declared.load.Metering.the-variants.{Unequal, Broken, Missing, Kw}
 use Rattle.load_metric.specs.Load.{Block, blocksBroken, tooManyMissing}
@@ -43,38 +44,38 @@ unfolding loadOutOfRange kwBlocks
 range-of-blocks term contract n fs hs ks p q =
     λ i. (((termOutOfRange term || ltb maxKw contract) || not (within 1 2208 n)) || ltb 2208 ((block-count ks ks ks refl refl ∙ sym (block-count fs hs ks p q)) i)) || (any-kw ks ks ks refl refl (ltb maxKw) ∙ sym (any-kw fs hs ks p q (ltb maxKw))) i
 
-module _ (n : ℕ) (bs : List Block) (kw : ℕ) where
+module _ (settings : Settings) (n : ℕ) (bs : List Block) (kw : ℕ) where
   -- blocks that the function takes for broken, or for too few, are; of those that it gives a kW for, neither holds
-  pub when-broken : Broken ≡ unlessRefused n bs kw → blocksBroken n bs ≡ true
+  pub when-broken : Broken ≡ unlessRefused settings n bs kw → blocksBroken n bs ≡ true
   unfolding unlessRefused meteringBy blockRefusal
-  when-broken e = go (blocksBroken n bs) (tooManyMissing n bs) e
+  when-broken e = go (blocksBroken n bs) (tooManyMissing settings n bs) e
     where
       go : (x y : Bool) → Broken ≡ meteringBy (cond x brokenBlocks (cond y hoursMissing 0)) kw → x ≡ true
       go true y q = refl
       go false true q = cc
       go false false q = cc
 
-  pub when-missing : Missing ≡ unlessRefused n bs kw → (blocksBroken n bs ≡ false) × (tooManyMissing n bs ≡ true)
+  pub when-missing : Missing ≡ unlessRefused settings n bs kw → (blocksBroken n bs ≡ false) × (tooManyMissing settings n bs ≡ true)
   unfolding unlessRefused meteringBy blockRefusal
-  when-missing e = go (blocksBroken n bs) (tooManyMissing n bs) e
+  when-missing e = go (blocksBroken n bs) (tooManyMissing settings n bs) e
     where
       go : (x y : Bool) → Missing ≡ meteringBy (cond x brokenBlocks (cond y hoursMissing 0)) kw → (x ≡ false) × (y ≡ true)
       go true y q = (cc, cc)
       go false true q = (refl, refl)
       go false false q = (refl, cc)
 
-  pub when-kw : (x : ℕ) → Kw x ≡ unlessRefused n bs kw → (blocksBroken n bs ≡ false) × (tooManyMissing n bs ≡ false) × (x ≡ kw)
+  pub when-kw : (x : ℕ) → Kw x ≡ unlessRefused settings n bs kw → (blocksBroken n bs ≡ false) × (tooManyMissing settings n bs ≡ false) × (x ≡ kw)
   unfolding unlessRefused meteringBy blockRefusal
-  when-kw x e = go (blocksBroken n bs) (tooManyMissing n bs) e
+  when-kw x e = go (blocksBroken n bs) (tooManyMissing settings n bs) e
     where
       go : (a b : Bool) → Kw x ≡ meteringBy (cond a brokenBlocks (cond b hoursMissing 0)) kw → (a ≡ false) × (b ≡ false) × (x ≡ kw)
       go true b q = (cc, cc, cc)
       go false true q = (refl, cc, cc)
       go false false q = (refl, refl, cc)
 
-  pub not-unequal : Unequal ≡ unlessRefused n bs kw → ⊥
+  pub not-unequal : Unequal ≡ unlessRefused settings n bs kw → ⊥
   unfolding unlessRefused meteringBy blockRefusal
-  not-unequal e = go (blocksBroken n bs) (tooManyMissing n bs) e
+  not-unequal e = go (blocksBroken n bs) (tooManyMissing settings n bs) e
     where
       go : (x y : Bool) → Unequal ≡ meteringBy (cond x brokenBlocks (cond y hoursMissing 0)) kw → ⊥
       go true y q = let z : _≡_ {A = ℕ} 0 1 = cc in omega arith

@@ -30,7 +30,7 @@ use Rattle.slots.proofs.Reachable.{counts, figures-shown, posted-shown, evidenc
 use Rattle.slots.proofs.Figures.{from-zero, load-fits, room-for-more}
 use Rattle.slots.proofs.StepLaws.{accepted-test, steps-accepted}
 
-module _ (o f : List ℕ) (m : List Bool) (x : List Entry) (h s term contract n : ℕ) (blocks : List Block) (kw number : ℕ) (r : Reachable o f m x) (found : number ≡ refusal (openingIn o) (ledgerIn f m x) (load h s term contract n blocks)) (zero : number ≡ 0) (posts : kw ≡ loadPosted contract blocks) where
+module _ (o f : List ℕ) (m : List Bool) (x : List Entry) (h s term contract n : ℕ) (blocks : List Block) (kw number : ℕ) (r : Reachable o f m x) (found : number ≡ refusal (openingIn o) (ledgerIn f m x) (load h s term contract n blocks)) (zero : number ≡ 0) (posts : kw ≡ loadPosted (openingIn o .settings) contract blocks) where
   abbrev O : Opening
   O = openingIn o
 
@@ -61,7 +61,7 @@ module _ (o f : List ℕ) (m : List Bool) (x : List Entry) (h s term contract n 
       let is = ap (readAt figureSlots 0 f h s) same ∙ from-zero f loadSlot terms h s slot holder sink below in (
         record { holder = holder; place = sink; inRow = omega arith },
         figures-long o f m x r,
-        room-for-more _ kw (le-trans (le-of-eq is) (le-trans (load-fits o f m x r h s slot (facts .holder)) (omega arith))) (le-trans (le-of-eq posts) (posted-le maxKw contract blocks (facts .blockKw))),
+        room-for-more _ kw (le-trans (le-of-eq is) (le-trans (load-fits o f m x r h s slot (facts .holder)) (omega arith))) (le-trans (le-of-eq posts) (posted-le (O .settings) maxKw contract blocks (facts .blockKw))),
       )
 
   pub load-cell : (slot : ℕ) → slot ≤ term → HasCell postedSlots h s slot × (length m ≡ postedCount)

@@ -49,7 +49,7 @@ module _ (o f : List ℕ) (m : List Bool) (x : List Entry) (h s term contract n 
   unfolding postingOf postingBy
   load-refused stop same = go (sameLengths firsts hours kws) (eqb number 0) refl (sym same ∙ is)
     where
-      go : (even none : Bool) → eqb number 0 ≡ none → Refused stop ≡ cond even (cond none (Kw (loadPosted contract blocks)) (Refused number)) (Refused unreadable) → StepsIf even O L call (AnswerRefused stop) f m x
+      go : (even none : Bool) → eqb number 0 ≡ none → Refused stop ≡ cond even (cond none (Kw (loadPosted (O .settings) contract blocks)) (Refused number)) (Refused unreadable) → StepsIf even O L call (AnswerRefused stop) f m x
       go true true q w = absurd (let z : _≡_ {A = ℕ} 0 1 = cc in omega arith)
       go true false q w =
           let found : stop ≡ number = cc in
@@ -60,11 +60,11 @@ module _ (o f : List ℕ) (m : List Bool) (x : List Entry) (h s term contract n 
 
   module _ (kw : ℕ) (same : given ≡ Kw kw) where
     -- a load that comes to a kW is accepted, and that kW is the load posted
-    known : (sameLengths firsts hours kws ≡ true) × (number ≡ 0) × (kw ≡ loadPosted contract blocks)
+    known : (sameLengths firsts hours kws ≡ true) × (number ≡ 0) × (kw ≡ loadPosted (O .settings) contract blocks)
     unfolding postingOf postingBy
     known = go (sameLengths firsts hours kws) (eqb number 0) refl (sym same ∙ is)
       where
-        go : (even none : Bool) → eqb number 0 ≡ none → Kw kw ≡ cond even (cond none (Kw (loadPosted contract blocks)) (Refused number)) (Refused unreadable) → (even ≡ true) × (number ≡ 0) × (kw ≡ loadPosted contract blocks)
+        go : (even none : Bool) → eqb number 0 ≡ none → Kw kw ≡ cond even (cond none (Kw (loadPosted (O .settings) contract blocks)) (Refused number)) (Refused unreadable) → (even ≡ true) × (number ≡ 0) × (kw ≡ loadPosted (O .settings) contract blocks)
         go true true q w = (refl, eqb-true number 0 q, cc)
         go true false q w = (refl, cc, cc)
         go false none q w = (cc, cc, cc)

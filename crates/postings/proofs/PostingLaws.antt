@@ -7,6 +7,7 @@ use native.Mathlib.Omega.{arith}
 use lib.ListN.{length, take, drop}
 use lib.Dec.{eqb}
 use borrow.Author.Tests.{eqb-true, eq-eqb, ne-eqb}
+use Rattle.tariff.specs.declared.settings.Settings.{Settings}
 use Rattle.load_metric.specs.declared.load.Metering.{Metering}
 use Rattle.load_metric.specs.declared.load.Metering.the-variants.{Unequal, Broken, Missing, Kw as MeteredKw}
 use Rattle.load_metric.specs.Load.{Block, loadPosted}
@@ -40,25 +41,25 @@ module _ (O : Opening) (L : Ledger) (h s term contract n : ℕ) (firsts hours kw
   -- slices of unequal length
   pub uneven : sameLengths firsts hours kws ≡ false → Refused unreadable ≡ postingOf O L h s term contract n firsts hours kws
   unfolding postingOf
-  uneven odd = sym (ap (λ t. cond t (postingBy number (loadPosted contract blocks)) (Refused unreadable)) odd)
+  uneven odd = sym (ap (λ t. cond t (postingBy number (loadPosted (O .settings) contract blocks)) (Refused unreadable)) odd)
 
   module _ (even : sameLengths firsts hours kws ≡ true) where
-    by-number : postingBy number (loadPosted contract blocks) ≡ postingOf O L h s term contract n firsts hours kws
+    by-number : postingBy number (loadPosted (O .settings) contract blocks) ≡ postingOf O L h s term contract n firsts hours kws
     unfolding postingOf
-    by-number = sym (ap (λ t. cond t (postingBy number (loadPosted contract blocks)) (Refused unreadable)) even)
+    by-number = sym (ap (λ t. cond t (postingBy number (loadPosted (O .settings) contract blocks)) (Refused unreadable)) even)
 
     stopped : (r : ℕ) → r ≡ number → (r ≡ 0 → ⊥) → Refused r ≡ postingOf O L h s term contract n firsts hours kws
     unfolding postingBy
     stopped r e ne =
         ap Refused e
-        ∙ sym (ap (λ t. cond t (Kw (loadPosted contract blocks)) (Refused number)) (ne-eqb number 0 (λ z. ne (e ∙ z))))
+        ∙ sym (ap (λ t. cond t (Kw (loadPosted (O .settings) contract blocks)) (Refused number)) (ne-eqb number 0 (λ z. ne (e ∙ z))))
         ∙ by-number
 
-    posted : (kw : ℕ) → 0 ≡ number → kw ≡ loadPosted contract blocks → Kw kw ≡ postingOf O L h s term contract n firsts hours kws
+    posted : (kw : ℕ) → 0 ≡ number → kw ≡ loadPosted (O .settings) contract blocks → Kw kw ≡ postingOf O L h s term contract n firsts hours kws
     unfolding postingBy
     posted kw none e =
         ap Kw e
-        ∙ sym (ap (λ t. cond t (Kw (loadPosted contract blocks)) (Refused number)) (eq-eqb number 0 (sym none)))
+        ∙ sym (ap (λ t. cond t (Kw (loadPosted (O .settings) contract blocks)) (Refused number)) (eq-eqb number 0 (sym none)))
         ∙ by-number
 
     -- causes 2 to 5 look at the kW of the blocks alone
@@ -85,19 +86,20 @@ module _ (O : Opening) (L : Ledger) (h s term contract n : ℕ) (firsts hours kw
           let r5 = unmet 4 _ _ (r4 .1) in
           unmet-first notInBook _ _ (r2 .0) (unmet-first outOfRange _ _ (r3 .0) (unmet-first notAtThisTime _ _ (r4 .0) (unmet-first postedBefore _ _ (r5 .0) later)))
 
-  -- what is known past causes 2 to 5: the tests of cause 10, and what the function that finds the kW gave
-  pub record Passed (early : ℕ) (ineligible subLap : Bool) (given : Metering) : Type 0 where
+  -- what is known past causes 2 to 5: the tests of cause 10, the settings, and what the function that finds the kW gave
+  pub record Passed (early : ℕ) (ineligible subLap : Bool) (settings : Settings) (given : Metering) : Type 0 where
     pub even : sameLengths firsts hours kws ≡ true
     pub found : early ≡ firstMet (take 4 (causes (kwBlocks kws)))
     pub none : early ≡ 0
     pub ofSink : ineligible ≡ kindIneligible O h s
     pub ofSubLap : subLap ≡ isSubLap O s
-    pub metered : given ≡ loadOrCause firsts hours kws n contract
+    pub ofSettings : settings ≡ O .settings
+    pub metered : given ≡ loadOrCause settings firsts hours kws n contract
 
-  module _ {early : ℕ} {ineligible subLap : Bool} {given : Metering} (w : Passed early ineligible subLap given) where
-    metered-is : {m : Metering} → given ≡ m → m ≡ unlessRefused n blocks (loadPosted contract blocks)
+  module _ {early : ℕ} {ineligible subLap : Bool} {settings : Settings} {given : Metering} (w : Passed early ineligible subLap settings given) where
+    metered-is : {m : Metering} → given ≡ m → m ≡ unlessRefused (O .settings) n blocks (loadPosted (O .settings) contract blocks)
     unfolding loadOrCause meteringBy
-    metered-is same = sym same ∙ w .metered ∙ ap (λ t. cond t (unlessRefused n blocks (loadPosted contract blocks)) (meteringBy unreadable 0)) (w .even)
+    metered-is same = sym same ∙ w .metered ∙ ap (λ s. loadOrCause s firsts hours kws n contract) (w .ofSettings) ∙ ap (λ t. cond t (unlessRefused (O .settings) n blocks (loadPosted (O .settings) contract blocks)) (meteringBy unreadable 0)) (w .even)
 
     -- a number that the later causes come to is the refusal
     late : (r : ℕ) → r ≡ firstMet (drop 4 (causes blocks)) → r ≡ number
@@ -107,16 +109,16 @@ module _ (O : Opening) (L : Ledger) (h s term contract n : ℕ) (firsts hours kw
     late-stops r later ne = stopped (w .even) r (late r later) ne
 
     pub unequal-stops : given ≡ Unequal → Refused unreadable ≡ postingOf O L h s term contract n firsts hours kws
-    unequal-stops same = absurd (not-unequal n blocks (loadPosted contract blocks) (metered-is same))
+    unequal-stops same = absurd (not-unequal (O .settings) n blocks (loadPosted (O .settings) contract blocks) (metered-is same))
 
     pub broken-stops : given ≡ Broken → Refused brokenBlocks ≡ postingOf O L h s term contract n firsts hours kws
     unfolding loadCauses
-    broken-stops same = late-stops brokenBlocks (met-first brokenBlocks _ _ (when-broken n blocks (loadPosted contract blocks) (metered-is same))) (λ z. omega (arith, z))
+    broken-stops same = late-stops brokenBlocks (met-first brokenBlocks _ _ (when-broken (O .settings) n blocks (loadPosted (O .settings) contract blocks) (metered-is same))) (λ z. omega (arith, z))
 
     pub missing-stops : given ≡ Missing → Refused hoursMissing ≡ postingOf O L h s term contract n firsts hours kws
     unfolding loadCauses
     missing-stops same =
-        let t = when-missing n blocks (loadPosted contract blocks) (metered-is same) in
+        let t = when-missing (O .settings) n blocks (loadPosted (O .settings) contract blocks) (metered-is same) in
         late-stops hoursMissing (unmet-first brokenBlocks _ _ (t .0) (met-first hoursMissing _ _ (t .1))) (λ z. omega (arith, z))
 
     module _ (kw : ℕ) (same : given ≡ MeteredKw kw) where
@@ -127,11 +129,11 @@ module _ (O : Opening) (L : Ledger) (h s term contract n : ℕ) (firsts hours kw
       pub sink-stops : (ineligible || subLap) ≡ true → Refused sinkIneligible ≡ postingOf O L h s term contract n firsts hours kws
       unfolding loadCauses
       sink-stops e =
-          let t = when-kw n blocks (loadPosted contract blocks) kw (metered-is same) in
+          let t = when-kw (O .settings) n blocks (loadPosted (O .settings) contract blocks) kw (metered-is same) in
           late-stops sinkIneligible (unmet-first brokenBlocks _ _ (t .0) (unmet-first hoursMissing _ _ (t .1) (met-first sinkIneligible _ _ (sink-test e)))) (λ z. omega (arith, z))
 
       pub kw-posts : (ineligible || subLap) ≡ false → Kw kw ≡ postingOf O L h s term contract n firsts hours kws
       unfolding loadCauses
       kw-posts e =
-          let t = when-kw n blocks (loadPosted contract blocks) kw (metered-is same) in
+          let t = when-kw (O .settings) n blocks (loadPosted (O .settings) contract blocks) kw (metered-is same) in
           posted (w .even) kw (late 0 (unmet-first brokenBlocks _ _ (t .0) (unmet-first hoursMissing _ _ (t .1) (unmet-first sinkIneligible _ _ (sink-test e) no-more)))) (t .2)

@@ -35,5 +35,5 @@ postingBy number kw = cond (eqb number 0) (Kw kw) (Refused number)
 unfoldable pub postingOf : Opening → Ledger → (h s term contract n : ℕ) → (firsts hours kws : List ℕ) → Posting
 postingOf O L h s term contract n firsts hours kws =
     cond (sameLengths firsts hours kws)
-    (postingBy (refusal O L (load h s term contract n (blocksOf firsts hours kws))) (loadPosted contract (blocksOf firsts hours kws)))
+    (postingBy (refusal O L (load h s term contract n (blocksOf firsts hours kws))) (loadPosted (O .settings) contract (blocksOf firsts hours kws)))
     (Refused unreadable)

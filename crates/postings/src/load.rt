@@ -1,4 +1,4 @@
-// Load: the metered hours of a holder at a sink, in blocks, and the load that is posted of them (01, Posting, Load).
+// Load: the metered hours of a holder at a sink, in blocks, and the load that is posted of them (01, Posting, Load; 02, 3/14).
 use crate::posted_slot::posted_slot;
 use load_metric::load::Metering;
 use load_metric::load::load_posted;
@@ -17,6 +17,7 @@ use records::refusals::refuse;
 use records::refusals::term_out_of_range;
 use records::setup::is_sub_lap;
 use records::setup::kind_ineligible;
+use records::setup::settings;
 use records::setup::unknown_holder;
 use records::setup::unknown_sink;
 use slots::calendar::current_tier;
@@ -119,7 +120,7 @@ fn load_posting(
     }
     let ineligible = kind_ineligible(o, h, s);
     let sub_lap = is_sub_lap(o, s);
-    match load_posted(firsts, hours, kws, n, contract) {
+    match load_posted(settings(o), firsts, hours, kws, n, contract) {
         Metering::Unequal => Posting::Refused(UNREADABLE),
         Metering::Broken => Posting::Refused(BROKEN_BLOCKS),
         Metering::Missing => Posting::Refused(HOURS_MISSING),

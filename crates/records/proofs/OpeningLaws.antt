@@ -8,10 +8,13 @@ use lib.ListN.{length, getD, take, drop, length-drop}
 use lib.Seq.{ext-getD, getD-take, getD-drop, length-take-le, take-take, take-at, drop-at}
 use borrow.Author.Tests.{eqb-true, leb-true}
 use Rattle.tariff.specs.Sum.{tabulate, allBelow}
+use Rattle.tariff.specs.Settings.{fractionLegal, settingsLegal, fractionAt, settingsOf, presentSettings, settingsNumbers}
 use Rattle.tariff.proofs.Tests.{and-both}
 use Rattle.tariff.proofs.Lists.{length-tabulate, at-tabulate}
+use Rattle.tariff.proofs.SettingsLaws.{settings-ext, settings-back}
+use Rattle.ledger.proofs.LegalFacts.{legal-facts}
 use Rattle.ledger.specs.Opening.{Opening, pathBase, countsFit, listsFit, legal}
-use Rattle.records.specs.Opening.{openingCount, basesAt, openingIn, openingLists, pathBases, openingArray, KeepsBases, withRoom, emptyOpening}
+use Rattle.records.specs.Opening.{openingCount, settingsAt, basesAt, openingIn, openingLists, openingNumbers, pathBases, openingArray, KeepsBases, withRoom, emptyOpening}
 use Rattle.records.proofs.ListsBefore.{mid-past, last-past}
 
 -- the first n of a list that was copied into n places or more are the list
@@ -56,9 +59,32 @@ module _ (v w x y z : List ℕ) (a : length v ≡ 8) (b : length w ≡ 16) (c : 
     last-past (v ∷ w ∷ x ∷ y ∷ []) z 56 16 (omega (arith, a, b, c, d)) e,
   )
 
--- the lists keep the whole of an opening whose counts and lists fit
-pub lists-back : (o : Opening) → countsFit o ≡ true → listsFit o ≡ true → openingIn (openingLists o) ≡ o
-unfolding openingIn openingLists
+-- a part of what stands before a place
+part-before : (a k n : ℕ) (xs : List ℕ) → a + k ≤ n → take k (drop a (take n xs)) ≡ take k (drop a xs)
+part-before zero k n xs l = take-take k n xs (omega arith)
+part-before (suc a) k zero xs l = absurd (omega (arith, l))
+part-before (suc a) k (suc n) [] l = refl
+part-before (suc a) k (suc n) (x ∷ xs) l = part-before a k n xs (omega arith)
+
+lists-size : (o : Opening) → length (openingLists o) ≡ settingsAt
+unfolding openingLists tabulate
+lists-size o = refl
+
+-- the settings stand after the lists
+settings-after : (o : Opening) → settingsOf (drop settingsAt (openingNumbers o)) ≡ o .settings
+unfolding openingNumbers
+settings-after o = ap settingsOf (drop-at (openingLists o) (settingsNumbers (o .settings)) settingsAt (lists-size o)) ∙ settings-back (o .settings)
+
+-- and a list stands where it does without them
+list-before : (o : Opening) (a k : ℕ) → a + k ≤ settingsAt → take k (drop a (openingNumbers o)) ≡ take k (drop a (openingLists o))
+unfolding openingNumbers
+list-before o a k l =
+    sym (part-before a k settingsAt (openingLists o ++ settingsNumbers (o .settings)) l)
+    ∙ ap (λ xs. take k (drop a xs)) (take-at (openingLists o) (settingsNumbers (o .settings)) settingsAt (lists-size o))
+
+-- the numbers keep the whole of an opening whose counts and lists fit
+pub lists-back : (o : Opening) → countsFit o ≡ true → listsFit o ≡ true → openingIn (openingNumbers o) ≡ o
+unfolding openingIn openingNumbers openingLists
 lists-back o counts lists =
     let n = counts-small o counts in
     let l = lists-long o lists in
@@ -69,20 +95,15 @@ lists-back o counts lists =
       sources = o .sources;
       sinks = o .sinks;
       paths = o .paths;
-      holderKinds = (ap (take (o .holders)) (apart .0) ∙ copied-back (o .holders) 8 (o .holderKinds) (l .0) (n .0)) i;
-      sinkKinds = (ap (take (o .sinks)) (apart .1) ∙ copied-back (o .sinks) 16 (o .sinkKinds) (l .1) (n .1)) i;
-      sinkParents = (ap (take (o .sinks)) (apart .2) ∙ copied-back (o .sinks) 16 (o .sinkParents) (l .2) (n .1)) i;
-      pathSources = (ap (take (o .paths)) (apart .3) ∙ copied-back (o .paths) 16 (o .pathSources) (l .3) (n .2)) i;
-      pathSinks = (ap (take (o .paths)) (apart .4) ∙ copied-back (o .paths) 16 (o .pathSinks) (l .4) (n .2)) i;
+      holderKinds = (ap (take (o .holders)) (list-before o 4 8 (omega arith) ∙ apart .0) ∙ copied-back (o .holders) 8 (o .holderKinds) (l .0) (n .0)) i;
+      sinkKinds = (ap (take (o .sinks)) (list-before o 12 16 (omega arith) ∙ apart .1) ∙ copied-back (o .sinks) 16 (o .sinkKinds) (l .1) (n .1)) i;
+      sinkParents = (ap (take (o .sinks)) (list-before o 28 16 (omega arith) ∙ apart .2) ∙ copied-back (o .sinks) 16 (o .sinkParents) (l .2) (n .1)) i;
+      pathSources = (ap (take (o .paths)) (list-before o 44 16 (omega arith) ∙ apart .3) ∙ copied-back (o .paths) 16 (o .pathSources) (l .3) (n .2)) i;
+      pathSinks = (ap (take (o .paths)) (list-before o 60 16 (omega arith) ∙ apart .4) ∙ copied-back (o .paths) 16 (o .pathSinks) (l .4) (n .2)) i;
+      settings = settings-after o i;
     }
 
 -- what stands before the bases is all of the opening
-part-before : (a k n : ℕ) (xs : List ℕ) → a + k ≤ n → take k (drop a (take n xs)) ≡ take k (drop a xs)
-part-before zero k n xs l = take-take k n xs (omega arith)
-part-before (suc a) k zero xs l = absurd (omega (arith, l))
-part-before (suc a) k (suc n) [] l = refl
-part-before (suc a) k (suc n) (x ∷ xs) l = part-before a k n xs (omega arith)
-
 pub opening-before : (o : List ℕ) → openingIn (take basesAt o) ≡ openingIn o
 unfolding openingIn
 opening-before o =
@@ -98,29 +119,25 @@ opening-before o =
       sinkParents = take (count 2 (omega arith) i) (part-before 28 16 basesAt o (omega arith) i);
       pathSources = take (count 3 (omega arith) i) (part-before 44 16 basesAt o (omega arith) i);
       pathSinks = take (count 3 (omega arith) i) (part-before 60 16 basesAt o (omega arith) i);
+      settings = settings-ext (drop settingsAt (take basesAt o)) (drop settingsAt o) (λ k l. getD-drop settingsAt (take basesAt o) k 0 ∙ getD-take basesAt o (settingsAt + k) 0 (omega arith) ∙ sym (getD-drop settingsAt o k 0)) i;
     }
 
-lists-size : (o : Opening) → length (openingLists o) ≡ basesAt
-unfolding openingLists tabulate
-lists-size o = refl
+numbers-size : (o : Opening) → length (openingNumbers o) ≡ basesAt
+unfolding openingNumbers openingLists tabulate settingsNumbers
+numbers-size o = refl
 
--- an array of which the lists are an opening's keeps that opening
-pub opening-by-lists : (o : Opening) (kept : List ℕ) → take basesAt kept ≡ openingLists o → countsFit o ≡ true → listsFit o ≡ true → openingIn kept ≡ o
+-- an array of which the numbers are an opening's keeps that opening
+pub opening-by-lists : (o : Opening) (kept : List ℕ) → take basesAt kept ≡ openingNumbers o → countsFit o ≡ true → listsFit o ≡ true → openingIn kept ≡ o
 opening-by-lists o kept keeps counts lists = sym (opening-before kept) ∙ ap openingIn keeps ∙ lists-back o counts lists
-
--- the counts and lists of a legal opening fit
-pub legal-fits : (o : Opening) → legal o ≡ true → (countsFit o ≡ true) × (listsFit o ≡ true)
-unfolding legal
-legal-fits o e = and-both _ _ (and-both _ _ (and-both _ _ (and-both _ _ (and-both _ _ e .0) .0) .0) .0)
 
 pub opening-back : (o : Opening) → legal o ≡ true → openingIn (openingArray o) ≡ o
 unfolding openingArray
-opening-back o e = let fits = legal-fits o e in opening-by-lists o (openingArray o) (take-at (openingLists o) (pathBases o) basesAt (lists-size o)) (fits .0) (fits .1)
+opening-back o e = let fits = legal-facts o e in opening-by-lists o (openingArray o) (take-at (openingNumbers o) (pathBases o) basesAt (numbers-size o)) (fits .countsFit) (fits .listsFit)
 
 -- and its array keeps the bases of its paths
 pub bases-kept : (o : Opening) → legal o ≡ true → KeepsBases (openingArray o)
 unfolding openingArray
-bases-kept o e = drop-at (openingLists o) (pathBases o) basesAt (lists-size o) ∙ ap pathBases (sym (opening-back o e))
+bases-kept o e = drop-at (openingNumbers o) (pathBases o) basesAt (numbers-size o) ∙ ap pathBases (sym (opening-back o e))
 
 -- the base that is kept for a path
 pub base-at : (o : List ℕ) → KeepsBases o → (p : ℕ) → p < 16 → getD o (basesAt + p) 0 ≡ pathBase (openingIn o) p
@@ -133,5 +150,5 @@ bases-size o keeps = let left = length-drop basesAt o in let many = ap length ke
 
 -- an opening with nothing in it breaks no rule
 pub empty-legal : legal emptyOpening ≡ true
-unfolding legal countsFit listsFit allBelow emptyOpening
+unfolding legal countsFit listsFit allBelow emptyOpening settingsLegal fractionLegal presentSettings settingsOf fractionAt
 empty-legal = refl

@@ -1,18 +1,23 @@
-// What a book was opened with, kept in an array (01, The book): the four counts, then what stands on the line of each holder, sink and path.
+// What a book was opened with, kept in an array (01, The book; 02, 3/14): the four counts, then what stands on the line of each holder, sink and path, and
+// the settings.
 use crate::kinds::LSE;
 use crate::kinds::SCHEDULING_POINT;
 use crate::kinds::SUB_LAP;
 use crate::lists::list_entry;
 use crate::lists::number_at;
+use tariff::settings::Fraction;
+use tariff::settings::Settings;
 use tariff::sizes::MAX_HOLDERS;
 use tariff::sizes::MAX_PLACES;
 ghost use Prim.Native.Nat.{_<_};
 ghost use mathlib.Core.Path.{_≡_};
-ghost use Rattle.tariff.specs.Sizes.{maxPlaces};
+ghost use lib.ListN.{drop};
+ghost use Rattle.tariff.specs.Sizes.{maxPlaces, settingCount};
+ghost use Rattle.tariff.specs.Settings.{fractionAt};
 ghost use Rattle.ledger.specs.Opening.{holderKind, sinkKind, base, pathSource, pathSink, pathBase};
 ghost use Rattle.ledger.specs.Ranges.{unknownHolder, unknownSource, unknownSink, unknownPath};
 ghost use Rattle.ledger.specs.Causes.{kindIneligible, isSubLap};
-ghost use Rattle.records.specs.Opening.{openingOf, KeepsBases};
+ghost use Rattle.records.specs.Opening.{settingsAt, openingOf, KeepsBases};
 
 // Where the lists stand after the four counts, each with room for as many as a book can have.
 pub const HOLDER_KINDS_AT: usize = 4;
@@ -25,11 +30,14 @@ pub const PATH_SOURCES_AT: usize = 44;
 
 pub const PATH_SINKS_AT: usize = 60;
 
-// Where the base of each path stands, after the lists.
-pub const BASES_AT: usize = 76;
+// Where the settings stand, after the lists.
+pub const SETTINGS_AT: usize = 76;
+
+// Where the base of each path stands, after the settings.
+pub const BASES_AT: usize = 88;
 
 // How many numbers keep an opening.
-pub const OPENING_COUNT: usize = 92;
+pub const OPENING_COUNT: usize = 104;
 
 pub fn holders(o: &[u64]) -> u64
     ensures { λ r. ⌜ r ≡ openingOf (o .entry) .holders ⌝ }
@@ -123,6 +131,32 @@ pub fn path_base(o: &[u64], p: u64) -> u64
     ensures { λ r. ⌜ r ≡ pathBase (openingOf (o .entry)) p ⌝ }
 {
     o[BASES_AT + p as usize]
+}
+
+// The fraction whose numerator stands at a place of the settings.
+fn fraction_at(o: &[u64], k: usize) -> Fraction
+    requires { ⌜ k < settingCount ⌝ }
+    ensures { λ r. ⌜ r ≡ fractionAt k (drop settingsAt (now (o .entry))) ⌝ }
+{
+    let at = SETTINGS_AT + k;
+    Fraction {
+        numerator: number_at(o, at),
+        denominator: number_at(o, at + 1),
+    }
+}
+
+// The fractions that the book was opened with.
+pub fn settings(o: &[u64]) -> Settings
+    ensures { λ r. ⌜ r ≡ openingOf (o .entry) .settings ⌝ }
+{
+    Settings {
+        seasonal: fraction_at(o, 0),
+        priority: fraction_at(o, 2),
+        exceedance: fraction_at(o, 4),
+        missing: fraction_at(o, 6),
+        without_evidence: fraction_at(o, 8),
+        with_evidence: fraction_at(o, 10),
+    }
 }
 
 // Cause 10 by kinds: a scheduling point is not for an LSE, and nothing else is for an OBAALSE.

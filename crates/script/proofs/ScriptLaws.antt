@@ -14,7 +14,7 @@ use Rattle.opening.specs.Opened.{openingAnswer}
 use Rattle.lines.specs.declared.rows.Row.{Row}
 use Rattle.book.specs.Reading.{bookOf}
 use Rattle.book.specs.Reachable.{Reachable}
-use Rattle.lines.specs.Rows.{rowsOf, field}
+use Rattle.lines.specs.Rows.{rowsOf, bookLineCount}
 use Rattle.lines.specs.Reading.{nextRow}
 use Rattle.lines.specs.Writing.{writtenAt}
 use Rattle.lines.proofs.RowSteps.{first-row}
@@ -75,7 +75,7 @@ module _ (script out : List ℕ) (some : 1 ≤ length script) (few : length (row
       let rows = rowsOf (drop (nextRow script .consumed) script) in
       let place = ap (λ y. length (rowsOf (drop (y .consumed) script))) is in
       let after = ap length (group-rows script) in
-      let shorter = drop-shorter (field 0 head + field 2 head + field 3 head) rows in
+      let shorter = drop-shorter (bookLineCount head rows) rows in
       let all = ap length (first-row script some) in
       omega arith
 

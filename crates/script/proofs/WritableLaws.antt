@@ -17,6 +17,7 @@ use Rattle.ledger.specs.Numbers.{Cause, cause, firstMet}
 use Rattle.ledger.specs.Causes.{loadCauses, carryCauses, priorCauses, verifyCauses, migrateCauses, openCauses, nominateCauses, awardCauses, closeCauses, callCauses, refusal, limitCauses, heldCauses, netCauses, queryCauses, queryRefusal}
 use Rattle.ledger.specs.Limits.{limitSums, tierLimit}
 use Rattle.ledger.specs.Season.{Request, call, query, done, value, refused, accepted, answer, after, held, net, queryValue}
+use Rattle.ledger.proofs.LegalFacts.{legal-facts}
 use Rattle.ledger.proofs.Bounds.{maxTogether, figures-fit, one-fits}
 use Rattle.ledger.proofs.Conserved.{loadSum}
 use Rattle.ledger.proofs.SumBounds.{net-fits}
@@ -88,7 +89,7 @@ module _ (o : Opening) (ok : legal o ≡ true) (cs : List Call) where
   limit-small h s e =
       let L = after o cs in
       let tier = L .tiers .currentTier in
-      le-trans (limit-le-load tier (limitSums o L tier h (base o s)) (open-number L (unmet 3 _ _ (unmet 1 _ _ e .1) .0)))
+      le-trans (limit-le-load (o .settings) (legal-facts o ok .settings) (limitSums o L tier h (base o s)) tier (open-number L (unmet 3 _ _ (unmet 1 _ _ e .1) .0)))
       (one-fits (λ i. L .loads .kw i (base o s) (termOf tier)) (o .holders) maxTogether h (limit-holder o L h s e) (figures-fit o ok cs .loadsFit (base o s) (termOf tier)))
 
   -- a holding is one of those that a net sums

@@ -70,7 +70,7 @@ module _ (o : Opening) (ok : legal o ≡ true) (L : Ledger) (k : Confined L) whe
   in-loads (load h s term contract n blocks) e =
       let f = load-facts o L h s term contract n blocks e in
       let there = in-group terms 0 h s term (le-trans (f .holder) (counts .0)) (le-trans (f .sink) (counts .2)) zero-le (let t = f .termInRange in omega arith) in
-      record { kw = added-inside terms 0 h s term (loadPosted contract blocks) (L .loads .kw) there (k .loads .kw); posted = posted-inside terms 0 h s term (L .loads .posted) there (k .loads .posted) }
+      record { kw = added-inside terms 0 h s term (loadPosted (o .settings) contract blocks) (L .loads .kw) there (k .loads .kw); posted = posted-inside terms 0 h s term (L .loads .posted) there (k .loads .posted) }
   in-loads (carry h p kw) e = k .loads
   in-loads (prior h p a l) e = k .loads
   in-loads (verify h s kind capacity right first last mark) e = k .loads

@@ -8,32 +8,23 @@ use native.Mathlib.Omega.{arith}
 use lib.Dec.{ltb, leb, eqb}
 use borrow.Author.Tests.{ltb-true, eqb-true}
 use Rattle.tariff.specs.declared.evidence.Entry.{Entry}
-use Rattle.tariff.specs.Sum.{allBelow}
 use Rattle.tariff.proofs.Tests.{and-both, all-below}
-use Rattle.ledger.specs.Opening.{Opening, sinkKind, base, pathSource, pathSink, pathBase, countsFit, listsFit, holderLegal, parentLegal, sinkLegal, pathLegal, pathNew, legal}
+use Rattle.ledger.specs.Opening.{Opening, sinkKind, base, pathSource, pathSink, pathBase, parentLegal, sinkLegal, pathLegal, legal}
+use Rattle.ledger.proofs.LegalFacts.{legal-facts}
 use Rattle.records.specs.Opening.{openingIn}
 use Rattle.slots.specs.Steps.{Reachable}
 use Rattle.slots.proofs.Reachable.{known, counts}
 
-paths-legal : (o : Opening) → legal o ≡ true → (allBelow (o .sinks) (sinkLegal o) ≡ true) × (allBelow (o .paths) (pathLegal o) ≡ true)
-unfolding legal
-paths-legal o ok =
-    let counts = countsFit o && listsFit o && allBelow (o .holders) (holderLegal o) in
-    let five = and-both (counts && allBelow (o .sinks) (sinkLegal o) && allBelow (o .paths) (pathLegal o)) (allBelow (o .paths) (pathNew o)) ok in
-    let four = and-both (counts && allBelow (o .sinks) (sinkLegal o)) (allBelow (o .paths) (pathLegal o)) (five .0) in
-    let three = and-both counts (allBelow (o .sinks) (sinkLegal o)) (four .0) in
-    (three .1, four .1)
-
 pub legal-path : (o : Opening) → legal o ≡ true → (p : ℕ) → p < o .paths → (pathSource o p < o .sources) × (pathSink o p < o .sinks)
 unfolding pathLegal
 legal-path o ok p l =
-    let both = and-both (ltb (pathSource o p) (o .sources)) (ltb (pathSink o p) (o .sinks)) (all-below (o .paths) (pathLegal o) (paths-legal o ok .1) p l) in
+    let both = and-both (ltb (pathSource o p) (o .sources)) (ltb (pathSink o p) (o .sinks)) (all-below (o .paths) (pathLegal o) (legal-facts o ok .paths) p l) in
     (ltb-true _ _ (both .0), ltb-true _ _ (both .1))
 
 pub legal-base : (o : Opening) → legal o ≡ true → (s : ℕ) → s < o .sinks → base o s < o .sinks
 unfolding sinkLegal parentLegal
 legal-base o ok s l =
-    go (eqb (sinkKind o s) 2) (and-both (leb 1 (sinkKind o s) && leb (sinkKind o s) 4) (cond (eqb (sinkKind o s) 2) (ltb (base o s) s && eqb (sinkKind o (base o s)) 1) (eqb (base o s) s)) (all-below (o .sinks) (sinkLegal o) (paths-legal o ok .0) s l) .1)
+    go (eqb (sinkKind o s) 2) (and-both (leb 1 (sinkKind o s) && leb (sinkKind o s) 4) (cond (eqb (sinkKind o s) 2) (ltb (base o s) s && eqb (sinkKind o (base o s)) 1) (eqb (base o s) s)) (all-below (o .sinks) (sinkLegal o) (legal-facts o ok .sinks) s l) .1)
   where
     go : (sub : Bool) → cond sub (ltb (base o s) s && eqb (sinkKind o (base o s)) 1) (eqb (base o s) s) ≡ true → base o s < o .sinks
     go true e = let below = ltb-true (base o s) s (and-both _ _ e .0) in omega arith

@@ -5,10 +5,13 @@ use mathlib.Core.Bool.{Bool, true, false}
 use mathlib.Core.List.{List, []}
 use lib.ListN.{length}
 use Rattle.tariff.specs.declared.evidence.Entry.{Entry}
+use Rattle.tariff.specs.declared.settings.Settings.{Settings}
+use Rattle.tariff.specs.Settings.{settingsLegal}
 use Rattle.ledger.specs.Opening.{Opening, legal}
 use Rattle.ledger.specs.Ledger.{Ledger}
 use Rattle.ledger.specs.Call.{Call}
 use Rattle.ledger.specs.Season.{after}
+use Rattle.ledger.proofs.LegalFacts.{legal-facts}
 use Rattle.ledger.proofs.Bounds.{legal-counts, Fits, figures-fit}
 use Rattle.ledger.proofs.TiersSound.{TiersSound, tiers-sound}
 use Rattle.records.specs.Opening.{openingIn, KeepsBases}
@@ -41,6 +44,10 @@ module _ (o f : List ℕ) (m : List Bool) (x : List Entry) (r : Reachable o f m 
 
   pub counts : (openingIn o .holders ≤ 8) × (openingIn o .sources ≤ 16) × (openingIn o .sinks ≤ 16) × (openingIn o .paths ≤ 16)
   counts = known (λ O L. (O .holders ≤ 8) × (O .sources ≤ 16) × (O .sinks ≤ 16) × (O .paths ≤ 16)) (λ O ok cs. legal-counts O ok)
+
+  -- the settings that are read from it are legal
+  pub settings-known : {s : Settings} → s ≡ openingIn o .settings → settingsLegal s ≡ true
+  settings-known e = ap settingsLegal e ∙ known (λ O L. settingsLegal (O .settings) ≡ true) (λ O ok cs. legal-facts O ok .settings)
 
   pub fits : Fits (openingIn o) (ledgerIn f m x)
   fits = known Fits figures-fit

@@ -1,8 +1,8 @@
 -- Laws of a fraction of a number: it is no more than the number, and can be taken of the whole denominators and of what is left. Assumes nothing.
-use Prim.Native.Nat.{ℕ, _+_, _*_, _/_, _%_, _^_, _≤_, _<_}
+use Prim.Native.Nat.{ℕ, _+_, _*_, _/_, _%_, _≤_, _<_}
 use mathlib.Core.Path.{_≡_, sym, ap, _∙_}
 use mathlib.Core.Bool.{true}
-use native.Mathlib.Nat.{le-trans, le-of-lt, lt-of-le-of-lt, mul-comm, mul-assoc, mul-add, mul-le-mul, mul-le-mul-left, mul-le-mul-right, mod-lt, div-add-mod', div-mul-le-self, mul-add-div-right, div-le-of-le-mul}
+use native.Mathlib.Nat.{le-trans, le-of-lt, mul-comm, mul-assoc, mul-add, mul-le-mul, mul-le-mul-left, mul-le-mul-right, mod-lt, div-add-mod', div-mul-le-self, mul-add-div-right, div-le-of-le-mul}
 use native.Mathlib.Omega.{arith}
 use borrow.Author.Tests.{leb-true}
 use Rattle.tariff.specs.declared.settings.Fraction.{Fraction}

@@ -1,11 +1,13 @@
 pub mod Sums
 pub mod Tests
+pub mod Fractions
+pub mod SettingsLaws
 pub mod LongTerm
 pub mod Limits
+pub mod PresentFigures
 pub mod Entering
 pub mod EvidenceBounds
 pub mod Products
-pub mod Fractions
 pub mod EvidenceRange
 pub mod Formulas
 pub mod Lists

@@ -1,53 +1,62 @@
--- Laws of the limit by tier: it is at most the load, it reads only earlier tiers, and the tariff's 50% cap is never the tighter one. Assumes nothing.
-use Prim.Native.Nat.{ℕ, _-_, _/_, _%_, _≤_, _<_, min}
+-- Laws of the limit by tier, for every legal settings: it is at most the load, and it reads only earlier tiers. Assumes nothing.
+use Prim.Native.Nat.{ℕ, _-_, _%_, _≤_, _<_, min}
 use mathlib.Core.Path.{_≡_, refl, sym, ap, subst}
 use mathlib.Core.Bool.{Bool, true, false, cond}
+use native.Mathlib.Nat.{le-trans}
 use native.Mathlib.Omega.{arith}
 use lib.Dec.{leb, ltb, eqb}
 use borrow.Author.Tests.{eqb-true, eqb-false, ne-eqb, leb-true, leb-false, le-leb, lt-leb}
+use Rattle.tariff.specs.declared.settings.Settings.{Settings}
 use Rattle.tariff.specs.declared.limit.Sums.{Sums}
 use Rattle.tariff.specs.Ranges.{within}
-use Rattle.tariff.specs.Eligible.{seasonalEligible, priorityEligible, fifthOfLoad, halfOfLoad}
+use Rattle.tariff.specs.Settings.{settingsLegal}
+use Rattle.tariff.specs.Eligible.{seasonalEligible, priorityEligible, eligibleWithoutEvidence, eligibleWithEvidence}
 use Rattle.tariff.specs.Terms.{isLongTermStep}
 use Rattle.tariff.specs.Limit.{limitTier1, limitTier2, limitTier3, limitEvenTier, limitOddTier, eligibleByEvidence, longTermOfLse, longTermEligible, limitLongTerm, limitBy, formulaOf, limitOfSums}
+use Rattle.tariff.proofs.Fractions.{part-le, legal-settings}
 
-pub seasonal-le : (load : ℕ) → seasonalEligible load ≤ load
-unfolding seasonalEligible
-seasonal-le load = omega arith
+-- an eligible quantity is at most the load
+module _ (settings : Settings) (e : settingsLegal settings ≡ true) (load : ℕ) where
+  pub seasonal-le : seasonalEligible settings load ≤ load
+  unfolding seasonalEligible
+  seasonal-le = part-le (settings .seasonal) (legal-settings settings e .seasonal) load
 
-pub priority-le : (load : ℕ) → priorityEligible load ≤ load
-unfolding priorityEligible seasonalEligible
-priority-le load = omega arith
+  pub priority-le : priorityEligible settings load ≤ load
+  unfolding priorityEligible
+  priority-le = le-trans (part-le (settings .priority) (legal-settings settings e .priority) (seasonalEligible settings load)) seasonal-le
 
--- P is never above half the load, so a cap of half the load is never the tighter one
-pub half-load-never-tighter : (load : ℕ) → priorityEligible load ≤ load / 2
-unfolding priorityEligible seasonalEligible
-half-load-never-tighter load = omega arith
+  without-le : eligibleWithoutEvidence settings load ≤ load
+  unfolding eligibleWithoutEvidence
+  without-le = part-le (settings .«without_evidence») (legal-settings settings e .withoutEvidence) load
+
+  with-le : eligibleWithEvidence settings load ≤ load
+  unfolding eligibleWithEvidence
+  with-le = part-le (settings .«with_evidence») (legal-settings settings e .withEvidence) load
 
 -- the limit by the tier's number, one law to a formula
-pub limit-one : (s : Sums) → limitOfSums 1 s ≡ limitTier1 s
+pub limit-one : (settings : Settings) (s : Sums) → limitOfSums settings 1 s ≡ limitTier1 settings s
 unfolding limitOfSums limitBy formulaOf within
-limit-one s = refl
+limit-one settings s = refl
 
-pub limit-two : (s : Sums) → limitOfSums 2 s ≡ limitTier2 s
+pub limit-two : (settings : Settings) (s : Sums) → limitOfSums settings 2 s ≡ limitTier2 settings s
 unfolding limitOfSums limitBy formulaOf within
-limit-two s = refl
+limit-two settings s = refl
 
-pub limit-three : (s : Sums) → limitOfSums 3 s ≡ limitTier3 s
+pub limit-three : (settings : Settings) (s : Sums) → limitOfSums settings 3 s ≡ limitTier3 settings s
 unfolding limitOfSums limitBy formulaOf within
-limit-three s = refl
+limit-three settings s = refl
 
-pub limit-long-term : (s : Sums) → limitOfSums 10 s ≡ limitLongTerm s
+pub limit-long-term : (settings : Settings) (s : Sums) → limitOfSums settings 10 s ≡ limitLongTerm settings s
 unfolding limitOfSums limitBy formulaOf within isLongTermStep
-limit-long-term s = refl
+limit-long-term settings s = refl
 
-pub limit-even : (tier : ℕ) (s : Sums) → 3 < tier → (tier ≡ 10 → ⊥) → eqb (tier % 2) 0 ≡ true → limitOfSums tier s ≡ limitEvenTier s
+pub limit-even : (settings : Settings) (tier : ℕ) (s : Sums) → 3 < tier → (tier ≡ 10 → ⊥) → eqb (tier % 2) 0 ≡ true → limitOfSums settings tier s ≡ limitEvenTier s
 unfolding limitOfSums limitBy formulaOf within isLongTermStep
-limit-even tier s l step e = rw (ne-eqb tier 1 (λ q. omega (arith, q)), le-leb 2 tier (omega arith), lt-leb tier 3 l, ne-eqb tier 10 step, e)
+limit-even settings tier s l step e = rw (ne-eqb tier 1 (λ q. omega (arith, q)), le-leb 2 tier (omega arith), lt-leb tier 3 l, ne-eqb tier 10 step, e)
 
-pub limit-odd : (tier : ℕ) (s : Sums) → 3 < tier → (tier ≡ 10 → ⊥) → eqb (tier % 2) 0 ≡ false → limitOfSums tier s ≡ limitOddTier s
+pub limit-odd : (settings : Settings) (tier : ℕ) (s : Sums) → 3 < tier → (tier ≡ 10 → ⊥) → eqb (tier % 2) 0 ≡ false → limitOfSums settings tier s ≡ limitOddTier s
 unfolding limitOfSums limitBy formulaOf within isLongTermStep
-limit-odd tier s l step e = rw (ne-eqb tier 1 (λ q. omega (arith, q)), le-leb 2 tier (omega arith), lt-leb tier 3 l, ne-eqb tier 10 step, e)
+limit-odd settings tier s l step e = rw (ne-eqb tier 1 (λ q. omega (arith, q)), le-leb 2 tier (omega arith), lt-leb tier 3 l, ne-eqb tier 10 step, e)
 
 -- which formula a tier has
 pub data TierCase : ℕ → Type 0 where
@@ -81,28 +90,35 @@ tier-case tier low = by-three (leb tier 3) refl
     by-three true e = at-one (leb-true tier 3 e) (eqb tier 1) refl
     by-three false e = above (leb-false tier 3 e) (eqb tier 10) refl
 
--- the step's share is at most the load
-long-term-le : (s : Sums) → longTermEligible s ≤ s .load
-unfolding longTermEligible longTermOfLse eligibleByEvidence fifthOfLoad halfOfLoad
-long-term-le s = go (s .obaalse) (ltb (s .load / 5) (s .«ten_year_kw»))
-  where
-    go : (obaalse above : Bool) → cond obaalse (s .load / 2) (cond above (min (s .«ten_year_kw») (s .load / 2)) (s .load / 5)) ≤ s .load
-    go true above = omega arith
-    go false true = omega arith
-    go false false = omega arith
+module _ (settings : Settings) (legal : settingsLegal settings ≡ true) (s : Sums) where
+  -- the step's share is at most the load
+  long-term-le : longTermEligible settings s ≤ s .load
+  unfolding longTermEligible longTermOfLse eligibleByEvidence
+  long-term-le = go (s .obaalse) (ltb (eligibleWithoutEvidence settings (s .load)) (s .«ten_year_kw»))
+    where
+      without : eligibleWithoutEvidence settings (s .load) ≤ s .load
+      without = without-le settings legal (s .load)
 
--- a limit is at most the load
-pub limit-le-load : (tier : ℕ) (s : Sums) → 1 ≤ tier → limitOfSums tier s ≤ s .load
-unfolding limitTier1 limitTier2 limitTier3 limitEvenTier limitOddTier limitLongTerm
-limit-le-load tier s low = let seasonal = seasonal-le (s .load) in let priority = priority-le (s .load) in go seasonal priority (tier-case tier low)
-  where
-    go : {n : ℕ} → seasonalEligible (s .load) ≤ s .load → priorityEligible (s .load) ≤ s .load → TierCase n → limitOfSums n s ≤ s .load
-    go seasonal priority first = rw (limit-one s) (omega arith)
-    go seasonal priority second = rw (limit-two s) (omega arith)
-    go seasonal priority third = rw (limit-three s) (omega arith)
-    go seasonal priority longTerm = let share = long-term-le s in rw (limit-long-term s) (omega arith)
-    go seasonal priority (even tier l step e) = rw (limit-even tier s l step e) (omega arith)
-    go seasonal priority (odd tier l step e) = rw (limit-odd tier s l step e) (omega arith)
+      most : eligibleWithEvidence settings (s .load) ≤ s .load
+      most = with-le settings legal (s .load)
+
+      go : (obaalse above : Bool) → cond obaalse (eligibleWithEvidence settings (s .load)) (cond above (min (s .«ten_year_kw») (eligibleWithEvidence settings (s .load))) (eligibleWithoutEvidence settings (s .load))) ≤ s .load
+      go true above = most
+      go false true = omega (arith, most)
+      go false false = without
+
+  -- a limit is at most the load
+  pub limit-le-load : (tier : ℕ) → 1 ≤ tier → limitOfSums settings tier s ≤ s .load
+  unfolding limitTier1 limitTier2 limitTier3 limitEvenTier limitOddTier limitLongTerm
+  limit-le-load tier low = let seasonal = seasonal-le settings legal (s .load) in let priority = priority-le settings legal (s .load) in go seasonal priority (tier-case tier low)
+    where
+      go : {n : ℕ} → seasonalEligible settings (s .load) ≤ s .load → priorityEligible settings (s .load) ≤ s .load → TierCase n → limitOfSums settings n s ≤ s .load
+      go seasonal priority first = rw (limit-one settings s) (omega arith)
+      go seasonal priority second = rw (limit-two settings s) (omega arith)
+      go seasonal priority third = rw (limit-three settings s) (omega arith)
+      go seasonal priority longTerm = let share = long-term-le in rw (limit-long-term settings s) (omega arith)
+      go seasonal priority (even tier l step e) = rw (limit-even settings tier s l step e) (omega arith)
+      go seasonal priority (odd tier l step e) = rw (limit-odd settings tier s l step e) (omega arith)
 
 -- the same sums, as far as a tier's limit reads them: awards of earlier tiers only
 pub record SameBefore (tier : ℕ) (s u : Sums) : Type 0 where
@@ -116,25 +132,28 @@ pub record SameBefore (tier : ℕ) (s u : Sums) : Type 0 where
   pub tenYear : s .«ten_year_kw» ≡ u .«ten_year_kw»
   pub obaalse : s .obaalse ≡ u .obaalse
 
--- the step's limit rests on no tier
-long-term-same : {tier : ℕ} (s u : Sums) → SameBefore tier s u → limitLongTerm s ≡ limitLongTerm u
-unfolding limitLongTerm longTermEligible longTermOfLse eligibleByEvidence
-long-term-same s u k =
-    λ i.
-    cond (k .obaalse i) (halfOfLoad (k .load i)) (cond (ltb (fifthOfLoad (k .load i)) (k .tenYear i)) (min (k .tenYear i) (halfOfLoad (k .load i))) (fifthOfLoad (k .load i)))
-    - k .carried i
+module _ (settings : Settings) (s u : Sums) where
+  -- the step's limit rests on no tier
+  long-term-same : {tier : ℕ} → SameBefore tier s u → limitLongTerm settings s ≡ limitLongTerm settings u
+  unfolding limitLongTerm longTermEligible longTermOfLse eligibleByEvidence
+  long-term-same k =
+      λ i.
+      cond (k .obaalse i) (eligibleWithEvidence settings (k .load i)) (cond (ltb (eligibleWithoutEvidence settings (k .load i)) (k .tenYear i)) (min (k .tenYear i) (eligibleWithEvidence settings (k .load i))) (eligibleWithoutEvidence settings (k .load i)))
+      - k .carried i
 
--- a tier's limit rests on earlier tiers alone
-pub limit-reads-before : (tier : ℕ) (s u : Sums) → 1 ≤ tier → SameBefore tier s u → limitOfSums tier s ≡ limitOfSums tier u
-unfolding limitTier1 limitTier2 limitTier3 limitEvenTier limitOddTier
-limit-reads-before tier s u low same = go (tier-case tier low) same
-  where
-    go : {n : ℕ} → TierCase n → SameBefore n s u → limitOfSums n s ≡ limitOfSums n u
-    go first k = let p = ap priorityEligible (k .load) in rw (limit-one s, limit-one u) (omega arith)
-    go second k = let p = ap priorityEligible (k .load) in rw (limit-two s, limit-two u) (omega (arith, k .tier1 (omega arith)))
-    go third k =
-        let p = ap seasonalEligible (k .load) in
-        rw (limit-three s, limit-three u) (omega (arith, k .tier1 (omega arith), k .tier2 (omega arith)))
-    go longTerm k = rw (limit-long-term s, limit-long-term u) (long-term-same s u k)
-    go (even tier l step e) k = rw (limit-even tier s l step e, limit-even tier u l step e) (omega (arith, k .tier1 (omega arith), k .tier2 (omega arith), k .tier3 l))
-    go (odd tier l step e) k = rw (limit-odd tier s l step e, limit-odd tier u l step e) (omega (arith, k .tier1 (omega arith), k .tier2 (omega arith), k .tier3 l))
+  -- a tier's limit rests on earlier tiers alone
+  pub limit-reads-before : (tier : ℕ) → 1 ≤ tier → SameBefore tier s u → limitOfSums settings tier s ≡ limitOfSums settings tier u
+  unfolding limitTier1 limitTier2 limitTier3 limitEvenTier limitOddTier
+  limit-reads-before tier low same = go (tier-case tier low) same
+    where
+      go : {n : ℕ} → TierCase n → SameBefore n s u → limitOfSums settings n s ≡ limitOfSums settings n u
+      go first k =
+          rw (limit-one settings s, limit-one settings u)
+          (λ i. min (min (priorityEligible settings (k .load i) - k .carried i) (k .prior i - k .carried i)) (eligibleWithEvidence settings (k .load i) - k .carried i))
+      go second k = let p = ap (priorityEligible settings) (k .load) in rw (limit-two settings s, limit-two settings u) (omega (arith, k .tier1 (omega arith)))
+      go third k =
+          let p = ap (seasonalEligible settings) (k .load) in
+          rw (limit-three settings s, limit-three settings u) (omega (arith, k .tier1 (omega arith), k .tier2 (omega arith)))
+      go longTerm k = rw (limit-long-term settings s, limit-long-term settings u) (long-term-same k)
+      go (even tier l step e) k = rw (limit-even settings tier s l step e, limit-even settings tier u l step e) (omega (arith, k .tier1 (omega arith), k .tier2 (omega arith), k .tier3 l))
+      go (odd tier l step e) k = rw (limit-odd settings tier s l step e, limit-odd settings tier u l step e) (omega (arith, k .tier1 (omega arith), k .tier2 (omega arith), k .tier3 l))

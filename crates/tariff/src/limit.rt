@@ -1,10 +1,14 @@
-// Eligible quantities and the limit by tier (01, Limits; 02, 1/14).
+// Eligible quantities and the limit by tier, by the book's settings (01, Limits; 02, 1/14 and 3/14).
+use crate::settings::Settings;
+use crate::settings::part_of;
 use crate::sizes::LAST_SEASON_TIER;
 use crate::sizes::LONG_TERM_STEP;
 use crate::terms::term_of;
 ghost use mathlib.Core.Path.{_≡_};
-ghost use Prim.Native.Nat.{_-_};
-ghost use Rattle.tariff.specs.Eligible.{seasonalEligible, priorityEligible, fifthOfLoad, halfOfLoad};
+ghost use mathlib.Core.Bool.{true};
+ghost use Prim.Native.Nat.{_-_, min};
+ghost use Rattle.tariff.specs.Settings.{settingsLegal};
+ghost use Rattle.tariff.specs.Eligible.{seasonalEligible, priorityEligible, eligibleWithoutEvidence, eligibleWithEvidence};
 ghost use Rattle.tariff.specs.Limit.{limitTier1, limitTier2, limitTier3, limitEvenTier, limitOddTier, longTermEligible, limitLongTerm, limitBy, ruleOf, limitOfSums};
 
 // What a limit is made of, for one holder, base and tier.
@@ -82,47 +86,59 @@ pub fn saturating_sub(a: u64, b: u64) -> u64
     if b <= a { a - b } else { 0 }
 }
 
-// S: three quarters of the load. By quarters, so that no product wraps.
-pub fn seasonal_eligible(load: u64) -> u64
-    ensures { λ r. ⌜ r ≡ seasonalEligible load ⌝ }
+// S of a load.
+pub fn seasonal_eligible(settings: Settings, load: u64) -> u64
+    requires { ⌜ settingsLegal settings ≡ true ⌝ }
+    ensures { λ r. ⌜ r ≡ seasonalEligible settings load ⌝ }
 {
-    load / 4 * 3 + load % 4 * 3 / 4
+    part_of(settings.seasonal, load)
 }
 
-// P: two thirds of S. By thirds, so that no product wraps.
-pub fn priority_eligible(load: u64) -> u64
-    ensures { λ r. ⌜ r ≡ priorityEligible load ⌝ }
+// P of a load, by its S.
+pub fn priority_eligible(settings: Settings, load: u64) -> u64
+    requires { ⌜ settingsLegal settings ≡ true ⌝ }
+    ensures { λ r. ⌜ r ≡ priorityEligible settings load ⌝ }
 {
-    let season = seasonal_eligible(load);
-    season / 3 * 2 + season % 3 * 2 / 3
+    let season = seasonal_eligible(settings, load);
+    part_of(settings.priority, season)
 }
 
-fn limit_tier_1(s: Sums) -> u64
-    ensures { λ r. ⌜ r ≡ limitTier1 s ⌝ }
+// The lesser of two numbers.
+pub fn min(a: u64, b: u64) -> u64
+    ensures { λ r. ⌜ r ≡ min a b ⌝ }
 {
-    let by_load = saturating_sub(priority_eligible(s.load), s.carried);
+    if a <= b { a } else { b }
+}
+
+fn limit_tier_1(settings: Settings, s: Sums) -> u64
+    requires { ⌜ settingsLegal settings ≡ true ⌝ }
+    ensures { λ r. ⌜ r ≡ limitTier1 settings s ⌝ }
+{
+    let by_load = saturating_sub(priority_eligible(settings, s.load), s.carried);
     let by_prior = saturating_sub(s.prior, s.carried);
-    if by_load <= by_prior {
-        by_load
-    } else {
-        by_prior
-    }
+    let by_cap = saturating_sub(eligible_with_evidence(settings, s.load), s.carried);
+    min(min(by_load, by_prior), by_cap)
 }
 
-fn limit_tier_2(s: Sums) -> u64
-    ensures { λ r. ⌜ r ≡ limitTier2 s ⌝ }
+fn limit_tier_2(settings: Settings, s: Sums) -> u64
+    requires { ⌜ settingsLegal settings ≡ true ⌝ }
+    ensures { λ r. ⌜ r ≡ limitTier2 settings s ⌝ }
 {
     saturating_sub(
-        saturating_sub(priority_eligible(s.load), s.tier1),
+        saturating_sub(priority_eligible(settings, s.load), s.tier1),
         s.carried,
     )
 }
 
-fn limit_tier_3(s: Sums) -> u64
-    ensures { λ r. ⌜ r ≡ limitTier3 s ⌝ }
+fn limit_tier_3(settings: Settings, s: Sums) -> u64
+    requires { ⌜ settingsLegal settings ≡ true ⌝ }
+    ensures { λ r. ⌜ r ≡ limitTier3 settings s ⌝ }
 {
     saturating_sub(
-        saturating_sub(saturating_sub(seasonal_eligible(s.load), s.tier1), s.tier2),
+        saturating_sub(
+            saturating_sub(seasonal_eligible(settings, s.load), s.tier1),
+            s.tier2,
+        ),
         s.carried,
     )
 }
@@ -148,64 +164,66 @@ fn limit_odd_tier(s: Sums) -> u64
 }
 
 // What the Long Term step needs no ten-year evidence for.
-pub fn fifth_of_load(load: u64) -> u64
-    ensures { λ r. ⌜ r ≡ fifthOfLoad load ⌝ }
+pub fn eligible_without_evidence(settings: Settings, load: u64) -> u64
+    requires { ⌜ settingsLegal settings ≡ true ⌝ }
+    ensures { λ r. ⌜ r ≡ eligibleWithoutEvidence settings load ⌝ }
 {
-    load / 5
+    part_of(settings.without_evidence, load)
 }
 
-// What the Long Term step can come to with such evidence.
-pub fn half_of_load(load: u64) -> u64
-    ensures { λ r. ⌜ r ≡ halfOfLoad load ⌝ }
+// What the Long Term step can come to with such evidence, and the most of tier 1.
+pub fn eligible_with_evidence(settings: Settings, load: u64) -> u64
+    requires { ⌜ settingsLegal settings ≡ true ⌝ }
+    ensures { λ r. ⌜ r ≡ eligibleWithEvidence settings load ⌝ }
 {
-    load / 2
+    part_of(settings.with_evidence, load)
 }
 
 // The part of a holder's load that the Long Term step is for.
-fn long_term_eligible(s: Sums) -> u64
-    ensures { λ r. ⌜ r ≡ longTermEligible s ⌝ }
+fn long_term_eligible(settings: Settings, s: Sums) -> u64
+    requires { ⌜ settingsLegal settings ≡ true ⌝ }
+    ensures { λ r. ⌜ r ≡ longTermEligible settings s ⌝ }
 {
-    let fifth = fifth_of_load(s.load);
-    let half = half_of_load(s.load);
+    let without = eligible_without_evidence(settings, s.load);
+    let most = eligible_with_evidence(settings, s.load);
     if s.obaalse {
-        return half;
+        return most;
     }
-    if s.ten_year_kw <= fifth {
-        return fifth;
+    if s.ten_year_kw <= without {
+        return without;
     }
-    if s.ten_year_kw <= half {
-        s.ten_year_kw
-    } else {
-        half
-    }
+    min(s.ten_year_kw, most)
 }
 
-fn limit_long_term(s: Sums) -> u64
-    ensures { λ r. ⌜ r ≡ limitLongTerm s ⌝ }
+fn limit_long_term(settings: Settings, s: Sums) -> u64
+    requires { ⌜ settingsLegal settings ≡ true ⌝ }
+    ensures { λ r. ⌜ r ≡ limitLongTerm settings s ⌝ }
 {
     let carried = s.carried;
-    saturating_sub(long_term_eligible(s), carried)
+    saturating_sub(long_term_eligible(settings, s), carried)
 }
 
 // The limit by a formula.
-pub fn limit_by(formula: Formula, s: Sums) -> u64
-    ensures { λ r. ⌜ r ≡ limitBy formula s ⌝ }
+pub fn limit_by(settings: Settings, formula: Formula, s: Sums) -> u64
+    requires { ⌜ settingsLegal settings ≡ true ⌝ }
+    ensures { λ r. ⌜ r ≡ limitBy settings formula s ⌝ }
 {
     match formula {
-        Formula::First => limit_tier_1(s),
-        Formula::Second => limit_tier_2(s),
-        Formula::Third => limit_tier_3(s),
+        Formula::First => limit_tier_1(settings, s),
+        Formula::Second => limit_tier_2(settings, s),
+        Formula::Third => limit_tier_3(settings, s),
         Formula::Even => limit_even_tier(s),
         Formula::Odd => limit_odd_tier(s),
-        Formula::LongTerm => limit_long_term(s),
+        Formula::LongTerm => limit_long_term(settings, s),
     }
 }
 
 // The limit in a tier.
-pub fn limit_of_sums(tier: u64, s: Sums) -> u64
-    ensures { λ r. ⌜ r ≡ limitOfSums tier s ⌝ }
+pub fn limit_of_sums(settings: Settings, tier: u64, s: Sums) -> u64
+    requires { ⌜ settingsLegal settings ≡ true ⌝ }
+    ensures { λ r. ⌜ r ≡ limitOfSums settings tier s ⌝ }
 {
     let rule = tier_rule(tier);
     let formula = rule.formula;
-    limit_by(formula, s)
+    limit_by(settings, formula, s)
 }

@@ -14,10 +14,9 @@ use tariff::evidence::is_ten_year;
 pub const WIDTH: usize = 6;
 
 // What a row comes to.
-fn row_filed(row: usize) -> Filing
+fn row_filed(rows: &[u64], row: usize) -> Filing
     requires { ⌜ row < 65536 ⌝ }
 {
-    let rows = &evidence_rows::ROWS;
     let from = row * WIDTH;
     file_evidence(
         at(rows, from),
@@ -48,7 +47,7 @@ pub fn write_row(row: usize)
     requires { ⌜ row < 65536 ⌝ }
 {
     write::word(b"evidence");
-    match row_filed(row) {
+    match row_filed(&evidence_rows::ROWS, row) {
         Filing::OutOfRange => {
             write::word(b",no");
             write::field(3);

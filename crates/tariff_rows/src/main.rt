@@ -2,7 +2,7 @@
 // The numbers stand in *_rows.rt and class_lines.rt. The lines:
 //
 //   load,KW                 the load posted of a block list; load,no,N where it is refused: 6, 7, or 1 for slices of unequal length
-//   eligible,S,P,F,H        S and P of a load, a fifth and half of it
+//   eligible,S,P,F,H        S and P of a load, and its parts without and with ten-year evidence
 //   limit,TIER,TERM,KW      the term of a tier or of the Long Term step, which is 10, and the limit in it
 //   evidence,KW,K0,..,K3,T  what evidence gives, what it gives in each term, and what as ten-year evidence; evidence,no,3 where a field is
 //                           outside its range
@@ -61,7 +61,10 @@ fn write_rows(group: Table, count: usize)
 
 fn main() {
     write_rows(Table::Load, load_rows::ROWS.len() / loads::WIDTH);
-    write_rows(Table::Eligible, limit_rows::LOADS.len());
+    write_rows(
+        Table::Eligible,
+        limit_rows::LOADS.len() / limits::LOAD_WIDTH,
+    );
     write_rows(Table::Limit, limit_rows::ROWS.len() / limits::WIDTH);
     write_rows(Table::Evidence, evidence_rows::ROWS.len() / evidence::WIDTH);
     write_rows(Table::Netting, netting_rows::ROWS.len() / netted::WIDTH);

@@ -12,6 +12,12 @@ pub fn field(number: u64) {
     io::print_decimal(STDOUT_FILENO, number);
 }
 
+// The line of a row whose settings no book can have, which no expected line is.
+pub fn illegal() {
+    word(b"illegal settings");
+    end();
+}
+
 // The end of a line.
 pub fn end() {
     io::write_all(STDOUT_FILENO, b"\n");

@@ -1,4 +1,4 @@
-// The limit of a tier: the sums that it is made of, added up in one pass over the paths, and the limit itself (01, Limits; 02, 1/14).
+// The limit of a tier: the sums that it is made of, added up in one pass over the paths, and the limit itself (01, Limits; 02, 1/14 and 3/14).
 use crate::ten_year::ten_year_in;
 use records::answers::Answer;
 use records::calendar::tier_is_open;
@@ -9,6 +9,7 @@ use records::refusals::refuse;
 use records::setup::holder_kind;
 use records::setup::path_base;
 use records::setup::paths;
+use records::setup::settings;
 use records::setup::sink_base;
 use records::setup::unknown_holder;
 use records::setup::unknown_sink;
@@ -122,7 +123,7 @@ pub fn tier_limit(o: &[u64], f: &[u64], tier: u64, h: u64, base: u64) -> u64
     ensures { λ r. ⌜ InFigures (now (o .entry)) (now (f .entry)) (λ O L. r ≡ tierLimit O L tier h base) ⌝ }
 {
     let sums = limit_sums(o, f, tier, h, base);
-    tariff::limit::limit_of_sums(tier, sums)
+    tariff::limit::limit_of_sums(settings(o), tier, sums)
 }
 
 // The first cause that a limit query meets, 0 for none.

@@ -1,19 +1,25 @@
 //! Loads with their eligible quantities, and sums with their limits.
 
+use super::settings::{chosen, drawn, Sets, LARGEST_LOAD};
 use super::step;
 use super::table::{file, line, Table};
 use model::generate::Random;
 use model::rules::{self, Sums};
 use model::sizes::{MAX_KW, TIERS};
-use model::LONG_TERM_STEP;
+use model::{Settings, LONG_TERM_STEP};
 
-/// A load so large that not much more than 3 times it fits 64 bits.
+/// A load so large that not much more than 3 times it fits 64 bits, which the
+/// present settings ask for.
 const HUGE: u64 = 1 << 62;
+
+/// How many numbers a row has.
+const WIDTH: u64 = 11;
 
 struct Row {
     about: String,
     tier: u64,
     sums: Sums,
+    settings: Settings,
 }
 
 fn row(about: &str, tier: u64, sums: Sums) -> Row {
@@ -21,10 +27,38 @@ fn row(about: &str, tier: u64, sums: Sums) -> Row {
         about: about.to_string(),
         tier,
         sums,
+        settings: Settings::PRESENT,
     }
 }
 
-fn loads() -> Vec<u64> {
+impl Row {
+    fn numbers(&self) -> Vec<u64> {
+        let sums = &self.sums;
+        let mut numbers = vec![self.tier, sums.load, sums.carried, sums.prior];
+        numbers.extend(sums.season);
+        numbers.extend([sums.before, 0, 0]);
+        numbers
+    }
+}
+
+/// Loads with the settings that their parts are asked for with.
+fn loads() -> Vec<(u64, Settings)> {
+    let present = present_loads().into_iter();
+    let mut loads: Vec<_> = present.map(|load| (load, Settings::PRESENT)).collect();
+    for (_, settings) in chosen() {
+        for load in [1, 7, 13, 1_000, 1_009, MAX_KW, LARGEST_LOAD] {
+            loads.push((load, settings));
+        }
+    }
+    let mut random = Random::new(3_014);
+    for _ in 0..10 {
+        let most = random.select(&[20, 5_000, MAX_KW]);
+        loads.push((random.up_to(most), drawn(&mut random)));
+    }
+    loads
+}
+
+fn present_loads() -> Vec<u64> {
     let mut loads: Vec<u64> = (0..=10).collect();
     loads.extend([
         700,
@@ -45,7 +79,7 @@ fn tiers() -> std::ops::RangeInclusive<u64> {
     1..=TIERS as u64
 }
 
-/// Limits of a load-serving holder without evidence.
+/// Limits of a load-serving holder without evidence, with the present settings.
 fn rows() -> Vec<Row> {
     let mut rows: Vec<Row> = tiers().flat_map(edges).collect();
     rows.extend(marked());
@@ -117,48 +151,125 @@ fn random_rows(random: &mut Random) -> Sums {
     }
 }
 
+/// The same with other settings.
+fn rows_by_settings() -> Vec<Row> {
+    let mut rows: Vec<Row> = chosen()
+        .into_iter()
+        .flat_map(|(name, settings)| edges_of_settings(name, settings))
+        .collect();
+    let mut random = Random::new(3_036);
+    for tier in [1, 1, 1, 2, 3, 4, 9] {
+        for _ in 0..4 {
+            let sums = random_rows(&mut random);
+            let settings = drawn(&mut random);
+            rows.push(Row {
+                settings,
+                ..row("drawn settings", tier, sums)
+            });
+        }
+    }
+    rows
+}
+
+/// Each of tier 1's three strictly the least where the settings let it be, loads
+/// that leave a rest, and the tiers that no cap of tier 1 holds.
+fn edges_of_settings(name: &str, settings: Settings) -> Vec<Row> {
+    let sums = |load, carried, prior, tier1| Sums {
+        load,
+        carried,
+        prior,
+        season: [tier1, 0, 0],
+        before: tier1,
+    };
+    let cases = [
+        (1, sums(1_000, 0, MAX_KW, 0)),
+        (1, sums(1_000, 40, 280, 0)),
+        (1, sums(1_000, 40, 90, 0)),
+        (1, sums(13, 1, 12, 0)),
+        (1, sums(LARGEST_LOAD, 1, 1 << 61, 0)),
+        (2, sums(1_000, 40, 280, 10)),
+        (2, sums(13, 0, 12, 1)),
+        (3, sums(1_000, 40, 280, 10)),
+        (3, sums(13, 0, 12, 1)),
+        (3, sums(LARGEST_LOAD, 40, 280, 10)),
+        (4, sums(1_000, 40, 280, 10)),
+        (7, sums(1_000, 40, 280, 10)),
+    ];
+    let with_settings = |(tier, sums)| Row {
+        settings,
+        ..row(name, tier, sums)
+    };
+    cases.map(with_settings).into()
+}
+
+/// The line of a row.
+fn limit_line(tier: u64, kw: u64) -> String {
+    line("limit", &[tier, rules::term_of(tier) as u64, kw])
+}
+
+/// All rows in their order: those with the present settings, then the others.
+fn row_groups() -> [(Vec<Row>, step::Rows); 2] {
+    [
+        (rows(), step::rows()),
+        (rows_by_settings(), step::rows_by_settings()),
+    ]
+}
+
 /// What the program prints.
 pub fn lines() -> Vec<String> {
-    let eligible = loads().into_iter().map(|load| {
+    let eligible = loads().into_iter().map(|(load, settings)| {
         let parts = [
-            rules::seasonal_eligible(load),
-            rules::priority_eligible(load),
-            rules::fifth_of_load(load),
-            rules::half_of_load(load),
+            rules::seasonal_eligible(&settings, load),
+            rules::priority_eligible(&settings, load),
+            rules::eligible_without_evidence(&settings, load),
+            rules::eligible_with_evidence(&settings, load),
         ];
         line("eligible", &parts)
     });
-    let limit = |tier, kw| line("limit", &[tier, rules::term_of(tier) as u64, kw]);
-    let limits = rows().into_iter();
-    let limits = limits.map(|row| limit(row.tier, rules::limit(row.tier, &row.sums)));
-    let in_step = step::rows().into_iter();
-    let in_step = in_step.map(|(_, step)| limit(LONG_TERM_STEP, step.limit()));
-    eligible.chain(limits).chain(in_step).collect()
+    let mut lines: Vec<String> = eligible.collect();
+    for (rows, in_step) in row_groups() {
+        for row in rows {
+            let kw = rules::limit(&row.settings, row.tier, &row.sums);
+            lines.push(limit_line(row.tier, kw));
+        }
+        for (_, step) in in_step {
+            lines.push(limit_line(LONG_TERM_STEP, step.limit()));
+        }
+    }
+    lines
 }
 
 /// The table file.
 pub fn tables() -> String {
-    let rows = rows();
+    let mut sets = Sets::new();
     let mut eligible = Table::new(
         "LOADS",
-        "Loads whose S and P, fifth and half are asked for.",
+        "Of each row: a load whose S and P, and parts without and with ten-year evidence, are asked for, and where its settings stand.",
     );
-    for (k, load) in loads().into_iter().enumerate() {
-        eligible.push(k.to_string(), vec![load]);
+    for (k, (load, settings)) in loads().into_iter().enumerate() {
+        eligible.push(k.to_string(), vec![load, sets.place(&settings)]);
     }
     let mut table = Table::new(
         "ROWS",
-        "Of each row: the tier, A, LT, the sum of prior's a, T1, T2, T3, the awards in the tier before, E, and 1 for an OBAALSE.",
+        "Of each row: the tier, A, LT, the sum of prior's a, T1, T2, T3, the awards in the tier before, E, 1 for an OBAALSE, and where its settings stand.",
     );
-    for (k, Row { about, tier, sums }) in rows.iter().enumerate() {
-        let mut numbers = vec![*tier, sums.load, sums.carried, sums.prior];
-        numbers.extend(sums.season);
-        numbers.extend([sums.before, 0, 0]);
-        table.push(format!("{k}: tier {tier}, {about}"), numbers);
+    let mut push = |about: String, mut numbers: Vec<u64>, settings: &Settings| {
+        let place = table.len() / WIDTH;
+        numbers.push(sets.place(settings));
+        table.push(format!("{place}: {about}"), numbers);
+    };
+    for (rows, in_step) in row_groups() {
+        for row in rows {
+            let about = format!("tier {}, {}", row.tier, row.about);
+            push(about, row.numbers(), &row.settings);
+        }
+        for (about, step) in in_step {
+            let about = format!("Long Term step, {about}");
+            push(about, step.numbers(), &step.settings);
+        }
     }
-    step::push(&mut table, rows.len());
     file(
         "Loads, and the sums that limits are made of.",
-        &[eligible, table],
+        &[eligible, table, sets.table()],
     )
 }

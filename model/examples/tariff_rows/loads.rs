@@ -1,9 +1,10 @@
 //! Block lists, and the load posted or the refusal.
 
+use super::settings::{chosen, drawn, Sets};
 use super::table::{file, line, Table};
 use model::generate::Random;
 use model::sizes::{MAX_HOURS, MAX_KW};
-use model::{rules, Block};
+use model::{rules, Block, Fraction, Settings};
 
 struct Row {
     about: String,
@@ -12,6 +13,7 @@ struct Row {
     contract: u64,
     /// How many of the blocks' first hours, hours and kW are lent.
     lent: [usize; 3],
+    settings: Settings,
 }
 
 impl Row {
@@ -26,6 +28,7 @@ impl Row {
             blocks,
             hours,
             contract: 0,
+            settings: Settings::PRESENT,
         }
     }
 
@@ -48,10 +51,14 @@ impl Row {
         Row { lent, ..self }
     }
 
+    fn settings(self, settings: Settings) -> Row {
+        Row { settings, ..self }
+    }
+
     /// The load posted or the refusal, by the model.
     fn answer(&self) -> Result<u64, u64> {
         if self.lent == [self.blocks.len(); 3] {
-            rules::posted(&self.blocks, self.hours, self.contract)
+            rules::posted(&self.settings, &self.blocks, self.hours, self.contract)
         } else {
             Err(answer_to_script(&self.script()))
         }
@@ -97,6 +104,14 @@ fn rows() -> Vec<Row> {
     rows.extend(unequal());
     let mut random = Random::new(2_014);
     rows.extend((0..30).map(|_| random_rows(&mut random)));
+    for (name, settings) in chosen() {
+        rows.extend(edges_of_settings(name, settings));
+    }
+    for _ in 0..15 {
+        let settings = drawn(&mut random);
+        let row = random_rows(&mut random);
+        rows.push(row.settings(settings));
+    }
     rows
 }
 
@@ -163,6 +178,36 @@ fn missing_edges() -> Vec<Row> {
         rows.push(Row::new(about("between"), n, &between));
     }
     rows
+}
+
+/// As many hours above as the third pair lets, and one more; as many missing as
+/// the fourth lets, and one more, the third pair then being of the hours that
+/// are present.
+fn edges_of_settings(name: &str, settings: Settings) -> Vec<Row> {
+    let part = |pair: Fraction, hours: u64| hours * pair.numerator / pair.denominator;
+    let mut rows = Vec::new();
+    for hours in [13, 400] {
+        let most = part(settings.exceedance, hours);
+        for above in (most..=most + 1).filter(|&above| above > 0 && above < hours) {
+            let about = format!("{name}, {above} of {hours} hours above");
+            let blocks = [(hours - above, 1_000), (above, 5_000)];
+            rows.push(Row::run(about, hours, &blocks));
+        }
+        let most = part(settings.missing, hours);
+        for missing in (most..=most + 1).filter(|&missing| missing > 0 && missing < hours) {
+            let about = format!("{name}, {missing} of {hours} hours missing");
+            let present = hours - missing;
+            let above = part(settings.exceedance, present) + 1;
+            let mut blocks = vec![(missing, present, 1_000)];
+            if above < present {
+                blocks[0].1 -= above;
+                blocks.push((hours - above, above, 5_000));
+            }
+            rows.push(Row::new(about, hours, &blocks));
+        }
+    }
+    rows.push(Row::run(format!("{name}, broken"), 10, &[(11, 1)]));
+    rows.into_iter().map(|row| row.settings(settings)).collect()
 }
 
 fn broken() -> Vec<Row> {
@@ -310,14 +355,16 @@ pub fn tables() -> String {
     let rows = rows();
     let mut table = Table::new(
         "ROWS",
-        "Of each row: n, the contract kW, where its blocks start, and how many first hours, hours and kW are lent.",
+        "Of each row: n, the contract kW, where its blocks start, how many first hours, hours and kW are lent, and where its settings stand.",
     );
+    let mut sets = Sets::new();
     let mut firsts = Table::new("FIRSTS", "The first hour of each block.");
     let mut hours = Table::new("HOURS", "Its hours.");
     let mut kws = Table::new("KWS", "Its kW.");
     for (k, row) in rows.iter().enumerate() {
         let mut numbers = vec![row.hours, row.contract, firsts.len()];
         numbers.extend(row.lent.map(|count| count as u64));
+        numbers.push(sets.place(&row.settings));
         table.push(format!("{k}: {}", row.about), numbers);
         let blocks = row.blocks.iter();
         firsts.push(
@@ -330,6 +377,6 @@ pub fn tables() -> String {
         );
         kws.push(format!("row {k}"), blocks.map(|b| b.kw).collect());
     }
-    let tables = [table, firsts, hours, kws];
+    let tables = [table, sets.table(), firsts, hours, kws];
     file("Block lists with n and a contract load.", &tables)
 }

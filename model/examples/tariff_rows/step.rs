@@ -1,11 +1,13 @@
 //! Limits of the Long Term step, each asked of a book that has come to the step.
 
-use super::table::Table;
+use super::settings::{chosen, drawn};
 use model::generate::Random;
 use model::opening::{DEFAULT_LAP, LSE, OBAALSE, SCHEDULING_POINT};
-use model::rules::{fifth_of_load, half_of_load};
+use model::rules::{eligible_with_evidence, eligible_without_evidence};
 use model::sizes::{MAX_KW, MAX_SOURCES};
-use model::{Block, Book, Call, Load, OnPath, Opening, Prior, Query, Verify, LONG_TERM_STEP};
+use model::{
+    Block, Book, Call, Load, OnPath, Opening, Prior, Query, Settings, Verify, LONG_TERM_STEP,
+};
 
 /// One holder with one path, as it comes to the step.
 #[derive(Clone, Copy, Default)]
@@ -17,7 +19,11 @@ pub struct Step {
     /// E: the kW of its ten-year evidence.
     ten_year: u64,
     obaalse: bool,
+    pub settings: Settings,
 }
+
+/// Rows, each with what it is about.
+pub type Rows = Vec<(&'static str, Step)>;
 
 impl Step {
     /// The limit that the book answers in the step.
@@ -114,11 +120,12 @@ impl Step {
             sink_parents: vec![0],
             path_sources: vec![0],
             path_sinks: vec![0],
+            settings: self.settings,
         }
     }
 
     /// The numbers of a row of limits, the tier first.
-    fn numbers(&self) -> Vec<u64> {
+    pub fn numbers(&self) -> Vec<u64> {
         let mut numbers = vec![LONG_TERM_STEP, self.load, self.carried];
         numbers.extend([self.prior, self.tier1, 0, 0, 0]);
         numbers.extend([self.ten_year, self.obaalse as u64]);
@@ -126,7 +133,8 @@ impl Step {
     }
 }
 
-pub fn rows() -> Vec<(&'static str, Step)> {
+/// Rows with the present settings.
+pub fn rows() -> Rows {
     let mut rows = Vec::new();
     for load in [0, 1, 4, 5, 9, 10, 1_000, 1_009, MAX_KW] {
         rows.extend(by_evidence(load));
@@ -140,9 +148,46 @@ pub fn rows() -> Vec<(&'static str, Step)> {
     rows
 }
 
+/// Rows with other settings: LT, E on both sides of the fifth pair's part and of
+/// the sixth's, an OBAALSE, and drawn ones.
+pub fn rows_by_settings() -> Rows {
+    let mut rows = Vec::new();
+    for (name, settings) in chosen() {
+        let load = 1_009;
+        let without = eligible_without_evidence(&settings, load);
+        let with = eligible_with_evidence(&settings, load);
+        let mut sums = vec![0, without, without + 1, with, with + 1];
+        sums.sort();
+        sums.dedup();
+        let of = |ten_year, obaalse| Step {
+            load,
+            carried: 40,
+            ten_year,
+            obaalse,
+            settings,
+            ..Step::default()
+        };
+        rows.extend(sums.into_iter().map(|sum| (name, of(sum, false))));
+        rows.push((name, of(0, true)));
+    }
+    let mut random = Random::new(3_010);
+    for _ in 0..12 {
+        let settings = drawn(&mut random);
+        let step = Step {
+            settings,
+            ..random_rows(&mut random)
+        };
+        rows.push(("drawn settings", step));
+    }
+    rows
+}
+
 /// E on both sides of a fifth and of half of A, and OBAALSEs with the same.
-fn by_evidence(load: u64) -> Vec<(&'static str, Step)> {
-    let (fifth, half) = (fifth_of_load(load), half_of_load(load));
+fn by_evidence(load: u64) -> Rows {
+    let (fifth, half) = (
+        eligible_without_evidence(&Settings::PRESENT, load),
+        eligible_with_evidence(&Settings::PRESENT, load),
+    );
     let mut sums = vec![0, fifth, fifth + 1, half, half + 1, load, 3 * MAX_KW];
     sums.extend(fifth.checked_sub(1));
     sums.extend(half.checked_sub(1));
@@ -162,8 +207,11 @@ fn by_evidence(load: u64) -> Vec<(&'static str, Step)> {
 }
 
 /// LT on both sides of what the step is for.
-fn by_carried(load: u64) -> Vec<(&'static str, Step)> {
-    let (fifth, half) = (fifth_of_load(load), half_of_load(load));
+fn by_carried(load: u64) -> Rows {
+    let (fifth, half) = (
+        eligible_without_evidence(&Settings::PRESENT, load),
+        eligible_with_evidence(&Settings::PRESENT, load),
+    );
     let mut rows = Vec::new();
     for (ten_year, obaalse) in [
         (0, false),
@@ -191,7 +239,7 @@ fn by_carried(load: u64) -> Vec<(&'static str, Step)> {
 }
 
 /// Last year's allocation and tier 1's awards, which the step does not ask for.
-fn with_tier_1() -> Vec<(&'static str, Step)> {
+fn with_tier_1() -> Rows {
     let of = |ten_year, obaalse| Step {
         load: 1_000,
         carried: 50,
@@ -199,6 +247,7 @@ fn with_tier_1() -> Vec<(&'static str, Step)> {
         tier1: 350,
         ten_year,
         obaalse,
+        ..Step::default()
     };
     let cases = [(0, false), (350, false), (501, false), (350, true)];
     let rows = cases.map(|(ten_year, obaalse)| ("T1", of(ten_year, obaalse)));
@@ -214,14 +263,5 @@ fn random_rows(random: &mut Random) -> Step {
         ten_year: random.up_to(load / 4 * 3),
         obaalse: random.one_in(4),
         ..Step::default()
-    }
-}
-
-/// The rows behind those of a table that has so many.
-pub fn push(table: &mut Table, before: usize) {
-    for (k, (about, step)) in rows().iter().enumerate() {
-        let row = before + k;
-        let about = format!("{row}: Long Term step, {about}");
-        table.push(about, step.numbers());
     }
 }

@@ -1,6 +1,7 @@
 //! Damaged scripts: a season with bytes, digits, lines and counts spoilt.
 
 use super::random::Random;
+use super::settings;
 
 /// A season damaged at random; now and then nothing but random bytes.
 pub fn damaged(seed: u64) -> Vec<u8> {
@@ -21,7 +22,7 @@ fn damage(random: &mut Random, script: &mut Vec<u8>) {
     if script.is_empty() {
         return;
     }
-    match random.up_to(13) {
+    match random.up_to(15) {
         0 => flip(random, script),
         1 => cut(random, script),
         2 => double(random, script),
@@ -31,6 +32,7 @@ fn damage(random: &mut Random, script: &mut Vec<u8>) {
         6 => add_cr(random, script),
         7 => script.truncate(random.below(script.len() + 1)),
         8 | 9 => count_off_by_one(random, script),
+        10 | 11 => damage_settings(random, script),
         kind => damage_lines(random, script, kind),
     }
 }
@@ -118,16 +120,37 @@ fn count_off_by_one(random: &mut Random, script: &mut Vec<u8>) {
     *script = lines.concat();
 }
 
+/// A `set` line taken from its place, one more of it, or one where there is none;
+/// often close to the end of the book lines.
+fn damage_settings(random: &mut Random, script: &mut Vec<u8>) {
+    let mut lines = lines_of(script);
+    let found = lines.iter().position(|line| line.starts_with(b"set,"));
+    let line = match found {
+        Some(place) if random.one_in(2) => lines.remove(place),
+        Some(place) => lines[place].clone(),
+        None => settings::any_line(random).into_bytes(),
+    };
+    let words: [&[u8]; 4] = [b"book,", b"holder,", b"sink,", b"path,"];
+    let of_the_book = |line: &&Vec<u8>| words.iter().any(|word| line.starts_with(word));
+    let book_lines = lines.iter().take_while(of_the_book).count();
+    let place = match random.one_in(3) {
+        true => random.below(lines.len() + 1),
+        false => book_lines.saturating_sub(1) + random.below(3),
+    };
+    lines.insert(place.min(lines.len()), line);
+    *script = lines.concat();
+}
+
 /// Lines swapped, dropped or said twice.
 fn damage_lines(random: &mut Random, script: &mut Vec<u8>, kind: u64) {
     let mut lines = lines_of(script);
     let place = random.below(lines.len());
     match kind {
-        10 => {
+        12 => {
             let other = random.below(lines.len());
             lines.swap(place, other);
         }
-        11 => {
+        13 => {
             lines.remove(place);
         }
         _ => lines.insert(place, lines[place].clone()),

@@ -3,12 +3,12 @@
 use super::draft::Draft;
 use super::random::Random;
 use super::writer::Writer;
-use super::{migrate, posting};
+use super::{migrate, openings, posting, settings};
 use crate::calendar::{first_tier_of, open_in_time, LONG_TERM_STEP};
 
 /// Writes one call that is wrong in some way, or likely so.
 pub(crate) fn fault(writer: &mut Writer) {
-    let draft = match writer.random.up_to(12) {
+    let draft = match writer.random.up_to(13) {
         0 | 1 => bent(writer),
         2 => again(writer),
         3 | 4 => bad_blocks(writer),
@@ -18,6 +18,7 @@ pub(crate) fn fault(writer: &mut Writer) {
         9 => untimely(writer),
         10 => return far_migration(writer),
         11 => bad_mark(writer),
+        12 => return stray_set(writer),
         _ => Some(any_call(writer)),
     };
     if let Some(draft) = draft {
@@ -108,8 +109,11 @@ fn bad_blocks(writer: &mut Writer) -> Option<Draft> {
         4 => draft.rows.reverse(),
         5 => draft.rows.insert(place, draft.rows[place].clone()),
         _ => {
-            draft.fields[4] = hours.max(50);
-            draft.rows = vec![vec![0, hours.max(50) - 1 - hours.max(50) / 50, 1]];
+            // One hour more is missing than may be; no block where all may.
+            let hours = hours.max(50);
+            let most_missing = writer.book.settings.missing.of(hours);
+            draft.fields[4] = hours;
+            draft.rows = vec![vec![0, hours.saturating_sub(most_missing + 1), 1]];
         }
     }
     Some(draft)
@@ -210,6 +214,37 @@ fn unreadable(writer: &mut Writer) {
     writer.say_text(&text);
 }
 
+/// A line of the word `set` where none is read: by itself, or in place of a line
+/// that a load or migrate counts.
+fn stray_set(writer: &mut Writer) {
+    if writer.takes_settings() {
+        return;
+    }
+    let line = settings::any_line(&mut writer.random);
+    let mut text = any_call(writer).text();
+    let counted = text.lines().count() > 1;
+    match counted && writer.random.one_in(2) {
+        true => openings::replace_line(&mut writer.random, &mut text, &line),
+        false => text = line,
+    }
+    writer.say_text(&text);
+}
+
+/// Directly behind the book group: a bare `set` where the group has none, and
+/// now and then a second one or one that a bare one parts from the book lines.
+pub(crate) fn behind_book(writer: &mut Writer, bare: bool) {
+    if bare {
+        writer.say_text("set\n");
+    }
+    let wanted = match bare {
+        true => writer.random.one_in(2),
+        false => writer.random.one_in(12),
+    };
+    if wanted {
+        stray_set(writer);
+    }
+}
+
 const STRAY_LINES: [&str; 6] = [
     "book,1,1,1,1\n",
     "holder,1\n",
@@ -241,12 +276,14 @@ pub(crate) fn mangle_one_line(random: &mut Random, text: &mut String) {
 /// The end of the script: now and then a group that is not whole, or bytes
 /// that no LF ends.
 pub(crate) fn tail(writer: &mut Writer) {
-    let tail = match writer.random.up_to(15) {
+    let tail = match writer.random.up_to(17) {
         0 => "load,0,0,3,0,10,3\nblock,0,9,5\nblock,9,1,5\n",
         1 => "migrate,3,0,2\nclass,0,1,1,1,1\n",
         2 => "net,0,1",
         3 => "load,0,0,3,0,10,1\nblock,0,10,5",
         4 => "\n",
+        5 => "set,3,4,2,3,1,200,1,50,1,5,1,2",
+        6 => "set",
         _ => "",
     };
     writer.text.push_str(tail);

@@ -11,6 +11,7 @@ mod migrate;
 mod openings;
 mod posting;
 mod random;
+mod settings;
 mod tiers;
 mod writer;
 
@@ -19,24 +20,61 @@ pub use random::Random;
 
 use crate::book::Book;
 use crate::calendar::LONG_TERM_STEP;
+use crate::opening::Opening;
+use settings::BehindBook;
 use writer::Writer;
 
-/// A whole season: an opening, postings, nine tiers with migrations between
-/// them, the Long Term step, queries, and faulty calls here and there.
+/// A whole season: an opening, in every other season with a `set` line, postings,
+/// nine tiers with migrations between them, the Long Term step, queries, and
+/// faulty calls here and there.
 ///
 /// Now and then the opening breaks the rules or cannot be read, now and then
 /// the step is skipped, and now and then the season ends before tier 9.
 pub fn season(seed: u64) -> Vec<u8> {
     let mut random = Random::new(seed);
-    let opening = openings::opening(&mut random);
+    let mut opening = openings::opening(&mut random);
     let mut text = openings::text(&opening);
+    let bare = match settings::behind_book(&mut random) {
+        BehindBook::NoSetLine { bare } => bare,
+        BehindBook::SetLine(settings) => {
+            opening.settings = settings;
+            text.push_str(&settings::line(&settings));
+            false
+        }
+        BehindBook::Unreadable(line) => {
+            text.push_str(&line);
+            return refused(text);
+        }
+        BehindBook::InPlaceOfBookLine(settings) => {
+            let line = settings::line(&settings);
+            openings::replace_line(&mut random, &mut text, &line);
+            return refused(text);
+        }
+    };
     if random.one_in(120) {
         faults::mangle_one_line(&mut random, &mut text);
-        text.push_str("close\nnet,0,1\n");
-        return text.into_bytes();
+        return refused(text);
     }
-    match Book::open(&opening) {
-        Ok(book) => write_season(Writer::new(random, book, text)),
+    open_season(random, &opening, text, bare)
+}
+
+/// A season that ends with a book group that cannot be read. Nothing behind it is
+/// answered, but where it was the `set` line that became another line.
+fn refused(mut text: String) -> Vec<u8> {
+    if text.ends_with('\n') {
+        text.push_str("close\nnet,0,1\n");
+    }
+    text.into_bytes()
+}
+
+/// The season behind a book group that can be read.
+fn open_season(random: Random, opening: &Opening, mut text: String, bare: bool) -> Vec<u8> {
+    match Book::open(opening) {
+        Ok(book) => {
+            let mut writer = Writer::new(random, book, text);
+            faults::behind_book(&mut writer, bare);
+            write_season(writer)
+        }
         Err(_) => {
             // No line after a refused book group is answered.
             text.push_str("open,1\nclose\n");

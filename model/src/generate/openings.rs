@@ -126,7 +126,18 @@ fn double_a_path(random: &mut Random, opening: &mut Opening) {
     }
 }
 
-/// The book group of an opening.
+/// Puts a line in place of one of the book lines, or of the head if it is alone.
+pub(crate) fn replace_line(random: &mut Random, text: &mut String, line: &str) {
+    let mut lines: Vec<&str> = text.split_inclusive('\n').collect();
+    let place = match lines.len() {
+        1 => 0,
+        count => 1 + random.below(count - 1),
+    };
+    lines[place] = line;
+    *text = lines.concat();
+}
+
+/// The book group of an opening, without its settings.
 pub(crate) fn text(opening: &Opening) -> String {
     let mut text = String::new();
     let counts = [

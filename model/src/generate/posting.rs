@@ -5,6 +5,7 @@ use super::random::Random;
 use super::writer::Writer;
 use super::{faults, migrate, tiers};
 use crate::calendar::{first_tier_of, LONG_TERM_STEP};
+use crate::settings::Settings;
 use crate::sizes::MAX_KW;
 
 /// A posting and the tier before which it is to be posted.
@@ -63,7 +64,10 @@ fn plan_rights(writer: &mut Writer, later: &mut Later) {
         let on_path = [holder as u64, path as u64];
         if writer.random.percent(35) {
             let part = writer.random.select(&[1, 6, 12, 12, 30, 60]);
-            let kw = writer.kw(part);
+            let kw = match writer.random.percent(80) {
+                true => writer.kw_of_rights(part),
+                false => writer.kw(part),
+            };
             later.push((1, Draft::line("carry", &[on_path[0], on_path[1], kw])));
         }
         if writer.random.percent(70) {
@@ -143,19 +147,25 @@ pub(crate) fn load(writer: &mut Writer, holder: u64, sink: u64, term: u64) -> Dr
     let contract = contract.min(MAX_KW);
     let rows = match writer.random.one_in(400) {
         true => hourly(&mut writer.random, hours, usual),
-        false => blocks(&mut writer.random, hours, usual),
+        false => blocks(&mut writer.random, &writer.book.settings, hours, usual),
     };
     Draft::load([holder, sink, term, contract, hours], rows)
 }
 
-/// Blocks that cover the hours but for a few missing ones, with short peaks
-/// around the 0.5% that the metric lets pass.
-fn blocks(random: &mut Random, hours: u64, usual: u64) -> Vec<Vec<u64>> {
-    let mut missing = if random.one_in(2) {
-        random.up_to(hours / 50)
-    } else {
-        0
+/// Blocks that cover the hours but for missing ones, as many as may be or fewer,
+/// with peaks around what the metric lets pass, short ones with the present
+/// settings.
+fn blocks(random: &mut Random, settings: &Settings, hours: u64, usual: u64) -> Vec<Vec<u64>> {
+    let peak_hours = settings.exceedance.of(hours);
+    // One hour at least has a block.
+    let most_missing = settings.missing.of(hours).min(hours - 1);
+    let mut missing = match random.up_to(3) {
+        0 | 1 => 0,
+        2 => random.up_to(most_missing),
+        _ => most_missing,
     };
+    // All of them before the first block, or some before each.
+    let all_at_once = random.one_in(2);
     let mut rows = Vec::new();
     let mut pieces = if random.one_in(60) {
         40
@@ -165,6 +175,7 @@ fn blocks(random: &mut Random, hours: u64, usual: u64) -> Vec<Vec<u64>> {
     let mut hour = 0;
     while hour < hours {
         let gap = match random.one_in(2) {
+            _ if all_at_once => missing,
             true => random.up_to(missing.min(hours - hour)),
             false => 0,
         };
@@ -177,7 +188,7 @@ fn blocks(random: &mut Random, hours: u64, usual: u64) -> Vec<Vec<u64>> {
         let peak = random.one_in(2);
         let length = match (pieces, peak) {
             (0, _) => left,
-            (_, true) => (hours / 200 + random.up_to(1)).clamp(1, left),
+            (_, true) => (peak_hours + random.up_to(1)).clamp(1, left),
             (_, false) => random.between(1, left.div_ceil(2)),
         };
         pieces = pieces.saturating_sub(1);

@@ -3,6 +3,7 @@
 use super::draft::Draft;
 use super::random::Random;
 use crate::book::Book;
+use crate::limit::{eligible_with_evidence, priority_eligible};
 use crate::run::answer_groups;
 use crate::script;
 use crate::sizes::MAX_KW;
@@ -17,6 +18,9 @@ pub(crate) struct Writer {
     pub(crate) book: Book,
     pub(crate) text: String,
     lines: usize,
+    /// The bytes behind which a `set` line would be the book group's; none where
+    /// the group has one.
+    open_for_settings: Option<usize>,
     /// The size of the season's loads; rights are of about the same size.
     pub(crate) scale: u64,
     /// Postings that were accepted, for posting them again.
@@ -26,14 +30,23 @@ pub(crate) struct Writer {
 impl Writer {
     pub(crate) fn new(mut random: Random, book: Book, text: String) -> Writer {
         let scale = random.select(&[4, 60, 1_000, 1_000, 50_000, 3_000_000, MAX_KW]);
+        let last = text.lines().last().unwrap_or("");
+        let has_settings = script::begins_settings(last.as_bytes());
         Writer {
             lines: script::count_lines(text.as_bytes()),
+            open_for_settings: (!has_settings).then_some(text.len()),
             random,
             book,
             text,
             scale,
             posted: Vec::new(),
         }
+    }
+
+    /// Whether a `set` line written now would be the book group's, which the
+    /// book at hand was opened without.
+    pub(crate) fn takes_settings(&self) -> bool {
+        self.open_for_settings == Some(self.text.len())
     }
 
     /// Writes whole lines and runs them, if there is still room.
@@ -72,6 +85,16 @@ impl Writer {
     /// A kW of about the season's size over `part`, 1 at least.
     pub(crate) fn kw(&mut self, part: u64) -> u64 {
         let most = (self.scale / part).max(1);
+        self.random.between(most.div_ceil(2), most)
+    }
+
+    /// A kW of rights of about the size, over `part`, that the settings leave room
+    /// for in tier 1, which is half of the load with the present ones.
+    pub(crate) fn kw_of_rights(&mut self, part: u64) -> u64 {
+        let settings = &self.book.settings;
+        let given = priority_eligible(settings, self.scale);
+        let given = given.min(eligible_with_evidence(settings, self.scale));
+        let most = (2 * given / part).clamp(1, MAX_KW);
         self.random.between(most.div_ceil(2), most)
     }
 

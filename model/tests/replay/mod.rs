@@ -4,11 +4,12 @@
 
 mod evidence;
 mod reader;
+mod settings;
 mod tally;
 
 pub use evidence::EvidenceState;
-use model::{Answer, Book, Call, Migrate, OnPath, LONG_TERM_STEP};
-pub use reader::{groups, Group};
+use model::{Answer, Book, Call, Migrate, OnPath, Settings, LONG_TERM_STEP};
+pub use reader::{season, Group, Season};
 use tally::Tally;
 
 /// What was drawn in the seasons replayed so far.
@@ -23,6 +24,24 @@ pub struct Coverage {
     pub load_moved: [u64; 4],
     /// Seasons in which a migration moved a carried or awarded holding, by term.
     pub rights_moved: [u64; 4],
+    /// Seasons opened with a `set` line, and those of them with other figures
+    /// than the present ones.
+    pub set: [u64; 2],
+    /// Book groups with a `set` line that were refused with 1, then with 16.
+    pub set_refused: [u64; 2],
+    /// Lines of the word `set` that stand elsewhere.
+    pub stray_sets: u64,
+    /// Limits above 0 in tier 1 by which of the three was strictly the least.
+    pub tier_1_least: [u64; 3],
+    /// Limits of the step that evidence brought below what they are without it.
+    pub lowered_by_evidence: u64,
+    /// Loads accepted with more than 1 hour in 50 missing.
+    pub mostly_missing: u64,
+    /// Loads refused with 7, nominations with 13 and 18, in seasons with other
+    /// figures than the present ones.
+    pub by_settings: [u64; 3],
+    /// Nominations accepted in such seasons.
+    pub nominated_by_settings: u64,
     /// Nominations and awards that were accepted.
     pub nominated: u64,
     pub awarded: u64,
@@ -53,6 +72,8 @@ struct Replay<'a> {
     seed: u64,
     book: Book,
     tally: Tally,
+    /// Whether the season has other figures than the present ones.
+    others: bool,
     answers: Vec<u8>,
     coverage: &'a mut Coverage,
     load_moved: [bool; 4],
@@ -66,21 +87,34 @@ pub fn replay(seed: u64, coverage: &mut Coverage) {
     let expected = model::answers(&script).expect("a season is within its limits");
     coverage.seasons += 1;
     let text = String::from_utf8(script).expect("a season is ASCII");
-    let (opening, groups) = groups(&text);
+    let Season {
+        opening,
+        set,
+        groups,
+    } = season(&text);
+    let settings = opening.as_ref().map(|opening| opening.settings);
+    let sets = text.lines().filter(|line| line.starts_with("set")).count() as u64;
+    coverage.stray_sets += sets - u64::from(set);
     let opened = opening.ok_or(1).and_then(|opening| Book::open(&opening));
     let book = match opened {
         Ok(book) => book,
         Err(number) => {
             coverage.numbers[number as usize] += 1;
+            coverage.set_refused[usize::from(number == 16)] += u64::from(set);
             let refused = format!("no,{number:02}\n");
             assert_eq!(expected, refused.as_bytes(), "seed {seed}");
             return;
         }
     };
+    let settings = settings.expect("an opening that was read");
+    let others = settings != Settings::PRESENT;
+    coverage.set[0] += u64::from(set);
+    coverage.set[1] += u64::from(others);
     let mut replay = Replay {
         seed,
         book,
-        tally: Tally::default(),
+        tally: Tally::new(settings),
+        others,
         answers: b"ok\n".to_vec(),
         coverage,
         load_moved: [false; 4],
@@ -133,10 +167,24 @@ impl Replay<'_> {
         self.rights_moved[term] |= transfer.rights;
     }
 
-    /// Counts a refused nomination by its evidence; 19 and 11 are checked too.
+    /// Checks a load refused with 7 and a nomination refused with 13, 18, 19 or
+    /// 11, and counts them, the latter by their evidence.
     fn count_refusal(&mut self, call: &Call, number: u64) {
+        let others = u64::from(self.others);
         match (call, number) {
+            (Call::Load(load), 7) => {
+                self.tally.check_missing(load, true, self.seed);
+                self.coverage.by_settings[0] += others;
+            }
+            (Call::Nominate(nominate), 13) => {
+                self.tally
+                    .check_above_limit(nominate, &self.book, self.seed);
+                self.coverage.by_settings[1] += others;
+            }
             (Call::Nominate(nominate), 18) => {
+                self.tally
+                    .check_no_ten_year(nominate, &self.book, self.seed);
+                self.coverage.by_settings[2] += others;
                 let source = self.book.path_source(nominate.path as usize);
                 let has_ten_year =
                     self.tally.evidence.ten_year_at[nominate.holder as usize][source];
@@ -170,13 +218,19 @@ impl Replay<'_> {
         match call {
             Call::Nominate(nominate) => {
                 self.coverage.nominated += 1;
+                self.coverage.nominated_by_settings += u64::from(self.others);
                 self.count_verified(nominate);
                 self.coverage.step_nominated += u64::from(in_step);
                 let at = self.tally.at_the_limit(nominate, &self.book);
                 self.coverage.at_the_limit += u64::from(at);
                 let (holder, path) = (nominate.holder as usize, nominate.path as usize);
-                let asked = in_step && self.tally.asks_for_evidence(&self.book, holder, path);
+                let asked = in_step && self.tally.asks_for_evidence(&self.book, holder, path, 0);
                 self.coverage.step_at_evidence += u64::from(at && asked);
+            }
+            Call::Load(load) => {
+                let present: u64 = load.blocks.iter().map(|block| block.length).sum();
+                let missing = load.hours - present;
+                self.coverage.mostly_missing += u64::from(missing * 50 > load.hours);
             }
             Call::Award(_) => {
                 self.coverage.awarded += 1;
@@ -191,6 +245,15 @@ impl Replay<'_> {
         self.tally.check(&self.book, self.seed);
         self.coverage.complete += u64::from(self.book.last_closed() == 9);
         self.coverage.step_held += u64::from(self.book.step_held());
+        self.coverage.lowered_by_evidence += self.tally.lowered_by_evidence;
+        for (counted, more) in self
+            .coverage
+            .tier_1_least
+            .iter_mut()
+            .zip(self.tally.tier_1_least)
+        {
+            *counted += more;
+        }
         for term in 0..4 {
             self.coverage.load_moved[term] += u64::from(self.load_moved[term]);
             self.coverage.rights_moved[term] += u64::from(self.rights_moved[term]);

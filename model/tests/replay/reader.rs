@@ -1,6 +1,8 @@
 //! Reads a season into typed calls, apart from the model's own reader.
 
-use model::{Block, Call, ClassLine, Load, Migrate, OnPath, Opening, Prior, Query, Verify};
+use model::{
+    Block, Call, ClassLine, Load, Migrate, OnPath, Opening, Prior, Query, Settings, Verify,
+};
 
 /// A group of a script, read.
 pub enum Group {
@@ -38,12 +40,24 @@ impl Owned {
     }
 }
 
+/// A season, read.
+pub struct Season {
+    /// The opening, if its group can be read.
+    pub opening: Option<Opening>,
+    /// Whether a line that begins with `set,` stands directly after the book
+    /// lines.
+    pub set: bool,
+    /// The groups after it.
+    pub groups: Vec<Group>,
+}
+
 /// Fields that each word has.
-const WORDS: [(&str, usize); 18] = [
+const WORDS: [(&str, usize); 19] = [
     ("book", 4),
     ("holder", 1),
     ("sink", 2),
     ("path", 2),
+    ("set", 12),
     ("load", 6),
     ("block", 3),
     ("carry", 3),
@@ -79,8 +93,17 @@ fn number(field: &str) -> Option<u64> {
     (number.to_string() == field && number < 1_000_000_000).then_some(number)
 }
 
-/// The opening, if its group can be read, and the groups after it.
-pub fn groups(text: &str) -> (Option<Opening>, Vec<Group>) {
+/// A season whose opening cannot be read.
+fn unreadable(set: bool) -> Season {
+    Season {
+        opening: None,
+        set,
+        groups: Vec::new(),
+    }
+}
+
+/// Reads a season.
+pub fn season(text: &str) -> Season {
     let mut lines: Vec<Line> = text.split('\n').map(read).collect();
     // What stands after the last LF is a line only if there is something.
     if text.ends_with('\n') {
@@ -89,19 +112,33 @@ pub fn groups(text: &str) -> (Option<Opening>, Vec<Group>) {
         *last = None;
     }
     let Some(Some(("book", counts))) = lines.first() else {
-        return (None, Vec::new());
+        return unreadable(false);
     };
-    let Some((opening, consumed)) = opening(counts, &lines[1..]) else {
-        return (None, Vec::new());
+    let Some((mut opening, consumed)) = opening(counts, &lines[1..]) else {
+        return unreadable(false);
     };
     let mut groups = Vec::new();
     let mut at = 1 + consumed;
+    let after = text.split('\n').nth(at);
+    let set = after.is_some_and(|line| line.starts_with("set,"));
+    if set {
+        let Some((_, numbers)) = &lines[at] else {
+            return unreadable(true);
+        };
+        let numbers = numbers[..].try_into().expect("twelve numbers");
+        opening.settings = Settings::from_numbers(numbers);
+        at += 1;
+    }
     while at < lines.len() {
         let (group, consumed) = group(&lines[at], &lines[at + 1..]);
         groups.push(group);
         at += 1 + consumed;
     }
-    (Some(opening), groups)
+    Season {
+        opening: Some(opening),
+        set,
+        groups,
+    }
 }
 
 fn opening(counts: &[u64], lines: &[Line]) -> Option<(Opening, usize)> {

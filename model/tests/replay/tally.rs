@@ -1,12 +1,15 @@
 //! What the accepted calls come to, and the sums the book has to keep.
 
 use super::evidence::{EvidenceState, EvidenceTally};
-use model::{Block, Book, Call, Load, Migrate, OnPath, Query, LONG_TERM_STEP};
+use super::settings::{part, strictly_least};
+use model::{Block, Book, Call, Fraction, Load, Migrate, OnPath, Query, Settings, LONG_TERM_STEP};
 
 /// Sums over the accepted calls. No figure here is taken from the book but
 /// the limits, which are reckoned when a tier opens.
 #[derive(Default)]
 pub struct Tally {
+    /// The fractions that the script gives.
+    pub settings: Settings,
     /// kW of the accepted carries, by path.
     carried_in: [u64; 16],
     /// kW of the accepted awards, by path and month.
@@ -16,25 +19,40 @@ pub struct Tally {
     /// Prior's a and a - l, by path.
     prior: [[u64; 2]; 16],
     /// kW of the nominations accepted since the tier opened, by holder and path.
-    nominated: [[u64; 16]; 8],
+    pub nominated: [[u64; 16]; 8],
     /// kW of the awards accepted since the tier opened, by holder and path.
     tier_awards: [[u64; 16]; 8],
     /// Limits when the tier opened, by holder and base.
-    limits: [[u64; 16]; 8],
+    pub limits: [[u64; 16]; 8],
     /// kW awarded in each tier, by holder and path.
     past_awards: [[[u64; 9]; 16]; 8],
     /// kW awarded in the Long Term step, by holder and path.
     step_awards: [[u64; 16]; 8],
     pub evidence: EvidenceTally,
     open: Option<u64>,
+    /// Limits above 0 in tier 1 for which P, the sum of a and the sixth fraction
+    /// of A, in this order, was the one strictly least.
+    pub tier_1_least: [u64; 3],
+    /// Limits of the step that evidence brought below what they are without it.
+    pub lowered_by_evidence: u64,
 }
 
 impl Tally {
+    /// A season that nothing has been posted in.
+    pub fn new(settings: Settings) -> Tally {
+        Tally {
+            settings,
+            ..Tally::default()
+        }
+    }
+
     /// Takes in a call that the book has accepted.
     pub fn accept(&mut self, call: &Call, book: &Book, seed: u64) {
         match call {
             Call::Load(load) => {
-                self.posted[load.sink as usize][load.term as usize] += load_posted(load);
+                self.check_missing(load, false, seed);
+                let kw = load_posted(load, self.settings.exceedance);
+                self.posted[load.sink as usize][load.term as usize] += kw;
             }
             Call::Carry(carry) => self.carried_in[carry.path as usize] += carry.kw,
             Call::Prior(prior) => {
@@ -88,7 +106,7 @@ impl Tally {
     }
 
     /// Limits, said once more: signed, cut off at 0 in the end.
-    fn limit(&self, book: &Book, holder: usize, base: usize, tier: u64) -> u64 {
+    fn limit(&mut self, book: &Book, holder: usize, base: usize, tier: u64) -> u64 {
         let term = term_of(tier);
         let paths: Vec<usize> = (0..book.paths())
             .filter(|&path| book.base(book.path_sink(path)) == base)
@@ -97,11 +115,13 @@ impl Tally {
         let t = |n: usize| sum(&|path| self.past_awards[holder][path][n - 1]);
         let a = book.load(holder, base, term) as i64;
         let lt = sum(&|path| book.carried(holder, path, term.max(1)));
-        let s = a * 3 / 4;
-        let p = s * 2 / 3;
+        let s = part(self.settings.seasonal, a);
+        let p = part(self.settings.priority, s);
+        let sum_of_a = sum(&|path| book.prior_allocated(holder, path));
+        let tier_1 = [p, sum_of_a, part(self.settings.with_evidence, a)].map(|most| most - lt);
         let month = a - t(1) - t(2) - t(3) - lt;
         let limit = match tier {
-            1 => (p - lt).min(sum(&|path| book.prior_allocated(holder, path)) - lt),
+            1 => self.tier_1_limit(tier_1),
             2 => p - t(1) - lt,
             3 => s - t(1) - t(2) - lt,
             4 | 6 | 8 => month,
@@ -111,13 +131,28 @@ impl Tally {
         limit.max(0) as u64
     }
 
+    /// The least of tier 1's three, counted by which of them it is.
+    fn tier_1_limit(&mut self, three: [i64; 3]) -> i64 {
+        let least = three.into_iter().fold(i64::MAX, i64::min);
+        if let Some(one) = strictly_least(three).filter(|_| least > 0) {
+            self.tier_1_least[one] += 1;
+        }
+        least
+    }
+
     /// What the Long Term step gives of load A, before LT comes off.
-    fn step_limit(&self, kind: u64, holder: usize, a: i64) -> i64 {
+    fn step_limit(&mut self, kind: u64, holder: usize, a: i64) -> i64 {
         let evidence = self.evidence.ten_year_kw[holder] as i64;
+        let without = part(self.settings.without_evidence, a);
+        let with = part(self.settings.with_evidence, a);
         match kind {
-            2 => a / 2,
-            _ if evidence <= a / 5 => a / 5,
-            _ => evidence.min(a / 2),
+            2 => with,
+            _ if evidence <= without => without,
+            _ => {
+                let limit = evidence.min(with);
+                self.lowered_by_evidence += u64::from(limit < without);
+                limit
+            }
         }
     }
 
@@ -128,7 +163,7 @@ impl Tally {
         self.nominated_at(book, holder, base) == self.limits[holder][base]
     }
 
-    fn nominated_at(&self, book: &Book, holder: usize, base: usize) -> u64 {
+    pub fn nominated_at(&self, book: &Book, holder: usize, base: usize) -> u64 {
         (0..book.paths())
             .filter(|&path| book.base(book.path_sink(path)) == base)
             .map(|path| self.nominated[holder][path])
@@ -176,7 +211,7 @@ impl Tally {
                     nominated <= self.past_awards[holder][path][0],
                     "seed {seed}"
                 );
-                let asked = self.asks_for_evidence(book, holder, path);
+                let asked = self.asks_for_evidence(book, holder, path, 0);
                 let source = book.path_source(path);
                 let has_ten_year = self.evidence.ten_year_at[holder][source];
                 assert!(!asked || has_ten_year, "seed {seed}");
@@ -184,15 +219,18 @@ impl Tally {
         }
     }
 
-    /// 18 asks of a kind 2 holder, and of one above a fifth of its load.
-    pub fn asks_for_evidence(&self, book: &Book, holder: usize, path: usize) -> bool {
+    /// 18 asks of a kind 2 holder, and of one that with so many kW more at the
+    /// path's base is above what the step gives of its load without evidence.
+    pub fn asks_for_evidence(&self, book: &Book, holder: usize, path: usize, more: u64) -> bool {
         let base = book.base(book.path_sink(path));
         let lt: u64 = (0..book.paths())
             .filter(|&other| book.base(book.path_sink(other)) == base)
             .map(|other| book.carried(holder, other, 1))
             .sum();
-        let nominated = self.nominated_at(book, holder, base);
-        book.holder_kind(holder) == 2 || nominated + lt > book.load(holder, base, 0) / 5
+        let nominated = self.nominated_at(book, holder, base) + more;
+        let load = book.load(holder, base, 0) as i64;
+        let without = part(self.settings.without_evidence, load);
+        book.holder_kind(holder) == 2 || (nominated + lt) as i64 > without
     }
 
     /// Holdings summed over holders are what was carried in and awarded.
@@ -315,13 +353,15 @@ fn term_of(tier: u64) -> usize {
 }
 
 /// The load posted, from the hours themselves: with the hours from the highest
-/// kW down, the metric is the first that the 0.5% do not reach.
-fn load_posted(load: &Load) -> u64 {
+/// kW down, the metric is the first that the exceedance does not reach, or the
+/// last if it reaches all.
+fn load_posted(load: &Load, exceedance: Fraction) -> u64 {
     let hours_of = |block: &Block| std::iter::repeat_n(block.kw, block.length as usize);
     let mut hours: Vec<u64> = load.blocks.iter().flat_map(hours_of).collect();
     hours.sort_unstable();
     hours.reverse();
-    let metric = hours[hours.len() / 200];
+    let allowed = part(exceedance, hours.len() as i64) as usize;
+    let metric = hours[allowed.min(hours.len() - 1)];
     metric - metric.min(load.contract)
 }
 

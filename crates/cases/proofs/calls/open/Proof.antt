@@ -10,6 +10,9 @@ slice-aggregate-open-book c = search needs
 slice-aggregate-open-book-2 : tie.Need-slice-aggregate-open-book-2
 slice-aggregate-open-book-2 c = search needs
 
+present-settings-requires : tie.Need-present-settings-requires
+present-settings-requires c κs = search needs
+
 open-book-requires : tie.Need-open-book-requires
 open-book-requires c κs = search needs
 
@@ -25,6 +28,7 @@ open-spec =
     (tie.spec
     slice-aggregate-open-book
     slice-aggregate-open-book-2
+    present-settings-requires
     open-book-requires
     write-outcome-requires
     returns)

@@ -41,31 +41,31 @@ array-share-prefix-holder-kinds : tie.Need-array-share-prefix-holder-kinds
 array-share-prefix-holder-kinds c = search needs
 
 slice-aggregate-open : tie.Need-slice-aggregate-open
-slice-aggregate-open c = lent-long _ _ (c .before .before .before .before .before .before .before .before .before .lent-length .ensures) _ (c .before .before .before .before .before .before .before .before .before .before .before .before .pre .1 .ofHolderKinds)
+slice-aggregate-open c = lent-long _ _ (c .before .before .before .before .before .before .before .before .before .before .lent-length .ensures) _ (c .before .before .before .before .before .before .before .before .before .before .before .before .before .pre .1 .ofHolderKinds)
 
 array-share-prefix-sink-kinds : tie.Need-array-share-prefix-sink-kinds
 array-share-prefix-sink-kinds c = search needs
 
 slice-aggregate-open-2 : tie.Need-slice-aggregate-open-2
-slice-aggregate-open-2 c = lent-long _ _ (c .before .before .before .before .before .before .before .before .before .lent-length2 .ensures) _ (c .before .before .before .before .before .before .before .before .before .before .before .before .before .pre .1 .ofSinkKinds)
+slice-aggregate-open-2 c = lent-long _ _ (c .before .before .before .before .before .before .before .before .before .before .lent-length2 .ensures) _ (c .before .before .before .before .before .before .before .before .before .before .before .before .before .before .pre .1 .ofSinkKinds)
 
 array-share-prefix-sink-parents : tie.Need-array-share-prefix-sink-parents
 array-share-prefix-sink-parents c = search needs
 
 slice-aggregate-open-3 : tie.Need-slice-aggregate-open-3
-slice-aggregate-open-3 c = lent-long _ _ (c .before .before .before .before .before .before .before .before .before .before .lent-length2 .ensures) _ (c .before .before .before .before .before .before .before .before .before .before .before .before .before .before .pre .1 .ofSinkParents)
+slice-aggregate-open-3 c = lent-long _ _ (c .before .before .before .before .before .before .before .before .before .before .before .lent-length2 .ensures) _ (c .before .before .before .before .before .before .before .before .before .before .before .before .before .before .before .pre .1 .ofSinkParents)
 
 array-share-prefix-path-sources : tie.Need-array-share-prefix-path-sources
 array-share-prefix-path-sources c = search needs
 
 slice-aggregate-open-4 : tie.Need-slice-aggregate-open-4
-slice-aggregate-open-4 c = lent-long _ _ (c .before .before .before .before .before .before .before .before .before .before .lent-length3 .ensures) _ (c .before .before .before .before .before .before .before .before .before .before .before .before .before .before .before .pre .1 .ofPathSources)
+slice-aggregate-open-4 c = lent-long _ _ (c .before .before .before .before .before .before .before .before .before .before .before .lent-length3 .ensures) _ (c .before .before .before .before .before .before .before .before .before .before .before .before .before .before .before .before .pre .1 .ofPathSources)
 
 array-share-prefix-path-sinks : tie.Need-array-share-prefix-path-sinks
 array-share-prefix-path-sinks c = search needs
 
 slice-aggregate-open-5 : tie.Need-slice-aggregate-open-5
-slice-aggregate-open-5 c = lent-long _ _ (c .before .before .before .before .before .before .before .before .before .before .before .lent-length3 .ensures) _ (c .before .before .before .before .before .before .before .before .before .before .before .before .before .before .before .before .pre .1 .ofPathSinks)
+slice-aggregate-open-5 c = lent-long _ _ (c .before .before .before .before .before .before .before .before .before .before .before .before .lent-length3 .ensures) _ (c .before .before .before .before .before .before .before .before .before .before .before .before .before .before .before .before .before .pre .1 .ofPathSinks)
 
 open-requires : tie.Need-open-requires
 open-requires c κs = search needs
@@ -75,8 +75,8 @@ same-length c = search needs
 
 returns : tie.Need-returns
 returns c =
-    let start = c .before .before .before .before .before .before .before .before .before .before .before .before .before .before .before .before .before .before .before in
-    let kept = lent-opening (start .args .head) (start .args .lists) (start .pre .1) _ _ _ (c .before .before .before .before .before .before .before .before .before .before .before .before .before .before .before .before .lent-length .ensures) (c .before .before .before .before .before .before .before .before .before .before .before .before .before .before .before .lent-length2 .ensures) (c .before .before .before .before .before .before .before .before .before .before .before .before .before .before .lent-length3 .ensures) in
+    let start = c .before .before .before .before .before .before .before .before .before .before .before .before .before .before .before .before .before .before .before .before in
+    let kept = lent-opening (start .args .head) (start .args .lists) (start .pre .1) _ _ _ (c .before .before .before .before .before .before .before .before .before .before .before .before .before .before .before .before .before .lent-length .ensures) (c .before .before .before .before .before .before .before .before .before .before .before .before .before .before .before .before .lent-length2 .ensures) (c .before .before .before .before .before .before .before .before .before .before .before .before .before .before .before .lent-length3 .ensures) in
     let opened = c .before .before .«open» .ensures in
     (opened .0 ∙ ap openingAnswer kept, opened .1 ∙ ap (λ o. openingArray (resultingOpening o)) kept)
 

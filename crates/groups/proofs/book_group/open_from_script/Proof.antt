@@ -1,6 +1,7 @@
 -- `groups::book_group::open_from_script` meets its contract: the lines after the head are those that it counts, or the group is unreadable. Assumes nothing.
 use mathlib.Core.Path.{_∙_}
 use Rattle.lines.proofs.PairLaws.{here-within}
+use Rattle.groups.proofs.CutLists.{full-lists}
 use Rattle.groups.proofs.BookGroupLaws.{after-head, lists-fit, group-opened, opening-put, group-refused, opening-stays, whole-group, whole-opening}
 use borrow.Author.Needs.{needs}
 use Rattle.groups.proofs.book_group.open_from_script.Statement.{statement}
@@ -25,7 +26,7 @@ add-consumed : tie.Need-add-consumed
 add-consumed c = let within = lists-fit _ _ _ (c .before .before .before .before .next-row .ensures) (c .before .read-book-lines .ensures) in search needs
 
 open-from-lists-requires : tie.Need-open-from-lists-requires
-open-from-lists-requires c κs = search needs
+open-from-lists-requires c κs = (search needs, full-lists _ _ _ (c .before .before .before .before .before .read-book-lines .ensures))
 
 is-done-requires : tie.Need-is-done-requires
 is-done-requires c κs = search needs

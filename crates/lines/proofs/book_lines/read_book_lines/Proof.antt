@@ -1,7 +1,7 @@
--- `lines::book_lines::read_book_lines` meets its contract: each kind of lines is read where those before it end. Assumes nothing.
+-- `lines::book_lines::read_book_lines` meets its contract: each kind of lines is read where those before it end, and the set line after them. Assumes nothing.
 use borrow.Author.Needs.{needs}
 use Rattle.lines.proofs.PairLaws.{here-within}
-use Rattle.lines.proofs.BookLines.{consumed-is, at-paths, end-within, lists-read}
+use Rattle.lines.proofs.BookLines.{consumed-is, at-paths, at-set, end-within, lists-read}
 use Rattle.lines.proofs.book_lines.read_book_lines.Statement.{statement}
 use Rattle.lines.proofs.book_lines.read_book_lines.Tie as tie
 
@@ -44,11 +44,26 @@ array-read-read-pairs-3 c = search needs
 read-pairs-requires-3 : tie.Need-read-pairs-requires-3
 read-pairs-requires-3 c κs = search needs
 
-add-t18 : tie.Need-add-t18
-add-t18 c = let within = end-within _ (c .before .before .before .before .before .before .before .before .before .before .before .before .before .before .before .before .before .args .head) _ _ (c .before .before .before .before .before .before .before .before .before .before .before .before .before .before .read-pairs .ensures) (c .before .before .before .before .before .before .before .before .before .before .before .before .read-pairs2 .ensures) _ (c .before .before .before .before .before .before .before .before .before .read-pairs3 .ensures) in search needs
+add-at-set : tie.Need-add-at-set
+add-at-set c = let within = here-within _ _ _ (at-set _ (c .before .before .before .before .before .before .before .before .before .args .head) _ _ (c .before .before .before .before .before .before .read-pairs .ensures) (c .before .before .before .before .read-pairs2 .ensures) _ (c .before .read-pairs3 .ensures)) in search needs
+
+sub-read-set-line : tie.Need-sub-read-set-line
+sub-read-set-line c = here-within _ _ _ (at-set _ (c .before .before .before .before .before .before .before .before .before .args .head) _ _ (c .before .before .before .before .before .before .read-pairs .ensures) (c .before .before .before .before .read-pairs2 .ensures) _ (c .before .read-pairs3 .ensures))
+
+part-read-set-line-start : tie.Need-part-read-set-line-start
+part-read-set-line-start c = let within = here-within _ _ _ (at-set _ (c .before .before .before .before .before .before .before .before .before .args .head) _ _ (c .before .before .before .before .before .before .read-pairs .ensures) (c .before .before .before .before .read-pairs2 .ensures) _ (c .before .read-pairs3 .ensures)) in search needs
+
+part-read-set-line-end : tie.Need-part-read-set-line-end
+part-read-set-line-end c = search needs
+
+read-set-line-requires : tie.Need-read-set-line-requires
+read-set-line-requires c κs = search needs
+
+add-t21 : tie.Need-add-t21
+add-t21 c = let long = c .before .before .before .before .before .before .before .before .before .before .before .before .before .before .before .before .before .before .before .before .before .before .good .0 .0 in let within = end-within _ (c .before .before .before .before .before .before .before .before .before .before .before .before .before .before .before .before .before .before .before .before .before .before .args .head) _ _ (c .before .before .before .before .before .before .before .before .before .before .before .before .before .before .before .before .before .before .before .read-pairs .ensures) (c .before .before .before .before .before .before .before .before .before .before .before .before .before .before .before .before .before .read-pairs2 .ensures) _ (c .before .before .before .before .before .before .before .before .before .before .before .before .before .before .read-pairs3 .ensures) _ (c .before .before .before .before .before .before .before .before .before .before .before .read-set-line .ensures) in search needs
 
 returns : tie.Need-returns
-returns c = lists-read _ (c .before .before .before .before .before .before .before .before .before .before .before .before .before .before .before .before .before .args .head) _ _ (c .before .before .before .before .before .before .before .before .before .before .before .before .before .before .read-pairs .ensures) (c .before .before .before .before .before .before .before .before .before .before .before .before .read-pairs2 .ensures) _ (c .before .before .before .before .before .before .before .before .before .read-pairs3 .ensures)
+returns c = lists-read _ (c .before .before .before .before .before .before .before .before .before .before .before .before .before .before .before .before .before .before .before .before .before .before .args .head) _ _ (c .before .before .before .before .before .before .before .before .before .before .before .before .before .before .before .before .before .before .before .read-pairs .ensures) (c .before .before .before .before .before .before .before .before .before .before .before .before .before .before .before .before .before .read-pairs2 .ensures) _ (c .before .before .before .before .before .before .before .before .before .before .before .before .before .before .read-pairs3 .ensures) _ (c .before .before .before .before .before .before .before .before .before .before .before .read-set-line .ensures)
 
 pub read-book-lines-spec : {M : Type 1} → statement M
 read-book-lines-spec =
@@ -67,5 +82,10 @@ read-book-lines-spec =
     part-read-pairs-end-2
     array-read-read-pairs-3
     read-pairs-requires-3
-    add-t18
+    add-at-set
+    sub-read-set-line
+    part-read-set-line-start
+    part-read-set-line-end
+    read-set-line-requires
+    add-t21
     returns)

@@ -53,8 +53,20 @@ array-read-t28 c = search needs
 array-read-t31 : tie.Need-array-read-t31
 array-read-t31 c = search needs
 
-add-t33 : tie.Need-add-t33
-add-t33 c = let within = end-within _ _ _ (c .before .before .before .before .before .before .before .read-word .ensures) (c .before .before .before .before .before .before .read-fields .ensures) (not-false _ (c .before .before .before .before .if1 .left)) in omega (arith, within)
+array-read-t34 : tie.Need-array-read-t34
+array-read-t34 c = search needs
+
+array-read-t37 : tie.Need-array-read-t37
+array-read-t37 c = search needs
+
+array-read-t40 : tie.Need-array-read-t40
+array-read-t40 c = search needs
+
+array-read-t43 : tie.Need-array-read-t43
+array-read-t43 c = search needs
+
+add-t45 : tie.Need-add-t45
+add-t45 c = let within = end-within _ _ _ (c .before .before .before .before .before .before .before .read-word .ensures) (c .before .before .before .before .before .before .read-fields .ensures) (not-false _ (c .before .before .before .before .if1 .left)) in omega (arith, within)
 
 returns-3 : tie.Need-returns-3
 unfolding tabulate
@@ -79,5 +91,9 @@ next-row-spec =
     array-read-t25
     array-read-t28
     array-read-t31
-    add-t33
+    array-read-t34
+    array-read-t37
+    array-read-t40
+    array-read-t43
+    add-t45
     returns-3)

@@ -9,20 +9,20 @@ use Rattle.lines.proofs.lines.unreadable_line.Tie as tie
 line-length-requires : tie.Need-line-length-requires
 line-length-requires c κs = search needs
 
-unreadable-row-requires : tie.Need-unreadable-row-requires
-unreadable-row-requires c κs = search needs
+unread-row-requires : tie.Need-unread-row-requires
+unread-row-requires c κs = search needs
 
 add-t6 : tie.Need-add-t6
 add-t6 c = search needs
 
 returns : tie.Need-returns
 unfolding unreadableLine
-returns c = ap₂ (λ row consumed. record { row = row; consumed = consumed }) (c .before .unreadable-row .ensures) (ended-bytes _ _ (c .before .before .line-length .ensures) (c .if1 .taken))
+returns c = ap₂ (λ row consumed. record { row = row; consumed = consumed }) (c .before .unread-row .ensures) (ended-bytes _ _ (c .before .before .line-length .ensures) (c .if1 .taken))
 
 returns-2 : tie.Need-returns-2
 unfolding unreadableLine
-returns-2 c = ap₂ (λ row consumed. record { row = row; consumed = consumed }) (c .before .unreadable-row .ensures) (unended-bytes _ _ (c .before .before .line-length .ensures) (c .if1 .left))
+returns-2 c = ap₂ (λ row consumed. record { row = row; consumed = consumed }) (c .before .unread-row .ensures) (unended-bytes _ _ (c .before .before .line-length .ensures) (c .if1 .left))
 
 pub unreadable-line-spec : {M : Type 1} → statement M
 unreadable-line-spec =
-    tie.close (tie.spec line-length-requires unreadable-row-requires add-t6 returns returns-2)
+    tie.close (tie.spec line-length-requires unread-row-requires add-t6 returns returns-2)

@@ -6,16 +6,16 @@ use native.Mathlib.Omega.{arith}
 use Rattle.lines.specs.Text.{bytesOf}
 use Rattle.lines.specs.Rows.{forms}
 use Rattle.lines.specs.Words.{keyAfter, letterKey, wordKey, formNumber}
-use Rattle.lines.proofs.WordLaws.{SoughtTo, none-sought, form-found, form-passed, all-sought}
+use Rattle.lines.proofs.WordLaws.{formCount, SoughtTo, none-sought, form-found, form-passed, all-sought}
 use borrow.Author.Needs.{needs}
 use Rattle.lines.proofs.words.kind_of.Statement.{statement}
 use Rattle.lines.proofs.words.kind_of.Tie as tie
 
 abbrev Inv-loop : tie.InvT-loop
-Inv-loop key count forms form k₀ k = (k ≤ 18) × ((word : List ℕ) → key ≡ wordKey word → SoughtTo word count k)
+Inv-loop key count forms form k₀ k = (k ≤ formCount) × ((word : List ℕ) → key ≡ wordKey word → SoughtTo word count k)
 
 abbrev μ-loop : tie.MeasureT-loop
-μ-loop key count forms form k₀ k = 18 - k
+μ-loop key count forms form k₀ k = formCount - k
 
 mul-form : tie.Need-mul-form Inv-loop μ-loop
 mul-form c = search needs

@@ -28,8 +28,8 @@ saturating-sub-requires c κs = search needs
 
 -- what is posted of what the metric's function returned
 posted : (c : tie.After-load-metric) {m : Metering} → c .load-metric .result ≡ m
-    → let a = c .before .before .before .before .args in afterContract (a .contract) m ≡ loadOrCause (a .firsts .now) (a .hours .now) (a .kws .now) (a .n) (a .contract)
-posted c same = posted-from _ _ _ _ _ (c .load-metric .ensures) same
+    → let a = c .before .before .before .before .args in afterContract (a .contract) m ≡ loadOrCause (a .settings) (a .firsts .now) (a .hours .now) (a .kws .now) (a .n) (a .contract)
+posted c same = posted-from _ _ _ _ _ _ (c .load-metric .ensures) same
 
 returns : tie.Need-returns
 returns c = posted (c .before .before) (c .enum-told .given .1)

@@ -7,7 +7,7 @@ use Rattle.opening.proofs.lists.lists_fit.Tie as tie
 
 returns : tie.Need-returns
 unfolding listsFit openingFrom
-returns c sources = refl
+returns c sources settings = refl
 
 pub lists-fit-spec : {M : Type 1} → statement M
 lists-fit-spec = tie.close (tie.spec returns)

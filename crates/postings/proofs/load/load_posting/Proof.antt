@@ -6,6 +6,7 @@ use Rattle.tariff.specs.declared.evidence.Entry.{Entry}
 use Rattle.records.specs.Opening.{openingIn}
 use Rattle.slots.specs.Layout.{ledgerIn}
 use Rattle.slots.specs.Steps.{Reachable}
+use Rattle.slots.proofs.Reachable.{settings-known}
 use Rattle.postings.proofs.PostingLaws.{uneven, early-stops, Passed, unequal-stops, broken-stops, missing-stops, sink-stops, kw-posts}
 use borrow.Author.Needs.{needs}
 use Rattle.postings.proofs.load.load_posting.Statement.{statement}
@@ -29,8 +30,11 @@ kind-ineligible-requires c κs = search needs
 is-sub-lap-requires : tie.Need-is-sub-lap-requires
 is-sub-lap-requires c κs = search needs
 
+settings-requires : tie.Need-settings-requires
+settings-requires c κs = search needs
+
 load-posted-requires : tie.Need-load-posted-requires
-load-posted-requires c κs = search needs
+load-posted-requires c κs = settings-known _ _ _ _ (c .before .before .before .before .before .before .before .before .before .before .before .before .before .pre .reachable) (c .settings .ensures)
 
 enum-told : tie.Need-enum-told
 enum-told c = search needs
@@ -45,14 +49,15 @@ enum-known-kw : tie.Need-enum-known-kw
 enum-known-kw c = search needs
 
 -- what is known where the blocks are looked at
-passed : (c : tie.After-load-posted) (x : List Entry) → Reachable (c .before .before .before .before .before .before .before .before .before .before .before .before .before .args .o .now) (c .before .before .before .before .before .before .before .before .before .before .before .before .before .args .f .now) (c .before .before .before .before .before .before .before .before .before .before .before .before .before .args .m .now) x → Passed (openingIn (c .before .before .before .before .before .before .before .before .before .before .before .before .before .args .o .now)) (ledgerIn (c .before .before .before .before .before .before .before .before .before .before .before .before .before .args .f .now) (c .before .before .before .before .before .before .before .before .before .before .before .before .before .args .m .now) x) (c .before .before .before .before .before .before .before .before .before .before .before .before .before .args .h) (c .before .before .before .before .before .before .before .before .before .before .before .before .before .args .s) (c .before .before .before .before .before .before .before .before .before .before .before .before .before .args .term) (c .before .before .before .before .before .before .before .before .before .before .before .before .before .args .contract) (c .before .before .before .before .before .before .before .before .before .before .before .before .before .args .n) (c .before .before .before .before .before .before .before .before .before .before .before .before .before .args .firsts .now) (c .before .before .before .before .before .before .before .before .before .before .before .before .before .args .hours .now) (c .before .before .before .before .before .before .before .before .before .before .before .before .before .args .kws .now) (c .before .before .before .before .load-refusal-early .result) (c .before .before .kind-ineligible .result) (c .before .is-sub-lap .result) (c .load-posted .result)
+passed : (c : tie.After-load-posted) (x : List Entry) → Reachable (c .before .before .before .before .before .before .before .before .before .before .before .before .before .before .args .o .now) (c .before .before .before .before .before .before .before .before .before .before .before .before .before .before .args .f .now) (c .before .before .before .before .before .before .before .before .before .before .before .before .before .before .args .m .now) x → Passed (openingIn (c .before .before .before .before .before .before .before .before .before .before .before .before .before .before .args .o .now)) (ledgerIn (c .before .before .before .before .before .before .before .before .before .before .before .before .before .before .args .f .now) (c .before .before .before .before .before .before .before .before .before .before .before .before .before .before .args .m .now) x) (c .before .before .before .before .before .before .before .before .before .before .before .before .before .before .args .h) (c .before .before .before .before .before .before .before .before .before .before .before .before .before .before .args .s) (c .before .before .before .before .before .before .before .before .before .before .before .before .before .before .args .term) (c .before .before .before .before .before .before .before .before .before .before .before .before .before .before .args .contract) (c .before .before .before .before .before .before .before .before .before .before .before .before .before .before .args .n) (c .before .before .before .before .before .before .before .before .before .before .before .before .before .before .args .firsts .now) (c .before .before .before .before .before .before .before .before .before .before .before .before .before .before .args .hours .now) (c .before .before .before .before .before .before .before .before .before .before .before .before .before .before .args .kws .now) (c .before .before .before .before .before .load-refusal-early .result) (c .before .before .before .kind-ineligible .result) (c .before .before .is-sub-lap .result) (c .before .settings .result) (c .load-posted .result)
 passed c x r =
     record {
-      even = sym (c .before .before .before .before .before .before .same-lengths .ensures) ∙ not-false _ (c .before .before .before .before .before .if1 .left);
-      found = c .before .before .before .before .load-refusal-early .ensures x r;
-      none = c .before .before .before .if2 .left;
-      ofSink = c .before .before .kind-ineligible .ensures;
-      ofSubLap = c .before .is-sub-lap .ensures;
+      even = sym (c .before .before .before .before .before .before .before .same-lengths .ensures) ∙ not-false _ (c .before .before .before .before .before .before .if1 .left);
+      found = c .before .before .before .before .before .load-refusal-early .ensures x r;
+      none = c .before .before .before .before .if2 .left;
+      ofSink = c .before .before .before .kind-ineligible .ensures;
+      ofSubLap = c .before .before .is-sub-lap .ensures;
+      ofSettings = c .before .settings .ensures;
       metered = c .load-posted .ensures;
     }
 
@@ -81,6 +86,7 @@ load-posting-spec =
     returns-2
     kind-ineligible-requires
     is-sub-lap-requires
+    settings-requires
     load-posted-requires
     enum-told
     enum-told-2

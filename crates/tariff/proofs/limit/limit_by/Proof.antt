@@ -43,27 +43,27 @@ limit-long-term-requires c κs = search needs
 
 returns : tie.Need-returns
 unfolding limitBy
-returns c = c .limit-tier-1 .ensures ∙ sym (ap (λ f. limitBy f (c .before .before .before .args .s)) (c .before .enum-told .given .1))
+returns c = c .limit-tier-1 .ensures ∙ sym (ap (λ f. limitBy (c .before .before .before .args .settings) f (c .before .before .before .args .s)) (c .before .enum-told .given .1))
 
 returns-2 : tie.Need-returns-2
 unfolding limitBy
-returns-2 c = c .limit-tier-2 .ensures ∙ sym (ap (λ f. limitBy f (c .before .before .before .args .s)) (c .before .enum-told2 .given .1))
+returns-2 c = c .limit-tier-2 .ensures ∙ sym (ap (λ f. limitBy (c .before .before .before .args .settings) f (c .before .before .before .args .s)) (c .before .enum-told2 .given .1))
 
 returns-3 : tie.Need-returns-3
 unfolding limitBy
-returns-3 c = c .limit-tier-3 .ensures ∙ sym (ap (λ f. limitBy f (c .before .before .before .args .s)) (c .before .enum-told3 .given .1))
+returns-3 c = c .limit-tier-3 .ensures ∙ sym (ap (λ f. limitBy (c .before .before .before .args .settings) f (c .before .before .before .args .s)) (c .before .enum-told3 .given .1))
 
 returns-4 : tie.Need-returns-4
 unfolding limitBy
-returns-4 c = c .limit-even-tier .ensures ∙ sym (ap (λ f. limitBy f (c .before .before .before .args .s)) (c .before .enum-told4 .given .1))
+returns-4 c = c .limit-even-tier .ensures ∙ sym (ap (λ f. limitBy (c .before .before .before .args .settings) f (c .before .before .before .args .s)) (c .before .enum-told4 .given .1))
 
 returns-5 : tie.Need-returns-5
 unfolding limitBy
-returns-5 c = c .limit-odd-tier .ensures ∙ sym (ap (λ f. limitBy f (c .before .before .before .args .s)) (c .before .enum-told5 .given .1))
+returns-5 c = c .limit-odd-tier .ensures ∙ sym (ap (λ f. limitBy (c .before .before .before .args .settings) f (c .before .before .before .args .s)) (c .before .enum-told5 .given .1))
 
 returns-6 : tie.Need-returns-6
 unfolding limitBy
-returns-6 c = c .limit-long-term .ensures ∙ sym (ap (λ f. limitBy f (c .before .before .before .args .s)) (c .before .enum-told6 .given .1))
+returns-6 c = c .limit-long-term .ensures ∙ sym (ap (λ f. limitBy (c .before .before .before .args .settings) f (c .before .before .before .args .s)) (c .before .enum-told6 .given .1))
 
 pub limit-by-spec : {M : Type 1} → statement M
 limit-by-spec =

@@ -1,6 +1,8 @@
--- `tariff::limit::priority_eligible` meets its contract: two thirds, taken of the thirds and of what is left. Assumes nothing.
-use native.Mathlib.Omega.{arith}
+-- `tariff::limit::priority_eligible` meets its contract: the fraction is taken of the rounded S. Assumes nothing.
+use mathlib.Core.Path.{ap, _∙_}
+use Rattle.tariff.specs.Settings.{partOf}
 use Rattle.tariff.specs.Eligible.{priorityEligible}
+use Rattle.tariff.proofs.Fractions.{legal-settings}
 use borrow.Author.Needs.{needs}
 use Rattle.tariff.proofs.limit.priority_eligible.Statement.{statement}
 use Rattle.tariff.proofs.limit.priority_eligible.Tie as tie
@@ -8,19 +10,12 @@ use Rattle.tariff.proofs.limit.priority_eligible.Tie as tie
 seasonal-eligible-requires : tie.Need-seasonal-eligible-requires
 seasonal-eligible-requires c κs = search needs
 
-mul-result : tie.Need-mul-result
-mul-result c = search needs
-
-mul-result-2 : tie.Need-mul-result-2
-mul-result-2 c = search needs
-
-add-result : tie.Need-add-result
-add-result c = search needs
+part-of-requires : tie.Need-part-of-requires
+part-of-requires c κs = legal-settings _ (c .before .pre) .priority
 
 returns : tie.Need-returns
 unfolding priorityEligible
-returns c = omega arith
+returns c = c .part-of .ensures ∙ ap (partOf (c .before .before .args .settings .priority)) (c .before .seasonal-eligible .ensures)
 
 pub priority-eligible-spec : {M : Type 1} → statement M
-priority-eligible-spec =
-    tie.close (tie.spec seasonal-eligible-requires mul-result mul-result-2 add-result returns)
+priority-eligible-spec = tie.close (tie.spec seasonal-eligible-requires part-of-requires returns)
