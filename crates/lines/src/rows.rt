@@ -6,7 +6,7 @@ ghost use lib.ListN.{getD, drop};
 ghost use Rattle.lines.specs.Rows.{unreadableRow, beginsSet, unreadRow};
 ghost use Rattle.lines.specs.Reading.{fieldsRead, noFields};
 
-// The kinds of lines. 0 is a line that cannot be read.
+// The kinds of lines. 0 is a line that cannot be read, and 20 one that begins as a set line and cannot be read.
 pub const UNREADABLE_KIND: u64 = 0;
 
 pub const BOOK_LINE: u64 = 1;
