@@ -7,7 +7,7 @@ use records::setup::OPENING_COUNT;
 use slots::layout::{EVIDENCE_COUNT, FIGURE_COUNT, POSTED_COUNT};
 use source_evidence::evidence::Entry;
 
-#[derive(Drop)]
+#[derive(Clone, Copy)]
 pub struct Book {
     pub opening: [u64; OPENING_COUNT],
     pub figures: [u64; FIGURE_COUNT],
@@ -16,7 +16,7 @@ pub struct Book {
 }
 
 // An answer beside the next book.
-#[derive(Drop)]
+#[derive(Clone, Copy)]
 pub struct Outcome {
     pub answer: Answer,
     pub book: Book,

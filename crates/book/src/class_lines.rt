@@ -16,7 +16,7 @@ use records::setup::{unknown_holder, unknown_sink};
 use tariff::sizes::MAX_CLASS_LINES;
 
 // The fields of the first 64 lines, a column to a field, and the largest holder number in any line.
-#[derive(Drop)]
+#[derive(Clone, Copy)]
 struct Columns {
     froms: [u64; MAX_CLASS_LINES],
     tos: [u64; MAX_CLASS_LINES],

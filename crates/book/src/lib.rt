@@ -1,4 +1,5 @@
 // The season book. Each call takes the book as it is and returns the next one.
+#![tactic(auto)]
 
 pub mod book;
 pub mod class_lines;

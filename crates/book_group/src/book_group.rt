@@ -14,7 +14,7 @@ use records::numbers::UNREADABLE;
 use tariff::sizes::MAX_PLACES;
 
 // What the book group comes to: its answer, how many bytes it takes, and whether a book is open.
-#[derive(Drop)]
+#[derive(Clone, Copy)]
 pub struct BookGroup {
     pub answer: Answer,
     pub consumed: usize,

@@ -4,6 +4,7 @@
 //   ok            done
 //   ok,V          done, with a figure
 //   no,NN         refused with 01's number
+#![tactic(auto)]
 
 mod calls;
 mod seasons;

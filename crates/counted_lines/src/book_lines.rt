@@ -10,7 +10,7 @@ use tariff::settings::{Settings, present_settings, settings_of};
 use tariff::sizes::MAX_PLACES;
 
 // Lines of at most two fields: whether there are as many as counted, all of one kind, how many bytes they take, and the fields of the first 16.
-#[derive(Drop)]
+#[derive(Clone, Copy)]
 pub struct Pairs {
     pub complete: bool,
     pub consumed: usize,
@@ -20,7 +20,7 @@ pub struct Pairs {
 
 // The set line that may stand after the lines that a book head counts: whether there is none that cannot be read, how many bytes it takes, and its
 // fractions; where there is none, those that hold without one (02, 3/14).
-#[derive(Drop)]
+#[derive(Clone, Copy)]
 pub struct SetLine {
     pub readable: bool,
     pub consumed: usize,
@@ -28,7 +28,7 @@ pub struct SetLine {
 }
 
 // The same of all these lines, with a list to a field.
-#[derive(Drop)]
+#[derive(Clone, Copy)]
 pub struct BookLists {
     pub complete: bool,
     pub consumed: usize,

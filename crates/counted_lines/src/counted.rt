@@ -6,7 +6,7 @@ use lines::lines::next_row;
 use lines::rows::Row;
 
 // Whether there are as many lines as counted, all of one kind, and how many bytes they take.
-#[derive(Drop)]
+#[derive(Clone, Copy)]
 pub struct CountedLines {
     pub complete: bool,
     pub consumed: usize,

@@ -5,7 +5,7 @@ ghost use Rattle.groups.specs.Outcome.{of_one_line};
 use records::answers::Answer;
 
 // What a group is answered, and how many bytes it takes of the script.
-#[derive(Drop)]
+#[derive(Clone, Copy)]
 pub struct GroupOutcome {
     pub answer: Answer,
     pub consumed: usize,

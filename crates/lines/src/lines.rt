@@ -7,7 +7,7 @@ use crate::text::line_length;
 use crate::words::{kind_of, read_word};
 
 // The row of the next line, and how many bytes that line takes, its LF included.
-#[derive(Drop)]
+#[derive(Clone, Copy)]
 pub struct NextRow {
     pub row: Row,
     pub consumed: usize,

@@ -55,14 +55,14 @@ const COMMA: u8 = b',';
 pub const MAX_FIELDS: usize = 12;
 
 // A line's kind, 0 or 20 for one that cannot be read, and its numbers, 0 past the last.
-#[derive(Drop)]
+#[derive(Clone, Copy)]
 pub struct Row {
     pub kind: u64,
     pub fields: [u64; MAX_FIELDS],
 }
 
 // The fields after a line's word: whether they can be read up to an LF, how many, their values, and where the LF stands.
-#[derive(Drop)]
+#[derive(Clone, Copy)]
 pub struct Fields {
     pub readable: bool,
     pub count: u64,

@@ -21,21 +21,21 @@ pub const LINE_FEED: u8 = 10;
 const CHUNK_BYTES: usize = 128;
 
 // What a field writes: a number, or none.
-#[derive(Drop)]
+#[derive(Clone, Copy)]
 pub enum Numeral {
     Invalid,
     Value(u64),
 }
 
 // Letters or digits that stand at a place: the number that they write, and where they end.
-#[derive(Drop)]
+#[derive(Clone, Copy)]
 pub struct Token {
     pub value: u64,
     pub end: usize,
 }
 
 // A number that stands at a place: whether there is one, its value, and where it ends.
-#[derive(Drop)]
+#[derive(Clone, Copy)]
 pub struct Field {
     pub valid: bool,
     pub value: u64,

@@ -1,3 +1,4 @@
 // Load: its causes, the load posted, and what it adds to a book's lent arrays.
+#![tactic(auto)]
 
 pub mod load;

@@ -25,7 +25,7 @@ use slots::layout::{LOAD_POSTED_SLOT, LOAD_SLOT};
 use tariff::sizes::{MAX_HOURS, MAX_KW, TERMS};
 
 // What a load comes to: the number that refuses it, or the kW that it posts.
-#[derive(Drop)]
+#[derive(Clone, Copy)]
 pub enum Posting {
     Refused(u64),
     Kw(u64),

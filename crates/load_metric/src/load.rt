@@ -10,7 +10,7 @@ use tariff::limit::{min, saturating_sub};
 use tariff::settings::{Settings, part_of};
 
 // What a block list gives: the kW, or why it is refused.
-#[derive(Drop)]
+#[derive(Clone, Copy)]
 pub enum Metering {
     // The three slices differ in length: 1, as an unreadable line.
     Unequal,
@@ -22,14 +22,14 @@ pub enum Metering {
 }
 
 // Whether blocks stand in order within the hours, and then how many hours they cover.
-#[derive(Drop)]
+#[derive(Clone, Copy)]
 enum BlockOrder {
     Broken,
     Hours(u64),
 }
 
 // A step down from a kW: the highest kW below it, 0 if there is none, and the hours at or above it, which lie above the lower one.
-#[derive(Drop)]
+#[derive(Clone, Copy)]
 struct Level {
     kw: u64,
     above: u64,

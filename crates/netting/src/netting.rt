@@ -11,7 +11,7 @@ use tariff::sizes::{
 };
 
 // One line of a migration: customers of a class who left one LSE for another, and their average watts.
-#[derive(Drop)]
+#[derive(Clone, Copy)]
 pub struct ClassLine {
     pub from: u64,
     pub to: u64,
@@ -21,7 +21,7 @@ pub struct ClassLine {
 }
 
 // Whether class lines are fit to be netted, and the kW from holder i to holder j at i * 8 + j: all 0 where they are not.
-#[derive(Drop)]
+#[derive(Clone, Copy)]
 pub struct Netting {
     pub fit: bool,
     pub m: [u64; HOLDER_PAIRS],

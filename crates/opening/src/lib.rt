@@ -1,4 +1,5 @@
 // Opening a book: its counts and lists kept in an array, and whether they break a rule.
+#![tactic(auto)]
 
 pub mod legality;
 pub mod lists;

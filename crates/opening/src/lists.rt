@@ -4,7 +4,7 @@ ghost use Rattle.tariff.specs.declared.settings.Settings.{Settings};
 ghost use Rattle.tariff.specs.Settings.{settings_numbers};
 ghost use Rattle.tariff.specs.Sum.{tabulate};
 ghost use Rattle.ledger.specs.Opening.{lists_fit};
-ghost use Rattle.records.specs.Opening.{opening_count, settings_at, bases_at, opening_of, opening_lists, path_bases, opening_array, opening_from, empty_opening};
+ghost use Rattle.records.specs.Opening.{opening_count, settings_at, bases_at, opening_in, opening_of, opening_lists, path_bases, opening_array, opening_from, empty_opening};
 
 use records::lists::clear;
 use records::setup::{
@@ -86,7 +86,7 @@ fn path_bases(o: &[u64]) -> [u64; MAX_PLACES]
 // The bases kept after the settings.
 pub fn keep_bases(o: &mut [u64])
     requires { length o.old ≡ opening_count }
-    ensures { o.new ≡ take bases_at o.old ++ path_bases (opening_of o.entry) }
+    ensures { o.new ≡ take bases_at o.old ++ path_bases (opening_in o.old) }
 {
     let bases = path_bases(o);
     copy_into(&mut o[BASES_AT..OPENING_COUNT], &bases);

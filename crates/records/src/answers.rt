@@ -1,6 +1,6 @@
 // What a call answers: done, done with a figure, or refused with 01's number.
 
-#[derive(Drop)]
+#[derive(Clone, Copy)]
 pub enum Answer {
     Done,
     Value(u64),

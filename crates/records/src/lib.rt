@@ -1,4 +1,5 @@
 // What every call reads beside a book's figures: the opening kept in an array, the calendar's tests, the causes and their numbers, the answers.
+#![tactic(auto)]
 
 pub mod answers;
 pub mod calendar;

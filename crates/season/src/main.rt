@@ -1,12 +1,14 @@
 // Answers a season's script: reads standard input to its end and prints the answers. A script over the limits is answered no,01.
 // A read or a write that fails is said in one line on standard error; where a read fails, nothing is answered.
+#![tactic(auto)]
+
 ghost use Rattle.std.specs.Prelude.{◌≤◌, length};
 
 use libc::{STDERR_FILENO, STDIN_FILENO, STDOUT_FILENO};
 use script::run::run;
 
 // What was read: how many bytes, and whether a read failed before the input's end.
-#[derive(Drop)]
+#[derive(Clone, Copy)]
 struct Input {
     length: usize,
     failed: bool,

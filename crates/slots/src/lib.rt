@@ -1,4 +1,5 @@
 // A book's figures, postings and evidence, by holder, place and slot, lent as slices.
+#![tactic(auto)]
 
 pub mod calendar;
 pub mod cells;

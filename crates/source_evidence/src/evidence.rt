@@ -7,7 +7,7 @@ ghost use Rattle.source_evidence.specs.Filing.{evidence_out_of_range, filing_of}
 use tariff::sizes::{CONTRACT, FULL_OWNERSHIP, LAST_MONTH, MAX_KW, OWNERSHIP, TEN_YEAR};
 
 // What a holder has shown: nothing, a part of a plant, or a contract.
-#[derive(Drop)]
+#[derive(Clone, Copy)]
 pub enum Evidence {
     Empty,
     // The plant's capacity in kW, and the owned part of it in ten-thousandths.
@@ -17,7 +17,7 @@ pub enum Evidence {
 }
 
 // Evidence beside the first and the last month in which it holds, and whether it is marked as running for ten years.
-#[derive(Drop)]
+#[derive(Clone, Copy)]
 pub struct Entry {
     pub evidence: Evidence,
     pub first: u8,
@@ -26,7 +26,7 @@ pub struct Entry {
 }
 
 // What a caller's numbers come to: an entry, or a field outside its range.
-#[derive(Drop)]
+#[derive(Clone, Copy)]
 pub enum Filing {
     OutOfRange,
     Valid(Entry),

@@ -1,4 +1,5 @@
 // The tariff's rules on numbers. Each function equals a definition of specs/.
+#![tactic(auto)]
 
 pub mod limit;
 pub mod settings;

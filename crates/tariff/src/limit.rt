@@ -9,7 +9,7 @@ use crate::sizes::{LAST_SEASON_TIER, LONG_TERM_STEP};
 use crate::terms::term_of;
 
 // What a limit is made of, for one holder, base and tier.
-#[derive(Drop)]
+#[derive(Clone, Copy)]
 pub struct Sums {
     // A: the load at the tier's term.
     pub load: u64,
@@ -30,7 +30,7 @@ pub struct Sums {
 }
 
 // The formulas that a limit can have.
-#[derive(Drop)]
+#[derive(Clone, Copy)]
 pub enum Formula {
     First,
     Second,
@@ -41,7 +41,7 @@ pub enum Formula {
 }
 
 // A tier's formula, and the term whose load it takes.
-#[derive(Drop)]
+#[derive(Clone, Copy)]
 pub struct TierRule {
     pub formula: Formula,
     pub term: u64,

@@ -4,14 +4,14 @@ ghost use Rattle.tariff.specs.Settings.{part_of, fraction_legal, settings_legal,
 
 use crate::sizes::{MAX_FRACTION, SETTING_COUNT};
 
-#[derive(Drop)]
+#[derive(Clone, Copy)]
 pub struct Fraction {
     pub numerator: u64,
     pub denominator: u64,
 }
 
 // The six fractions, in the order of a set line.
-#[derive(Drop)]
+#[derive(Clone, Copy)]
 pub struct Settings {
     // S: the part of a load that a season gives.
     pub seasonal: Fraction,

@@ -9,6 +9,8 @@
 //   netting,I,J,M,..        loser, gainer and m of each pair whose m is not 0; netting,no where the class lines are unfit
 //   given,G0,..,G7          what each holder gives of a column of records in a migration
 //   transfer,V0,..,V7       the column after it
+#![tactic(auto)]
+
 ghost use Rattle.std.specs.Prelude.{◌<◌};
 
 mod class_lines;
@@ -26,7 +28,7 @@ mod transfers;
 mod write;
 
 // What the rows of a table are run through.
-#[derive(Drop)]
+#[derive(Clone, Copy)]
 enum Table {
     Load,
     Eligible,

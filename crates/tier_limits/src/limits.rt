@@ -24,7 +24,7 @@ use tariff::limit::{Sums, saturating_sub, tier_rule};
 use tariff::terms::carried_month;
 
 // The sums of a limit that run over paths.
-#[derive(Drop)]
+#[derive(Clone, Copy)]
 pub struct PathSums {
     pub carried: u64,
     pub prior: u64,

@@ -16,7 +16,7 @@ use tariff::sizes::{HOLDER_PAIRS, MAX_HOLDERS, MAX_PLACES};
 
 // What a migration transfers: the kW from holder i to holder j at i * 8 + j, each holder's load at the sink and term before it,
 // and how many holders there are.
-#[derive(Drop)]
+#[derive(Clone, Copy)]
 pub struct Transfer {
     pub m: [u64; HOLDER_PAIRS],
     pub load: [u64; MAX_HOLDERS],

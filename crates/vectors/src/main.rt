@@ -18,6 +18,8 @@
 //
 // What a program writes is in no promise, so these functions state no more than the bounds that their callers need: the stored output holds
 // every line.
+#![tactic(auto)]
+
 use crate::reading::{line_end, next_vector};
 use crate::show::run_vector;
 use libc::STDIN_FILENO;

@@ -4,7 +4,7 @@ ghost use Rattle.std.specs.Prelude.{◌≤◌, ◌<◌, length};
 use lines::text::{Numeral, line_length, read_number};
 
 // What a line says to the program.
-#[derive(Drop)]
+#[derive(Clone, Copy)]
 pub enum Line {
     Script,
     Vector,

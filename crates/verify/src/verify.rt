@@ -30,7 +30,7 @@ use source_evidence::evidence::{
 use tariff::sizes::{EVIDENCE_KINDS, OWNERSHIP, TERMS};
 
 // An answer beside the book's evidence after it.
-#[derive(Drop)]
+#[derive(Clone, Copy)]
 pub struct VerifyOutcome {
     pub answer: Answer,
     pub evidence: [Entry; EVIDENCE_COUNT],

@@ -1,0 +1,81 @@
+-- `digits::write_decimal` meets its contract. The loop's invariant: the digits of what is left, and then those found, are the number's, and there is a place for each that is left. Assumes nothing.
+use Prim.Native.Nat.{ℕ, ◌+◌, ◌-◌, ◌^◌, ◌≤◌, ◌<◌}
+use mathlib.Core.Path.{◌≡◌, refl, ap, ◌∙◌}
+use mathlib.Core.List.{List, ◌++◌, append-nil}
+use native.Mathlib.Omega.{arith}
+use lib.ListN.{length, set, take, drop, length-set, length-drop}
+use lib.Seq.{take_all}
+use borrow.Author.Rules.{rules}
+use Rattle.lines.specs.Text.{digit, digits_of, decimal}
+use Rattle.lines.proofs.DigitLaws.{place_left, digit_found, first_found}
+use Rattle.lines.proofs.WritingLaws.{written_as}
+use Rattle.lines.proofs.digits.write_decimal.Goals as goal
+
+part_is : (digits : List ℕ) (v first rest d : ℕ) → first ≤ 19 → length digits ≡ 20 → rest < 10 → d ≡ digit rest → digits_of (first + 1) rest ++ drop (first + 1) digits ≡ decimal v → take (20 - first) (drop first (set digits first d)) ≡ decimal v
+part_is digits v first rest d low len small e inv =
+    take_all (20 - first) (drop first (set digits first d)) (simp (length-drop, length-set) (omega arith))
+    ∙ first_found digits first rest d (omega arith) small e
+    ∙ inv
+
+pub loop-rest-init : goal.loop-rest-init
+unfolding decimal
+loop-rest-init c =
+    let twenty-digits : c.args.v < 100000000000000000000 = omega (arith, c.ranges.v.fits) in
+    (omega arith, refl, twenty-digits, append-nil (digits_of 20 c.args.v))
+
+pub digit_byte-requires : goal.digit_byte-requires
+digit_byte-requires c = omega arith
+
+pub bounds-digits-first : goal.bounds-digits-first
+bounds-digits-first c = omega arith
+
+pub overflow_sub-first : goal.overflow_sub-first
+overflow_sub-first c = let loop = c.loop-rest in (place_left loop.first loop.rest loop.invariant.2 (omega arith)).0
+
+pub loop-rest-smaller : goal.loop-rest-smaller
+loop-rest-smaller c =
+    let loop = c.loop-rest in
+    let low = (place_left loop.first loop.rest loop.invariant.2 (omega arith)).0 in
+    omega arith
+
+pub loop-rest-preserved : goal.loop-rest-preserved
+loop-rest-preserved c =
+    let loop = c.loop-rest in
+    let left = place_left loop.first loop.rest loop.invariant.2 (omega arith) in (
+      omega arith,
+      simp length-set loop.invariant.1,
+      left.1,
+      digit_found loop.digits loop.first loop.rest c.digit_byte.result left.0 (omega arith) (omega arith) c.digit_byte.ensures ∙ loop.invariant.3,
+    )
+
+pub digit_byte-requires-2 : goal.digit_byte-requires-2
+digit_byte-requires-2 c = omega arith
+
+pub bounds-digits-first-2 : goal.bounds-digits-first-2
+bounds-digits-first-2 c = omega arith
+
+pub slice_bounds-write_bytes-count : goal.slice_bounds-write_bytes-count
+slice_bounds-write_bytes-count c = omega arith
+
+pub slice_bounds-write_bytes-end : goal.slice_bounds-write_bytes-end
+slice_bounds-write_bytes-end c =
+    let loop = c.loop-rest in
+    let all : 20 ≤ length (set loop.digits loop.first c.digit_byte-2.result) = simp length-set (omega arith) in
+    all
+
+pub write_bytes-requires : goal.write_bytes-requires
+write_bytes-requires c =
+    let loop = c.loop-rest in
+    let found = c.digit_byte-2 in
+    let part = part_is loop.digits c.args.v loop.first loop.rest found.result loop.invariant.0 loop.invariant.1 (omega arith) found.ensures loop.invariant.3 in
+    let same = ap length part in
+    omega arith
+
+pub returns : goal.returns
+returns c =
+    let loop = c.loop-rest in
+    let wrote = c.write_bytes in
+    let found = c.digit_byte-2 in
+    let part = part_is loop.digits c.args.v loop.first loop.rest found.result loop.invariant.0 loop.invariant.1 (omega arith) found.ensures loop.invariant.3 in
+    let done = written_as c.args.out.now wrote.new.out _ _ c.args.at wrote.result part (wrote.ensures.end, wrote.ensures.written) in
+    record { end = done.0; written = done.1 }

@@ -1,0 +1,15 @@
+-- `load_metric::load::metric_of_blocks` meets its contract. The loop's invariant: the kW is a block's and within the exceedance, and the level is the step down from
+use Prim.Native.Nat.{◌+◌, ◌-◌, ◌≤◌, min}
+use mathlib.Core.Path.{◌≡◌, sym, ap, ◌∙◌}
+use mathlib.Core.List.{List}
+use native.Mathlib.Omega.{arith}
+use Rattle.load_metric.specs.Load.{Block}
+use Rattle.load_metric.specs.Levels.{loads_of, level_below, hours_at_least, Countable}
+use Rattle.load_metric.proofs.Found.{Standing, level_kw, most_above, level_above, step_down, step_adds, metric_found, stand_highest}
+use Rattle.load_metric.proofs.load.metric_of_blocks.Given as goal
+
+abbrev pub invariant-loop-below : goal.invariant-loop-below
+invariant-loop-below l = Standing l.exceedance_hours (loads_of l.hours l.kws) l.kw × (l.below ≡ level_below l.kw (loads_of l.hours l.kws))
+
+abbrev pub decreases-loop-below : goal.decreases-loop-below
+decreases-loop-below l = l.most_above + 1 - l.below.above

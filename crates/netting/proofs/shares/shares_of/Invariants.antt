@@ -1,0 +1,16 @@
+-- `netting::shares::shares_of` meets its contract: the cells passed so far hold their shares. Assumes nothing.
+use native.Mathlib.Nat.{not-suc-le-zero}
+use native.Mathlib.Omega.{arith}
+use lib.ListN.{length, length-set}
+use mathlib.Core.Path.{◌≡◌, refl, ◌∙◌}
+use Prim.Native.Nat.{◌≤◌, ◌-◌, zero-le}
+use Rattle.netting.proofs.ShareCells.{share_cell, share_cells_lem, product_fits}
+use Rattle.tariff.proofs.Lists.{Filled, filled_more, filled_all}
+use borrow.Author.Rules.{rules}
+use Rattle.netting.proofs.shares.shares_of.Given as goal
+
+abbrev pub invariant-loop-k : goal.invariant-loop-k
+invariant-loop-k l = (l.k ≤ 64) × (length l.parts ≡ 64) × Filled (share_cell l.column l.m l.load) l.k l.parts
+
+abbrev pub decreases-loop-k : goal.decreases-loop-k
+decreases-loop-k l = 64 - l.k

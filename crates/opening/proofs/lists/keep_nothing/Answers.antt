@@ -1,0 +1,17 @@
+-- `opening::lists::keep_nothing` meets its contract: nothing but 0, and the present settings. Assumes nothing.
+use mathlib.Core.Path.{ap, ◌∙◌}
+use mathlib.Core.List.{◌++◌}
+use lib.ListN.{take, drop}
+use Rattle.tariff.specs.Sum.{tabulate}
+use Rattle.tariff.specs.Settings.{settings_numbers}
+use Rattle.records.specs.Opening.{settings_at, bases_at}
+use Rattle.opening.proofs.KeptArray.{empty_kept}
+use borrow.Author.Rules.{rules}
+use Rattle.opening.proofs.lists.keep_nothing.Goals as goal
+
+pub returns : goal.returns
+returns c =
+    let z = c.clear.new.numbers in
+    c.keep_settings.ensures
+    ∙ ap (λ s. take settings_at z ++ (settings_numbers s ++ drop bases_at z)) c.present_settings.ensures
+    ∙ empty_kept z (c.clear.ensures ∙ ap (λ n. tabulate n (λ k. 0)) (search rules))

@@ -1,0 +1,17 @@
+-- `opening::lists::path_bases` meets its contract: the bases looked up so far are those of the first paths. Assumes nothing.
+use Prim.Native.Nat.{◌≤◌, ◌-◌, zero-le}
+use mathlib.Core.Path.{◌≡◌, refl}
+use native.Mathlib.Nat.{not-suc-le-zero}
+use native.Mathlib.Omega.{arith}
+use lib.ListN.{length, length-set}
+use Rattle.tariff.proofs.Lists.{Filled, filled_more, filled_all}
+use Rattle.ledger.specs.Opening.{path_base}
+use Rattle.records.specs.Opening.{opening_in, path_bases}
+use borrow.Author.Rules.{rules}
+use Rattle.opening.proofs.lists.path_bases.Given as goal
+
+abbrev pub invariant-loop-p : goal.invariant-loop-p
+invariant-loop-p l = (l.p ≤ 16) × (length l.bases ≡ 16) × Filled (path_base (opening_in l.o)) l.p l.bases
+
+abbrev pub decreases-loop-p : goal.decreases-loop-p
+decreases-loop-p l = 16 - l.p

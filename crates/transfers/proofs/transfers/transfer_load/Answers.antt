@@ -1,0 +1,16 @@
+-- `transfers::transfers::transfer_load` meets its contract: each load loses its m and gains the others'. Assumes nothing.
+use Rattle.transfers.specs.Transfers.{load_column, load_at}
+use Rattle.transfers.proofs.ShareLaws.{load_ext, load_shared, loads_fit_lem, column_transferred}
+use borrow.Author.Rules.{rules}
+use Rattle.transfers.proofs.transfers.transfer_load.Goals as goal
+
+pub transferred_column-next-requires : goal.transferred_column-next-requires
+transferred_column-next-requires c = (search rules, loads_fit_lem _ c.requires.1)
+
+pub returns : goal.returns
+unfolding load_at
+returns c =
+    let few = c.requires.1.few in
+    column_transferred _ _ _ _ _ (load_column c.args.x) c.requires.0 (λ v w h l same. load_ext c.args.x v w h few l same)
+    (load_shared c.args.x c.requires.1 _ _ _ _ c.requires.2 c.transferred_column-next.ensures)
+    c.store_column.ensures

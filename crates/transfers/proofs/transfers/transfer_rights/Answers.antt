@@ -1,0 +1,38 @@
+-- `transfers::transfers::transfer_rights` meets its contract: the columns that move on the paths before this one have moved. Assumes nothing.
+use Prim.Native.Nat.{◌≤◌, ◌-◌, zero-le}
+use mathlib.Core.Path.{◌≡◌, sym, ◌∙◌}
+use native.Mathlib.Nat.{le_trans}
+use native.Mathlib.Omega.{arith}
+use lib.ListN.{length}
+use Rattle.records.specs.Opening.{opening_in}
+use Rattle.slots.specs.Cells.{max_places}
+use Rattle.slots.specs.Layout.{figure_count}
+use Rattle.transfers.specs.Columns.{ColumnTransfer}
+use Rattle.transfers.specs.Transfers.{share_column, moves_at, column_where}
+use Rattle.transfers.proofs.WhereLaws.{where_long}
+use Rattle.transfers.proofs.MovingLaws.{below, none_yet, one_more, all_moved}
+use Rattle.transfers.proofs.PathTransfers.{path_number, next_path_fits}
+use borrow.Author.Rules.{rules}
+use Rattle.transfers.proofs.transfers.transfer_rights.Goals as goal
+
+pub loop-p-init : goal.loop-p-init
+loop-p-init c =
+    let args = c.args in
+    (zero-le, none_yet (share_column args.x) (moves_at (opening_in args.o.now) args.term args.sink) path_number 0 args.f.now (λ p slot on. zero-le), (c.requires 0 (omega arith)).long)
+
+pub transfer_path-requires : goal.transfer_path-requires
+transfer_path-requires c = next_path_fits _ _ _ _ _ _ _ (c.requires _ c.loop-p-test.true) c.loop-p.invariant.2 c.loop-p.invariant.1
+
+pub loop-p-preserved : goal.loop-p-preserved
+loop-p-preserved c =
+    let args = c.args in
+    let in-book = c.loop-p-test.true in
+    (omega arith, one_more (share_column args.x) (moves_at (opening_in args.o.now) args.term args.sink) path_number c.loop-p.p _ _ _ c.loop-p.invariant.1 c.transfer_path.ensures, where_long (share_column args.x) _ _ _ c.loop-p.invariant.2 c.transfer_path.ensures)
+
+pub shape_of-f : goal.shape_of-f
+shape_of-f c = c.loop-p.invariant.2 ∙ sym (c.requires 0 (omega arith)).long
+
+pub returns : goal.returns
+returns c =
+    let args = c.args in
+    all_moved (share_column args.x) (moves_at (opening_in args.o.now) args.term args.sink) path_number c.loop-p.p _ _ (λ p slot l on. le_trans l c.loop-p-test.false) c.loop-p.invariant.1

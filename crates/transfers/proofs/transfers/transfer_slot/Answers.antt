@@ -1,0 +1,17 @@
+-- `transfers::transfers::transfer_slot` meets its contract: the column is transferred where it moves, and left where it does not. Assumes nothing.
+use mathlib.Core.Path.{sym, ◌∙◌}
+use borrow.Author.Tests.{not-true, not-false}
+use Rattle.transfers.proofs.PathTransfers.{slot_moved, slot_still}
+use borrow.Author.Rules.{rules}
+use Rattle.transfers.proofs.transfers.transfer_slot.Goals as goal
+
+pub returns-then-not-slot_moves : goal.returns-then-not-slot_moves
+returns-then-not-slot_moves c = slot_still _ _ _ c.args.f.now _ (sym c.slot_moves.ensures ∙ c.if-not-slot_moves.true)
+
+pub transfer_column-requires : goal.transfer_column-requires
+transfer_column-requires c =
+    let k = c.requires in
+    (k.column, k.covered, k.fits (sym c.slot_moves.ensures ∙ c.if-not-slot_moves.false))
+
+pub returns : goal.returns
+returns c = slot_moved _ _ _ _ _ _ (sym c.slot_moves.ensures ∙ c.if-not-slot_moves.false) c.transfer_column.ensures
