@@ -4,6 +4,7 @@ ghost use Rattle.tariff.specs.Settings.{settings_legal};
 
 use crate::rows::{at, settings_at};
 use crate::{limit_rows, write};
+use std::io;
 use tariff::limit::{
     Sums, eligible_with_evidence, eligible_without_evidence, limit_of_sums, priority_eligible,
     seasonal_eligible,
@@ -17,19 +18,19 @@ pub const LOAD_WIDTH: usize = 2;
 // How many numbers a row has.
 pub const WIDTH: usize = 11;
 
-fn write_parts(settings: Settings, load: u64)
+fn write_parts(rt: &impl Print, settings: Settings, load: u64) -> io::Result<()>
     requires { settings_legal settings ≡ true }
 {
-    write::word(b"eligible");
-    write::field(seasonal_eligible(settings, load));
-    write::field(priority_eligible(settings, load));
-    write::field(eligible_without_evidence(settings, load));
-    write::field(eligible_with_evidence(settings, load));
-    write::end();
+    write::word(rt, "eligible")?;
+    write::field(rt, seasonal_eligible(settings, load))?;
+    write::field(rt, priority_eligible(settings, load))?;
+    write::field(rt, eligible_without_evidence(settings, load))?;
+    write::field(rt, eligible_with_evidence(settings, load))?;
+    write::end(rt)
 }
 
 // The line of a load.
-pub fn write_eligible(row: usize)
+pub fn write_eligible(rt: &impl Print, row: usize) -> io::Result<()>
     requires { row < 65536 }
 {
     let from = row * LOAD_WIDTH;
@@ -37,9 +38,9 @@ pub fn write_eligible(row: usize)
     let rows = &limit_rows::LOADS;
     let settings = settings_at(&limit_rows::SETS, at(rows, last));
     if settings_legal(settings) {
-        write_parts(settings, at(rows, from));
+        write_parts(rt, settings, at(rows, from))
     } else {
-        write::illegal();
+        write::illegal(rt)
     }
 }
 
@@ -60,18 +61,18 @@ fn sums_from(rows: &[u64], from: usize) -> Sums
     }
 }
 
-fn write_limit(settings: Settings, tier: u64, sums: Sums)
+fn write_limit(rt: &impl Print, settings: Settings, tier: u64, sums: Sums) -> io::Result<()>
     requires { settings_legal settings ≡ true }
 {
-    write::word(b"limit");
-    write::field(tier);
-    write::field(term_of(tier));
-    write::field(limit_of_sums(settings, tier, sums));
-    write::end();
+    write::word(rt, "limit")?;
+    write::field(rt, tier)?;
+    write::field(rt, term_of(tier))?;
+    write::field(rt, limit_of_sums(settings, tier, sums))?;
+    write::end(rt)
 }
 
 // The line of a row.
-pub fn write_row(row: usize)
+pub fn write_row(rt: &impl Print, row: usize) -> io::Result<()>
     requires { row < 65536 }
 {
     let from = row * WIDTH;
@@ -79,8 +80,8 @@ pub fn write_row(row: usize)
     let rows = &limit_rows::ROWS;
     let settings = settings_at(&limit_rows::SETS, at(rows, last));
     if settings_legal(settings) {
-        write_limit(settings, at(rows, from), sums_from(rows, from));
+        write_limit(rt, settings, at(rows, from), sums_from(rows, from))
     } else {
-        write::illegal();
+        write::illegal(rt)
     }
 }

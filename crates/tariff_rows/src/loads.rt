@@ -5,6 +5,7 @@ ghost use Rattle.tariff.specs.Settings.{settings_legal};
 use crate::rows::{at, part, settings_at};
 use crate::{load_rows, write};
 use load_metric::load::{Metering, load_posted};
+use std::io;
 use tariff::settings::{Settings, settings_legal};
 
 // How many numbers a row has.
@@ -47,24 +48,24 @@ fn row_posted(settings: Settings, rows: &[u64], from: usize) -> Metering
     )
 }
 
-fn write_refusal(number: u64) {
-    write::word(b",no");
-    write::field(number);
+fn write_refusal(rt: &impl Print, number: u64) -> io::Result<()> {
+    write::word(rt, ",no")?;
+    write::field(rt, number)
 }
 
-fn write_posted(posted: Metering) {
-    write::word(b"load");
+fn write_posted(rt: &impl Print, posted: Metering) -> io::Result<()> {
+    write::word(rt, "load")?;
     match posted {
-        Metering::Unequal => write_refusal(1),
-        Metering::Broken => write_refusal(6),
-        Metering::Missing => write_refusal(7),
-        Metering::Kw(kw) => write::field(kw),
+        Metering::Unequal => write_refusal(rt, 1)?,
+        Metering::Broken => write_refusal(rt, 6)?,
+        Metering::Missing => write_refusal(rt, 7)?,
+        Metering::Kw(kw) => write::field(rt, kw)?,
     }
-    write::end();
+    write::end(rt)
 }
 
 // The line of a row.
-pub fn write_row(row: usize)
+pub fn write_row(rt: &impl Print, row: usize) -> io::Result<()>
     requires { row < 65536 }
 {
     let from = row * WIDTH;
@@ -72,8 +73,8 @@ pub fn write_row(row: usize)
     let rows = &load_rows::ROWS;
     let settings = settings_at(&load_rows::SETS, at(rows, last));
     if settings_legal(settings) {
-        write_posted(row_posted(settings, rows, from));
+        write_posted(rt, row_posted(settings, rows, from))
     } else {
-        write::illegal();
+        write::illegal(rt)
     }
 }

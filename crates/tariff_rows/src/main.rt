@@ -27,6 +27,8 @@ mod transfer_rows;
 mod transfers;
 mod write;
 
+use std::io;
+
 // What the rows of a table are run through.
 #[derive(Clone, Copy)]
 enum Table {
@@ -39,40 +41,51 @@ enum Table {
 }
 
 // The line or lines of a row. A table has fewer than 65,536 rows, so that no place in it wraps.
-fn write_row(group: Table, row: usize)
+fn write_row(rt: &impl Print, group: Table, row: usize) -> io::Result<()>
     requires { row < 65536 }
 {
     match group {
-        Table::Load => loads::write_row(row),
-        Table::Eligible => limits::write_eligible(row),
-        Table::Limit => limits::write_row(row),
-        Table::Evidence => evidence::write_row(row),
-        Table::Netting => netted::write_row(row),
-        Table::Transfer => transfers::write_row(row),
+        Table::Load => loads::write_row(rt, row),
+        Table::Eligible => limits::write_eligible(rt, row),
+        Table::Limit => limits::write_row(rt, row),
+        Table::Evidence => evidence::write_row(rt, row),
+        Table::Netting => netted::write_row(rt, row),
+        Table::Transfer => transfers::write_row(rt, row),
     }
 }
 
-fn write_rows(group: Table, count: usize)
+fn write_rows(rt: &impl Print, group: Table, count: usize) -> io::Result<()>
     requires { count < 65536 }
 {
     let mut row: usize = 0;
     while row < count {
-        write_row(group, row);
+        write_row(rt, group, row)?;
         row += 1;
     }
+    Ok(())
 }
 
-fn main() {
-    write_rows(Table::Load, load_rows::ROWS.len() / loads::WIDTH);
+fn main(rt: HostRuntime) -> io::Result<()> {
+    write_rows(&rt, Table::Load, load_rows::ROWS.len() / loads::WIDTH)?;
     write_rows(
+        &rt,
         Table::Eligible,
         limit_rows::LOADS.len() / limits::LOAD_WIDTH,
-    );
-    write_rows(Table::Limit, limit_rows::ROWS.len() / limits::WIDTH);
-    write_rows(Table::Evidence, evidence_rows::ROWS.len() / evidence::WIDTH);
-    write_rows(Table::Netting, netting_rows::ROWS.len() / netted::WIDTH);
+    )?;
+    write_rows(&rt, Table::Limit, limit_rows::ROWS.len() / limits::WIDTH)?;
     write_rows(
+        &rt,
+        Table::Evidence,
+        evidence_rows::ROWS.len() / evidence::WIDTH,
+    )?;
+    write_rows(
+        &rt,
+        Table::Netting,
+        netting_rows::ROWS.len() / netted::WIDTH,
+    )?;
+    write_rows(
+        &rt,
         Table::Transfer,
         transfer_rows::ROWS.len() / transfers::WIDTH,
-    );
+    )
 }

@@ -4,6 +4,7 @@ ghost use Rattle.std.specs.Prelude.{◌<◌};
 use crate::rows::{at, part};
 use crate::{class_lines, netting_rows, write};
 use netting::netting::{Netting, net_lines};
+use std::io;
 
 // How many numbers a row has.
 pub const WIDTH: usize = 2;
@@ -29,33 +30,35 @@ fn row_netted(row: usize) -> Netting
 }
 
 // The loser, the gainer and m of a pair, unless m is 0.
-fn write_pair(pair: u64, m: u64) {
+fn write_pair(rt: &impl Print, pair: u64, m: u64) -> io::Result<()> {
     if m > 0 {
-        write::field(pair / 8);
-        write::field(pair % 8);
-        write::field(m);
+        write::field(rt, pair / 8)?;
+        write::field(rt, pair % 8)?;
+        write::field(rt, m)?;
     }
+    Ok(())
 }
 
-fn write_pairs(m: &[u64; 64]) {
+fn write_pairs(rt: &impl Print, m: &[u64; 64]) -> io::Result<()> {
     let mut pair: usize = 0;
     while pair < 64 {
-        write_pair(pair as u64, m[pair]);
+        write_pair(rt, pair as u64, m[pair])?;
         pair += 1;
     }
+    Ok(())
 }
 
 // The line of a row.
-pub fn write_row(row: usize)
+pub fn write_row(rt: &impl Print, row: usize) -> io::Result<()>
     requires { row < 65536 }
 {
     let netting = row_netted(row);
-    write::word(b"netting");
+    write::word(rt, "netting")?;
     if netting.fit {
         let m = netting.m;
-        write_pairs(&m);
+        write_pairs(rt, &m)?;
     } else {
-        write::word(b",no");
+        write::word(rt, ",no")?;
     }
-    write::end();
+    write::end(rt)
 }

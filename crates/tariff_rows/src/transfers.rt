@@ -7,6 +7,7 @@ use crate::rows::at;
 use crate::{transfer_rows, write};
 use netting::netting::Netting;
 use netting::shares::{given_by, shares_of, transferred_column};
+use std::io;
 
 // How many numbers a row has, beside its column and its loads of eight each.
 pub const WIDTH: usize = 2;
@@ -56,32 +57,38 @@ fn within_load(m: [u64; 64], load: [u64; 8]) -> bool
     true
 }
 
-fn write_given(parts: [u64; 64])
+fn write_given(rt: &impl Print, parts: [u64; 64]) -> io::Result<()>
     requires { GivenFits parts }
 {
-    write::word(b"given");
+    write::word(rt, "given")?;
     let mut holder = 0;
     while holder < 8 {
-        write::field(given_by(&parts, holder, 8));
+        write::field(rt, given_by(&parts, holder, 8))?;
         holder += 1;
     }
-    write::end();
+    write::end(rt)
 }
 
 // Nothing is written of numbers that are too large or of losses that cause 9 refuses. No row has such.
-fn write_transfer(column: [u64; 8], m: [u64; 64], load: [u64; 8]) {
+fn write_transfer(
+    rt: &impl Print,
+    column: [u64; 8],
+    m: [u64; 64],
+    load: [u64; 8],
+) -> io::Result<()> {
     if moderate(&column) {
         if moderate(&m) {
             if within_load(m, load) {
                 let parts = shares_of(column, m, load);
-                write_given(parts);
+                write_given(rt, parts)?;
                 let after = transferred_column(column, &parts, 8);
-                write::word(b"transfer");
-                write::fields(&after);
-                write::end();
+                write::word(rt, "transfer")?;
+                write::fields(rt, &after)?;
+                write::end(rt)?;
             }
         }
     }
+    Ok(())
 }
 
 // The netting of a row's class lines.
@@ -94,12 +101,12 @@ fn row_netted(row: usize) -> Netting
 }
 
 // The two lines of a row.
-pub fn write_row(row: usize)
+pub fn write_row(rt: &impl Print, row: usize) -> io::Result<()>
     requires { row < 65536 }
 {
     let netting = row_netted(row);
     let m = netting.m;
     let column = eight(&transfer_rows::COLUMNS, row * 8);
     let load = eight(&transfer_rows::LOADS, row * 8);
-    write_transfer(column, m, load);
+    write_transfer(rt, column, m, load)
 }

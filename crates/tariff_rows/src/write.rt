@@ -1,33 +1,33 @@
 // The parts of a line. What a program writes is in no promise, so these state none: the stored output holds every line.
-use libc::STDOUT_FILENO;
+use std::io;
 
 // A word: the first of a line, or one that brings its comma.
-pub fn word(text: &[u8]) {
-    io::write_all(STDOUT_FILENO, text);
+pub fn word(rt: &impl Print, text: &str) -> io::Result<()> {
+    print!(rt; "{text}")
 }
 
 // A field that is a number, with its comma.
-pub fn field(number: u64) {
-    io::write_all(STDOUT_FILENO, b",");
-    io::print_decimal(STDOUT_FILENO, number);
+pub fn field(rt: &impl Print, number: u64) -> io::Result<()> {
+    print!(rt; ",{number}")
 }
 
 // The line of a row whose settings no book can have, which no expected line is.
-pub fn illegal() {
-    word(b"illegal settings");
-    end();
+pub fn illegal(rt: &impl Print) -> io::Result<()> {
+    word(rt, "illegal settings")?;
+    end(rt)
 }
 
 // The end of a line.
-pub fn end() {
-    io::write_all(STDOUT_FILENO, b"\n");
+pub fn end(rt: &impl Print) -> io::Result<()> {
+    println!(rt)
 }
 
 // Fields that are numbers, each with its comma.
-pub fn fields(numbers: &[u64]) {
+pub fn fields(rt: &impl Print, numbers: &[u64]) -> io::Result<()> {
     let mut k = 0;
     while k < numbers.len() {
-        field(numbers[k]);
+        field(rt, numbers[k])?;
         k += 1;
     }
+    Ok(())
 }
