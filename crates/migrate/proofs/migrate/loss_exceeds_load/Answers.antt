@@ -1,0 +1,31 @@
+-- `migrate::migrate::loss_exceeds_load` meets its contract: no holder passed so far gives more than its load. Assumes nothing.
+use Prim.Native.Nat.{◌≤◌, ◌-◌, zero-le}
+use mathlib.Core.Bool.{false}
+use mathlib.Core.Path.{◌≡◌, refl}
+use native.Mathlib.Omega.{arith}
+use lib.Dec.{ltb}
+use Rattle.tariff.specs.Sum.{sum_to, any_below}
+use Rattle.netting.specs.Netting.{pair_at, holder_at}
+use Rattle.tariff.proofs.Tests.{none_more}
+use Rattle.records.proofs.Searches.{found, not_found}
+use Rattle.migrate.proofs.LineLaws.{loss_above, loss_within}
+use borrow.Author.Rules.{rules}
+use Rattle.migrate.proofs.migrate.loss_exceeds_load.Goals as goal
+
+pub loop-i-init : goal.loop-i-init
+unfolding any_below
+loop-i-init c = (zero-le, refl)
+
+pub given_by-lost-requires : goal.given_by-lost-requires
+given_by-lost-requires c = let pre = c.requires in (search rules, omega (arith, pre.0), pre.0, pre.1 c.loop-i.i (omega (arith, pre.0)))
+
+pub returns-then-load-i : goal.returns-then-load-i
+unfolding holder_at
+returns-then-load-i c = found _ _ _ c.loop-i-test.true (loss_above _ _ _ c.given_by-lost.ensures c.if-load-i.true)
+
+pub loop-i-preserved : goal.loop-i-preserved
+unfolding holder_at
+loop-i-preserved c = (search rules, none_more _ _ c.loop-i.invariant.1 (loss_within _ _ _ c.given_by-lost.ensures c.if-load-i.false))
+
+pub returns : goal.returns
+returns c = not_found _ _ _ c.loop-i.invariant.0 c.loop-i-test.false c.loop-i.invariant.1

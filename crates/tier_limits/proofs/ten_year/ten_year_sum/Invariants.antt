@@ -1,0 +1,18 @@
+-- `tier_limits::ten_year::ten_year_sum` meets its contract: before source s the sum is that of the sources below s. Assumes nothing.
+use Prim.Native.Nat.{◌-◌, ◌≤◌}
+use mathlib.Core.Path.{◌≡◌, refl}
+use native.Mathlib.Omega.{arith}
+use Rattle.tariff.specs.Sum.{sum_to}
+use Rattle.tariff.proofs.Sums.{sum_more, sum_whole}
+use Rattle.ledger.specs.TenYear.{ten_year_at, ten_year_sum}
+use Rattle.slots.specs.Steps.{InFigures}
+use Rattle.slots.proofs.Reachable.{counts}
+use Rattle.tier_limits.proofs.TenYearLaws.{sources_room}
+use borrow.Author.Rules.{rules}
+use Rattle.tier_limits.proofs.ten_year.ten_year_sum.Given as goal
+
+abbrev pub invariant-loop-s : goal.invariant-loop-s
+invariant-loop-s l = (l.s ≤ l.past) × InFigures l.o l.f (λ O L. l.sum ≡ sum_to l.s (ten_year_at L l.h))
+
+abbrev pub decreases-loop-s : goal.decreases-loop-s
+decreases-loop-s l = l.past - l.s
