@@ -1,0 +1,24 @@
+-- `nomination_tests::long_term_step::exceeds_tier_1_award` meets its contract. Assumes nothing.
+use native.Mathlib.Nat.{le_trans}
+use native.Mathlib.Omega.{arith}
+use Rattle.slots.specs.Layout.{nominated_slot}
+use Rattle.slots.proofs.Reachable.{counts}
+use Rattle.nomination_tests.proofs.NominateCauses.{path_cell, path_room}
+use Rattle.nomination_tests.proofs.StepCauses.{tier_1_test}
+use borrow.Author.Rules.{rules}
+use Rattle.nomination_tests.proofs.long_term_step.exceeds_tier_1_award.Goals as goal
+
+pub read-award-requires : goal.read-award-requires
+read-award-requires c = let k = c.requires in path_cell _ _ _ _ _ _ _ k k.figures.reachable _ (omega arith)
+
+pub read-requires : goal.read-requires
+read-requires c = let k = c.requires in path_cell _ _ _ _ _ _ _ k k.figures.reachable _ (omega arith)
+
+pub overflow_add-wanted : goal.overflow_add-wanted
+overflow_add-wanted c = let k = c.requires in record { fits = path_room _ _ _ _ _ _ _ k k.figures.reachable nominated_slot _ (omega arith) c.read.ensures }
+
+pub returns : goal.returns
+returns c m x r =
+    let k = c.requires in
+    let few = counts _ _ m x r in
+    tier_1_test _ m x _ _ _ _ _ _ (le_trans k.holder few.0) (le_trans k.path few.3) c.current_tier.ensures c.read-award.ensures c.read.ensures

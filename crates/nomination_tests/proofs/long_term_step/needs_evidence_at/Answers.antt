@@ -1,0 +1,27 @@
+-- `nomination_tests::long_term_step::needs_evidence_at` meets its contract. Assumes nothing.
+use native.Mathlib.Nat.{le_trans}
+use native.Mathlib.Omega.{arith}
+use Rattle.slots.proofs.Reachable.{bases_known, counts, figures_long}
+use Rattle.nomination_tests.proofs.StepCauses.{needed_here, needed_there}
+use Rattle.nomination_tests.proofs.long_term_step.needs_evidence_at.Goals as goal
+
+pub returns-then-q-p : goal.returns-then-q-p
+returns-then-q-p c m x r = needed_here _ _ m x _ _ _ _ c.if-q-p.true
+
+pub path_base-requires : goal.path_base-requires
+path_base-requires c = let k = c.requires.second in (bases_known _ _ _ _ k.figures.reachable, le_trans k.path (counts _ _ _ _ k.figures.reachable).3)
+
+pub path_base-requires-2 : goal.path_base-requires-2
+path_base-requires-2 c = let k = c.requires.first in (bases_known _ _ _ _ k.figures.reachable, le_trans k.path (counts _ _ _ _ k.figures.reachable).3)
+
+pub read-requires : goal.read-requires
+read-requires c =
+    let k = c.requires.second in
+    let few = counts _ _ _ _ k.figures.reachable in
+    (record { holder = le_trans k.holder few.0; place = le_trans k.path few.3; in_row = omega arith }, figures_long _ _ _ _ k.figures.reachable)
+
+pub returns : goal.returns
+returns c m x r =
+    let k = c.requires.second in
+    let few = counts _ _ m x r in
+    needed_there _ _ m x _ _ _ _ _ _ (le_trans k.holder few.0) (le_trans k.path few.3) c.if-q-p.false c.path_base.ensures c.path_base-2.ensures c.read.ensures

@@ -1,0 +1,41 @@
+-- `nomination_tests::long_term_step::needs_ten_year` meets its contract: an OBAALSE needs it, another holder above what the step gives of its load without it. Assumes nothing.
+use native.Mathlib.Omega.{arith}
+use Rattle.slots.proofs.Reachable.{settings_known}
+use Rattle.slots.proofs.Figures.{summable}
+use Rattle.tier_limits.proofs.EvidenceSlots.{source_cell}
+use Rattle.nomination_tests.proofs.NominateCauses.{base_room, base_fits}
+use Rattle.nomination_tests.proofs.StepCauses.{obaalse_needs, above_without}
+use borrow.Author.Rules.{rules}
+use Rattle.nomination_tests.proofs.long_term_step.needs_ten_year.Goals as goal
+
+pub returns-then-holder_kind-eq-OBAALSE : goal.returns-then-holder_kind-eq-OBAALSE
+returns-then-holder_kind-eq-OBAALSE c m x r = obaalse_needs _ _ m x _ _ _ _ _ c.holder_kind.ensures c.if-holder_kind-eq-OBAALSE.true
+
+pub read-load-requires : goal.read-load-requires
+read-load-requires c = let k = c.requires in source_cell _ _ _ _ k.figures.reachable _ _ k.holder k.place _ (omega arith)
+
+pub sum_at_base-nominated-requires : goal.sum_at_base-nominated-requires
+sum_at_base-nominated-requires c = let k = c.requires in summable _ _ _ _ k.figures.reachable _ _ k.holder (omega arith)
+
+pub sum_at_base-carried-requires : goal.sum_at_base-carried-requires
+sum_at_base-carried-requires c = let k = c.requires in summable _ _ _ _ k.figures.reachable _ _ k.holder (omega arith)
+
+pub eligible_without_evidence-requires : goal.eligible_without_evidence-requires
+eligible_without_evidence-requires c = let k = c.requires in settings_known _ _ _ _ k.figures.reachable c.settings.ensures
+
+pub overflow_add-result : goal.overflow_add-result
+overflow_add-result c = let k = c.requires in record { fits = base_room _ _ _ _ k.figures.reachable _ k.holder _ _ _ k.high c.sum_at_base-nominated.ensures }
+
+pub overflow_add-result-2 : goal.overflow_add-result-2
+overflow_add-result-2 c =
+    let k = c.requires in
+    let r = k.figures.reachable in
+    let nominated = base_fits _ _ _ _ r _ k.holder _ _ _ (omega arith) c.sum_at_base-nominated.ensures in
+    let carried = base_fits _ _ _ _ r _ k.holder _ _ _ (omega arith) c.sum_at_base-carried.ensures in
+    let high = k.high in
+    omega arith
+
+pub returns : goal.returns
+returns c m x r =
+    let k = c.requires in
+    above_without _ _ m x r _ _ _ _ _ _ _ _ _ k.holder k.place c.holder_kind.ensures c.if-holder_kind-eq-OBAALSE.false c.read-load.ensures c.sum_at_base-nominated.ensures c.sum_at_base-carried.ensures c.settings.ensures c.eligible_without_evidence.ensures
