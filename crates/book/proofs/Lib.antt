@@ -7,4 +7,3 @@ pub mod SeasonTheorem
 pub mod UnchangedFigures
 pub mod NextBooks
 pub mod ClassLineLaws
-pub mod ClassLineCalls
