@@ -1,0 +1,26 @@
+-- `answers::write_refusal` meets its contract. Assumes nothing.
+use Prim.Native.Nat.{ℕ, ◌/◌, ◌%◌}
+use mathlib.Core.Path.{◌≡◌}
+use mathlib.Core.List.{[], ◌∷◌}
+use borrow.Author.Rules.{rules}
+use Rattle.ledger.specs.Season.{refused}
+use Rattle.lines.specs.Text.{bytes_of, digit}
+use Rattle.lines.proofs.WritingLaws.{written_as}
+use Rattle.script.specs.Answers.{text_of}
+use Rattle.script.proofs.answers.write_refusal.Goals as goal
+
+line-is : (number tens ones : ℕ) → tens ≡ digit (number / 10 % 10) → ones ≡ digit (number % 10) → 110 ∷ 111 ∷ 44 ∷ tens ∷ ones ∷ 10 ∷ [] ≡ text_of (refused number)
+unfolding text_of bytes_of
+line-is number tens ones t o = λ i. 110 ∷ 111 ∷ 44 ∷ t i ∷ o i ∷ 10 ∷ []
+
+pub write_bytes-requires : goal.write_bytes-requires
+unfolding text_of bytes_of
+write_bytes-requires c = search rules
+
+pub returns : goal.returns
+returns c =
+    let wrote = c.write_bytes in
+    let ones = c.digit_byte-ones in
+    let tens = c.digit_byte-tens in
+    let line = line-is c.args.number tens.result ones.result tens.ensures ones.ensures in
+    let done = written_as c.args.out.now wrote.new.out _ _ c.args.at wrote.result line (wrote.ensures.end, wrote.ensures.written) in record { end = done.0; written = done.1 }

@@ -1,0 +1,46 @@
+-- `script::run::run` meets its contract: the two limits, the empty script, and a run. Assumes nothing.
+use Prim.Native.Nat.{◌*◌}
+use mathlib.Core.Path.{sym, ap}
+use native.Mathlib.Nat.{le_trans, le_of_eq}
+use Rattle.lines.proofs.NextRowLaws.{row_count}
+use Rattle.script.proofs.RunLaws.{long_bytes, long_lines, short_output, a_run, no_bytes, some_bytes}
+use borrow.Author.Rules.{rules}
+use Rattle.script.proofs.run.run.Goals as goal
+
+pub returns-then-script-gt-MAX_BYTES : goal.returns-then-script-gt-MAX_BYTES
+returns-then-script-gt-MAX_BYTES c =
+    let done = long_bytes _ _ c.if-script-gt-MAX_BYTES.true in record { number = done.0; output = done.1 }
+
+pub returns-then-lines : goal.returns-then-lines
+returns-then-lines c = let lines = c.count_lines-lines.ensures in
+    let done = long_lines _ _ (le_trans c.if-lines.true (le_of_eq lines)) in record { number = done.0; output = done.1 }
+
+pub returns-then-out-lines : goal.returns-then-out-lines
+returns-then-out-lines c =
+    let n = c.count_lines-lines.ensures in
+    let lines = le_trans (le_of_eq (sym n)) c.if-lines.false in
+    let bytes = c.if-script-gt-MAX_BYTES.false in
+    let done = short_output _ _ bytes lines (le_trans c.if-out-lines.true (le_of_eq (ap (λ k. 16 * k) n))) in record { number = done.0; output = done.1 }
+
+pub returns-then-script-eq0 : goal.returns-then-script-eq0
+returns-then-script-eq0 c =
+    let done = no_bytes _ _ c.if-script-eq0.true in record { number = done.0; output = done.1 }
+
+pub answer_script-requires : goal.answer_script-requires
+answer_script-requires c =
+    let n = c.count_lines-lines.ensures in
+    let lines = le_trans (le_of_eq (sym n)) c.if-lines.false in
+    let bytes = c.if-script-gt-MAX_BYTES.false in
+    let room = le_trans (le_of_eq (ap (λ k. 16 * k) (sym n))) c.if-out-lines.false in
+    let rows = row_count c.args.script.now in record { some = some_bytes _ c.if-script-eq0.false; short = bytes; few = le_trans (le_of_eq rows) lines; room = le_trans (le_of_eq (ap (λ k. 16 * k) rows)) room }
+
+pub returns : goal.returns
+returns c =
+    let n = c.count_lines-lines.ensures in
+    let lines = le_trans (le_of_eq (sym n)) c.if-lines.false in
+    let bytes = c.if-script-gt-MAX_BYTES.false in
+    let room = le_trans (le_of_eq (ap (λ k. 16 * k) (sym n))) c.if-out-lines.false in
+    let done = c.answer_script.ensures in
+    let end = done.end in
+    let written = done.written in
+    let done = a_run _ _ bytes lines room _ _ end written in record { number = done.0; output = done.1 }
