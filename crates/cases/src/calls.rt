@@ -1,5 +1,5 @@
 // Each call put to a book, its answer written, and the next book passed on. So every book here is one that opening or a call returned.
-ghost use Rattle.std.specs.Prelude.{◌≡◌, ◌≤◌, take};
+ghost use Rattle.std.specs.Prelude.{◌≡◌, ◌≤◌, take, IfOk};
 ghost use Rattle.ledger.specs.Call.{migrate};
 ghost use Rattle.book.specs.Outcomes.{outcome_of};
 ghost use Rattle.book.specs.Reachable.{Reachable};
@@ -8,41 +8,52 @@ use crate::write::answer;
 use book::book::{Book, Outcome};
 use book::opened::open_book;
 use netting::netting::ClassLine;
+use std::io;
 use tariff::settings::present_settings;
 
 // The answer written, and the next book.
-fn write_outcome(outcome: Outcome) -> Book
+fn write_outcome(rt: &impl Print, outcome: Outcome) -> io::Result<Book>
     requires { Reachable outcome.book }
-    ensures { Reachable result }
+    ensures { IfOk result Reachable }
 {
     let given = outcome.answer;
-    answer(given);
-    outcome.book
+    answer(rt, given)?;
+    Ok(outcome.book)
 }
 
 // A book with holders of these kinds, one sink, and a path to it from each of so many sources.
-pub fn open(kinds: &[u64], sink_kind: u64, path_sources: &[u64], path_sinks: &[u64]) -> Book
-    ensures { Reachable result }
+pub fn open(
+    rt: &impl Print,
+    kinds: &[u64],
+    sink_kind: u64,
+    path_sources: &[u64],
+    path_sinks: &[u64],
+) -> io::Result<Book>
+    ensures { IfOk result Reachable }
 {
     let sink_kinds = [sink_kind];
     let sink_parents = [0u64];
     let holders = kinds.len() as u64;
     let paths = path_sources.len() as u64;
-    write_outcome(open_book(
-        holders,
-        paths,
-        1,
-        paths,
-        kinds,
-        &sink_kinds,
-        &sink_parents,
-        path_sources,
-        path_sinks,
-        present_settings(),
-    ))
+    write_outcome(
+        rt,
+        open_book(
+            holders,
+            paths,
+            1,
+            paths,
+            kinds,
+            &sink_kinds,
+            &sink_parents,
+            path_sources,
+            path_sinks,
+            present_settings(),
+        ),
+    )
 }
 
 pub fn load(
+    rt: &impl Print,
     b: Book,
     h: u64,
     s: u64,
@@ -52,28 +63,36 @@ pub fn load(
     firsts: &[u64],
     hours: &[u64],
     kws: &[u64],
-) -> Book
+) -> io::Result<Book>
     requires { Reachable b }
-    ensures { Reachable result }
+    ensures { IfOk result Reachable }
 {
-    write_outcome(b.load(h, s, term, contract, n, firsts, hours, kws))
+    write_outcome(rt, b.load(h, s, term, contract, n, firsts, hours, kws))
 }
 
-pub fn carry(b: Book, h: u64, p: u64, kw: u64) -> Book
+pub fn carry(rt: &impl Print, b: Book, h: u64, p: u64, kw: u64) -> io::Result<Book>
     requires { Reachable b }
-    ensures { Reachable result }
+    ensures { IfOk result Reachable }
 {
-    write_outcome(b.carry(h, p, kw))
+    write_outcome(rt, b.carry(h, p, kw))
 }
 
-pub fn prior(b: Book, h: u64, p: u64, allocated: u64, long_term: u64) -> Book
+pub fn prior(
+    rt: &impl Print,
+    b: Book,
+    h: u64,
+    p: u64,
+    allocated: u64,
+    long_term: u64,
+) -> io::Result<Book>
     requires { Reachable b }
-    ensures { Reachable result }
+    ensures { IfOk result Reachable }
 {
-    write_outcome(b.prior(h, p, allocated, long_term))
+    write_outcome(rt, b.prior(h, p, allocated, long_term))
 }
 
 pub fn verify(
+    rt: &impl Print,
     b: Book,
     h: u64,
     s: u64,
@@ -83,14 +102,14 @@ pub fn verify(
     first: u64,
     last: u64,
     mark: u64,
-) -> Book
+) -> io::Result<Book>
     requires { Reachable b }
-    ensures { Reachable result }
+    ensures { IfOk result Reachable }
 {
-    write_outcome(b.verify(h, s, kind, capacity, right, first, last, mark))
+    write_outcome(rt, b.verify(h, s, kind, capacity, right, first, last, mark))
 }
 
-// The first so many of two class lines, lent to the book as one slice. It does nothing else, since whatever lends a slice of structs is proved by hand.
+// The first so many of two class lines, lent to the book as one slice.
 fn lend_lines(b: Book, term: u64, sink: u64, lines: [ClassLine; 2], count: usize) -> Outcome
     requires { Reachable b × (count ≤ 2) }
     ensures { result ≡ outcome_of b (migrate term sink (take count lines)) }
@@ -98,55 +117,62 @@ fn lend_lines(b: Book, term: u64, sink: u64, lines: [ClassLine; 2], count: usize
     b.migrate_lines(term, sink, &lines[..count])
 }
 
-pub fn migrate(b: Book, term: u64, sink: u64, lines: [ClassLine; 2], count: usize) -> Book
+pub fn migrate(
+    rt: &impl Print,
+    b: Book,
+    term: u64,
+    sink: u64,
+    lines: [ClassLine; 2],
+    count: usize,
+) -> io::Result<Book>
     requires { Reachable b × (count ≤ 2) }
-    ensures { Reachable result }
+    ensures { IfOk result Reachable }
 {
-    write_outcome(lend_lines(b, term, sink, lines, count))
+    write_outcome(rt, lend_lines(b, term, sink, lines, count))
 }
 
-pub fn open_tier(b: Book, tier: u64) -> Book
+pub fn open_tier(rt: &impl Print, b: Book, tier: u64) -> io::Result<Book>
     requires { Reachable b }
-    ensures { Reachable result }
+    ensures { IfOk result Reachable }
 {
-    write_outcome(b.open_tier(tier))
+    write_outcome(rt, b.open_tier(tier))
 }
 
-pub fn nominate(b: Book, h: u64, p: u64, kw: u64) -> Book
+pub fn nominate(rt: &impl Print, b: Book, h: u64, p: u64, kw: u64) -> io::Result<Book>
     requires { Reachable b }
-    ensures { Reachable result }
+    ensures { IfOk result Reachable }
 {
-    write_outcome(b.nominate(h, p, kw))
+    write_outcome(rt, b.nominate(h, p, kw))
 }
 
-pub fn award(b: Book, h: u64, p: u64, kw: u64) -> Book
+pub fn award(rt: &impl Print, b: Book, h: u64, p: u64, kw: u64) -> io::Result<Book>
     requires { Reachable b }
-    ensures { Reachable result }
+    ensures { IfOk result Reachable }
 {
-    write_outcome(b.award(h, p, kw))
+    write_outcome(rt, b.award(h, p, kw))
 }
 
-pub fn close_tier(b: Book) -> Book
+pub fn close_tier(rt: &impl Print, b: Book) -> io::Result<Book>
     requires { Reachable b }
-    ensures { Reachable result }
+    ensures { IfOk result Reachable }
 {
-    write_outcome(b.close_tier())
+    write_outcome(rt, b.close_tier())
 }
 
-pub fn limit(b: Book, h: u64, s: u64)
+pub fn limit(rt: &impl Print, b: Book, h: u64, s: u64) -> io::Result<()>
     requires { Reachable b }
 {
-    answer(b.limit(h, s));
+    answer(rt, b.limit(h, s))
 }
 
-pub fn held(b: Book, h: u64, p: u64, month: u64)
+pub fn held(rt: &impl Print, b: Book, h: u64, p: u64, month: u64) -> io::Result<()>
     requires { Reachable b }
 {
-    answer(b.held(h, p, month));
+    answer(rt, b.held(h, p, month))
 }
 
-pub fn net(b: Book, p: u64, month: u64)
+pub fn net(rt: &impl Print, b: Book, p: u64, month: u64) -> io::Result<()>
     requires { Reachable b }
 {
-    answer(b.net(p, month));
+    answer(rt, b.net(p, month))
 }

@@ -10,17 +10,19 @@ mod calls;
 mod seasons;
 mod write;
 
-fn main() {
-    seasons::case_1();
-    seasons::case_2();
-    seasons::case_3();
-    seasons::case_4();
-    seasons::case_5();
-    seasons::case_6();
-    seasons::case_7();
-    seasons::case_8();
-    seasons::case_9();
-    seasons::case_10();
-    seasons::case_11();
-    seasons::case_12();
+use std::io;
+
+fn main(rt: HostRuntime) -> io::Result<()> {
+    seasons::case_1(&rt)?;
+    seasons::case_2(&rt)?;
+    seasons::case_3(&rt)?;
+    seasons::case_4(&rt)?;
+    seasons::case_5(&rt)?;
+    seasons::case_6(&rt)?;
+    seasons::case_7(&rt)?;
+    seasons::case_8(&rt)?;
+    seasons::case_9(&rt)?;
+    seasons::case_10(&rt)?;
+    seasons::case_11(&rt)?;
+    seasons::case_12(&rt)
 }

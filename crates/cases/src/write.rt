@@ -1,35 +1,31 @@
 // Lines. What a program writes is in no promise, so these state none: the stored output holds every line.
-use libc::STDOUT_FILENO;
 use records::answers::Answer;
+use std::io;
 
 // A word and a number.
-fn numbered(word: &[u8], number: u64) {
-    io::write_all(STDOUT_FILENO, word);
-    io::print_decimal(STDOUT_FILENO, number);
-    io::write_all(STDOUT_FILENO, b"\n");
+fn numbered(rt: &impl Print, word: &str, number: u64) -> io::Result<()> {
+    println!(rt; "{word}{number}")
 }
 
 // A refusal's number has two digits.
-fn refusal(number: u64) {
+fn refusal(rt: &impl Print, number: u64) -> io::Result<()> {
     if number < 10 {
-        numbered(b"no,0", number);
+        numbered(rt, "no,0", number)
     } else {
-        numbered(b"no,", number);
+        numbered(rt, "no,", number)
     }
 }
 
 // The line above a case.
-pub fn case(number: u64) {
-    numbered(b"case,", number);
+pub fn case(rt: &impl Print, number: u64) -> io::Result<()> {
+    numbered(rt, "case,", number)
 }
 
 // The line of an answer.
-pub fn answer(answer: Answer) {
+pub fn answer(rt: &impl Print, answer: Answer) -> io::Result<()> {
     match answer {
-        Answer::Done => {
-            io::write_all(STDOUT_FILENO, b"ok\n");
-        }
-        Answer::Value(value) => numbered(b"ok,", value),
-        Answer::Refused(number) => refusal(number),
+        Answer::Done => println!(rt; "ok"),
+        Answer::Value(value) => numbered(rt, "ok,", value),
+        Answer::Refused(number) => refusal(rt, number),
     }
 }
