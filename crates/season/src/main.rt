@@ -4,8 +4,9 @@
 
 ghost use Rattle.std.specs.Prelude.{◌≤◌, length};
 
-use libc::{STDERR_FILENO, STDIN_FILENO, STDOUT_FILENO};
 use script::run::run;
+use std::io;
+use std::io::Read;
 
 // What was read: how many bytes, and whether a read failed before the input's end.
 #[derive(Clone, Copy)]
@@ -14,19 +15,27 @@ struct Input {
     failed: bool,
 }
 
-// Reads standard input until it ends, the buffer is full or a read fails.
-fn read_script(script: &mut [u8]) -> Input
+// Reads the script until it ends, the buffer is full or a read fails.
+fn read_script<R: Read>(reader: &mut R, script: &mut [u8]) -> Input
     ensures { result.length ≤ length script.new }
 {
     let mut length = 0;
     while length < script.len() {
-        let got = libc::read(STDIN_FILENO, &mut script[length..]);
-        let more = io::count(got, &script[length..]);
-        if more == 0 {
-            let failed = got < 0;
-            return Input { length, failed };
+        match reader.read(&mut script[length..]) {
+            Ok(0) => {
+                return Input {
+                    length,
+                    failed: false,
+                };
+            }
+            Ok(more) => length += more,
+            Err(_) => {
+                return Input {
+                    length,
+                    failed: true,
+                };
+            }
         }
-        length += more;
     }
     Input {
         length,
@@ -34,33 +43,34 @@ fn read_script(script: &mut [u8]) -> Input
     }
 }
 
-// Writes answers to standard output.
-fn write_answers(answers: &[u8]) {
-    if !io::write_all(STDOUT_FILENO, answers) {
-        io::write_all(STDERR_FILENO, b"season: the answers cannot be written\n");
+// Writes answers to standard output, and says where that fails.
+fn write_answers(rt: &(impl Print + Eprint), answers: &[u8]) -> io::Result<()> {
+    match rt.write_all(answers) {
+        Ok(_) => Ok(()),
+        Err(_) => eprintln!(rt; "season: the answers cannot be written"),
     }
 }
 
 // Answers a script. The buffer has 16 bytes for each of 4,096 lines, the most that a run takes.
-fn answer(script: &[u8]) {
+fn answer(rt: &(impl Print + Eprint), script: &[u8]) -> io::Result<()> {
     let mut out = [0u8; 65_536];
     let number = run(script, &mut out);
     if number < 1_000_000 {
-        let length = io::count(number as isize, &out);
-        write_answers(&out[..length]);
+        let length = (number as usize).min(out.len());
+        write_answers(rt, &out[..length])
     } else {
-        write_answers(b"no,01\n");
+        write_answers(rt, b"no,01\n")
     }
 }
 
 // One byte more than a script may have shows that there are too many.
-fn main() {
+fn main(rt: HostRuntime) -> io::Result<()> {
     let mut script = [0u8; 65_537];
-    let input = read_script(&mut script);
+    let mut reader = rt.stdin();
+    let input = read_script(&mut reader, &mut script);
     if input.failed {
-        io::write_all(STDERR_FILENO, b"season: the script cannot be read\n");
-        return;
+        return eprintln!(rt; "season: the script cannot be read");
     }
     let length = input.length;
-    answer(&script[..length]);
+    answer(&rt, &script[..length])
 }
