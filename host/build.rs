@@ -1,4 +1,4 @@
-//! Links the static library of the crate `script`, which `rt staticlib script`
+//! Links the static library of the crate `script_c`, which `tools/build library`
 //! proves and writes; with the feature `renamed`, its copy in which the exported
 //! symbol has another name (docs/LINKING.md).
 
@@ -12,7 +12,7 @@ fn main() {
     let (name, command) = if renamed {
         ("season_book", RENAME)
     } else {
-        ("script", "rt staticlib script")
+        ("script", "tools/build library")
     };
     let folder = Path::new(env!("CARGO_MANIFEST_DIR")).join("../target/staticlib");
     let library = folder.join(format!("lib{name}.a"));

@@ -1,7 +1,7 @@
 /*
  * The season book for a C program.
  *
- * Link target/staticlib/libscript.a, which `rt staticlib script` proves and
+ * Link target/staticlib/libscript.a, which `tools/build library` proves and
  * writes. docs/SCRIPT.md has the script's format and docs/REFUSALS.md the
  * numbers of its refusals. docs/LINKING.md goes step by step.
  */

@@ -21,16 +21,17 @@ fn alone() -> MutexGuard<'static, ()> {
 /// what it is given.
 const PROVES: &str = r#"#!/bin/sh
 cat
-mkdir -p target/log target/bin
 for crate in lines season; do
-    echo "fn $crate::first: proved" > target/log/$crate.say
+    echo "checked $crate::first, 1 of 2"
     sleep 1
-    cat target/log/$crate.say
-    echo "rt: $crate proved (1 s)"
+    echo "checked $crate::second, 2 of 2"
+    echo "crate $crate: modules loaded=0 checked=2"
+    echo "logic=proved functions=2"
 done
-printf '#!/bin/sh\ncat\n' > target/bin/season
-chmod +x target/bin/season
-echo "rt: ok, asked for $*"
+mkdir -p out
+printf '#!/bin/sh\ncat\n' > out/season
+chmod +x out/season
+echo "rt: asked for $* in $(basename "$PWD")" >> ../../asked.txt
 "#;
 
 /// Ends as `rt` does where a proof fails.
@@ -50,12 +51,15 @@ fn repository(name: &str, rt: &str) -> PathBuf {
     let root = Path::new(env!("CARGO_TARGET_TMPDIR")).join(name);
     let _ = fs::remove_dir_all(&root);
     fs::create_dir_all(root.join("crates/lines")).expect("a folder");
+    fs::create_dir_all(root.join("crates/season")).expect("a folder");
     fs::create_dir_all(root.join("tools")).expect("a folder");
     fs::write(root.join("crates.txt"), "lines:\n").expect("a file");
     fs::write(root.join("crates/lines/lib.rt"), "\n").expect("a file");
     fs::write(root.join("script.txt"), "answered\n").expect("a file");
     let season = Path::new(env!("CARGO_MANIFEST_DIR")).join("../season");
     fs::copy(season, root.join("season")).expect("a copy");
+    let build = Path::new(env!("CARGO_MANIFEST_DIR")).join("../tools/build");
+    fs::copy(build, root.join("tools/build")).expect("a copy");
     write_program(&root.join("tools/rt"), rt);
     root
 }
@@ -79,18 +83,17 @@ fn a_build_says_crate_by_crate_where_it_is() {
     assert_eq!(String::from_utf8_lossy(&output.stdout), "answered\n");
     assert!(output.status.success());
     let said = String::from_utf8_lossy(&output.stderr);
-    // A crate is said to be begun beside what rt says, at no fixed place.
-    let begins = |line: &&str| line.starts_with("season: proving ") && !line.contains(" and ");
-    let (begun, said): (Vec<&str>, Vec<&str>) = said.lines().partition(begins);
-    assert_eq!(begun.first(), Some(&"season: proving lines"));
     let wanted = [
         "season: proving and building the program; the first time this takes some minutes",
-        "rt: lines proved (1 s)",
-        "rt: season proved (1 s)",
-        "rt: ok, asked for check season",
+        "season: proving lines",
+        "season: lines proved",
+        "season: proving season",
+        "season: season proved",
         "season: built",
     ];
-    assert_eq!(said, wanted);
+    assert_eq!(said.lines().collect::<Vec<_>>(), wanted);
+    let asked = fs::read_to_string(root.join("asked.txt")).expect("what rt was asked");
+    assert_eq!(asked, "rt: asked for run in season\n");
 
     let again = season(&root);
     assert!(again.status.success() && again.stderr.is_empty());

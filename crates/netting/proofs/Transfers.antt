@@ -1,5 +1,5 @@
 -- Laws of a migration's transfer of a column: the shares of a record are at most the record, and a transfer keeps the column's sum. Assumes nothing.
-use Prim.Native.Nat.{ℕ, zero, suc, ◌+◌, ◌*◌, ◌-◌, ◌/◌, ◌≤◌, ◌<◌, zero-le}
+use Prim.Native.Nat.{ℕ, zero, suc, ◌+◌, ◌*◌, ◌/◌, ◌≤◌, ◌<◌, zero-le}
 use mathlib.Core.Path.{◌≡◌, ap}
 use native.Mathlib.Nat.{le_trans, le_of_eq, add-le-add, mul-add, div-zero, add-mul, le-div_iff_mul-le, div-mul-le_self, div-le_of_le-mul, mul-le-mul_left, mul_comm, zero-lt-suc}
 use native.Mathlib.Omega.{arith}

@@ -13,7 +13,7 @@ use Rattle.tariff.specs.Sizes.{last_term}
 use Rattle.tariff.proofs.Tests.{and_both, and_join, and_left_false, and_right_false, decided}
 use Rattle.ledger.specs.Opening.{Opening, path_base, has_base}
 use Rattle.records.specs.Opening.{opening_in}
-use Rattle.slots.specs.Layout.{prior_allocated_slot, nominated_slot, figure_slots, figure_count}
+use Rattle.slots.specs.Layout.{prior_allocated_slot, nominated_slot, figure_count}
 use Rattle.transfers.specs.declared.transfers.Transfer.{Transfer}
 use Rattle.transfers.specs.Columns.{ColumnTransfer}
 use Rattle.transfers.specs.Transfers.{share_column, slot_moves, moves_at, column_where, SlotFits, PathFits}

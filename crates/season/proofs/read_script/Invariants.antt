@@ -1,5 +1,5 @@
 -- No more bytes are counted than the buffer has, which keeps its length.
-use Rattle.std.proofs.Common.{length, ◌-◌, ◌≤◌, ◌≡◌}
+use Rattle.std.proofs.Common.{length, ◌-◌, ◌≤◌}
 use Rattle.season.proofs.read_script.Given as goal
 
 abbrev pub invariant-loop-length : goal.invariant-loop-length

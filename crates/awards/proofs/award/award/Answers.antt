@@ -2,7 +2,6 @@
 use native.Mathlib.Omega.{arith}
 use Rattle.slots.proofs.StepLaws.{steps_refused}
 use Rattle.awards.proofs.AwardLaws.{tier_within, months_room, tier_room, award_steps}
-use borrow.Author.Rules.{rules}
 use Rattle.awards.proofs.award.award.Goals as goal
 
 pub returns-then-number-ne0 : goal.returns-then-number-ne0

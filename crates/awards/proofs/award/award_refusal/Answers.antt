@@ -11,7 +11,6 @@ use Rattle.slots.specs.Layout.{ledger_in}
 use Rattle.slots.proofs.CalendarLaws.{open_test}
 use Rattle.awards.proofs.RowRoom.{known_room}
 use Rattle.awards.proofs.AwardLaws.{tier_within}
-use borrow.Author.Rules.{rules}
 use Rattle.awards.proofs.award.award_refusal.Goals as goal
 
 pub returns-then-unknown : goal.returns-then-unknown

@@ -3,7 +3,6 @@ use Prim.Native.Nat.{◌+◌}
 use native.Mathlib.Omega.{arith}
 use Rattle.slots.specs.Layout.{awards_slot}
 use Rattle.awards.proofs.AwardLaws.{nominated_test}
-use borrow.Author.Rules.{rules}
 use Rattle.awards.proofs.award.exceeds_nominated.Goals as goal
 
 pub overflow_add-wanted : goal.overflow_add-wanted

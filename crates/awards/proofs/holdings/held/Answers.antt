@@ -2,7 +2,6 @@
 use Rattle.ledger.specs.Season.{query_value}
 use Rattle.slots.proofs.StepLaws.{query_refused, query_answered}
 use Rattle.awards.proofs.HoldingLaws.{held_names, has_holding}
-use borrow.Author.Rules.{rules}
 use Rattle.awards.proofs.holdings.held.Goals as goal
 
 pub returns-then-number-ne0 : goal.returns-then-number-ne0

@@ -4,7 +4,6 @@ use mathlib.Core.Path.{ap₂}
 use Rattle.ledger.specs.Causes.{held_causes, query_causes, query_refusal}
 use Rattle.ledger.specs.Numbers.{not_in_book, out_of_range}
 use Rattle.records.proofs.CauseLaws.{link, no_more}
-use borrow.Author.Rules.{rules}
 use Rattle.awards.proofs.holdings.held_refusal.Goals as goal
 
 pub returns : goal.returns

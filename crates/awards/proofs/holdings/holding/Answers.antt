@@ -1,7 +1,6 @@
 -- `awards::holdings::holding` meets its contract: the figures in the two slots of the month are small, and the holding is their sum. Assumes nothing.
 use native.Mathlib.Omega.{arith}
 use Rattle.awards.proofs.HoldingLaws.{holding_is, figure_small}
-use borrow.Author.Rules.{rules}
 use Rattle.awards.proofs.holdings.holding.Goals as goal
 
 pub overflow_add-result : goal.overflow_add-result

@@ -1,17 +1,13 @@
 -- `awards::holdings::net_holding` meets its contract: before holder h the sum is that of the holders below h. Assumes nothing.
 use Prim.Native.Nat.{◌-◌, ◌≤◌}
-use mathlib.Core.Path.{◌≡◌, refl, ◌∙◌}
+use mathlib.Core.Path.{◌≡◌}
 use mathlib.Core.Bool.{Bool}
 use mathlib.Core.List.{List}
-use native.Mathlib.Omega.{arith}
-use borrow.Author.Rules.{rules}
 use Rattle.source_evidence.specs.declared.evidence.Entry.{Entry}
 use Rattle.tariff.specs.Sum.{sum_to}
-use Rattle.tariff.proofs.Sums.{sum_more, sum_whole}
-use Rattle.ledger.specs.Season.{held, net}
+use Rattle.ledger.specs.Season.{held}
 use Rattle.records.specs.Opening.{opening_in}
 use Rattle.slots.specs.Layout.{ledger_in}
-use Rattle.awards.proofs.HoldingLaws.{has_holding, net_room}
 use Rattle.awards.proofs.holdings.net_holding.Given as goal
 
 abbrev pub invariant-loop-h : goal.invariant-loop-h

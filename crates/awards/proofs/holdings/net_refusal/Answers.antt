@@ -2,7 +2,6 @@
 use Rattle.ledger.specs.Causes.{net_causes, query_causes, query_refusal}
 use Rattle.ledger.specs.Numbers.{not_in_book, out_of_range}
 use Rattle.records.proofs.CauseLaws.{link, no_more}
-use borrow.Author.Rules.{rules}
 use Rattle.awards.proofs.holdings.net_refusal.Goals as goal
 
 pub returns : goal.returns

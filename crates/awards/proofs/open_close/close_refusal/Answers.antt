@@ -7,7 +7,6 @@ use Rattle.ledger.specs.Numbers.{not_at_this_time}
 use Rattle.records.proofs.CauseLaws.{link, no_more}
 use Rattle.slots.specs.Layout.{ledger_in}
 use Rattle.slots.proofs.CalendarLaws.{open_test}
-use borrow.Author.Rules.{rules}
 use Rattle.awards.proofs.open_close.close_refusal.Goals as goal
 
 pub returns : goal.returns

@@ -5,7 +5,6 @@ use Rattle.ledger.specs.Numbers.{out_of_range, not_at_this_time}
 use Rattle.records.proofs.CauseLaws.{link, no_more}
 use Rattle.slots.specs.Layout.{ledger_in}
 use Rattle.awards.proofs.OpenCloseLaws.{next_tier_test}
-use borrow.Author.Rules.{rules}
 use Rattle.awards.proofs.open_close.open_refusal.Goals as goal
 
 pub returns : goal.returns

@@ -1,6 +1,5 @@
 -- `book::book::with_figures` meets its contract. Assumes nothing.
 use Rattle.book.specs.Outcomes.{with_figures}
-use borrow.Author.Rules.{rules}
 use Rattle.book.proofs.book.with_figures.Goals as goal
 
 pub returns : goal.returns

@@ -6,7 +6,6 @@ use Rattle.ledger.specs.Numbers.{not_in_book, out_of_range}
 use Rattle.book.specs.Reading.{opening_of_book}
 use Rattle.book.specs.Outcomes.{refused_with}
 use Rattle.book.proofs.ClassLineLaws.{first_long, many_outcome, few_outcome}
-use borrow.Author.Rules.{rules}
 use Rattle.book.proofs.class_lines.migrate_columns.Goals as goal
 
 pub returns-then-n-gt-MAX_CLASS_LINES : goal.returns-then-n-gt-MAX_CLASS_LINES

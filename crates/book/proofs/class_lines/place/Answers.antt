@@ -2,7 +2,6 @@
 use native.Mathlib.Omega.{arith}
 use Rattle.tariff.specs.Sizes.{max_class_lines}
 use Rattle.tariff.proofs.Lists.{placed_in, placed_out}
-use borrow.Author.Rules.{rules}
 use Rattle.book.proofs.class_lines.place.Goals as goal
 
 pub returns-then-k-lt-MAX_CLASS_LINES : goal.returns-then-k-lt-MAX_CLASS_LINES

@@ -2,7 +2,6 @@
 use mathlib.Core.Path.{ap, ◌∙◌}
 use Prim.Native.Nat.{max}
 use Rattle.book.specs.ClassLines.{with_line}
-use borrow.Author.Rules.{rules}
 use Rattle.book.proofs.class_lines.with_line.Goals as goal
 
 pub returns : goal.returns

@@ -2,7 +2,6 @@
 use Rattle.book.specs.Reading.{book_in, book_of}
 use Rattle.book.specs.Opened.{opening_outcome}
 use Rattle.book.proofs.EmptyBook.{empty_figures, empty_posted}
-use borrow.Author.Rules.{rules}
 use Rattle.book.proofs.opened.open_book.Goals as goal
 
 pub returns : goal.returns

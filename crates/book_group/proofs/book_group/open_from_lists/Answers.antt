@@ -3,7 +3,6 @@ use mathlib.Core.Path.{ap, ◌∙◌}
 use Rattle.records.specs.Opening.{opening_array}
 use Rattle.opening.specs.Opened.{opening_answer, resulting_opening}
 use Rattle.book_group.proofs.CutLists.{lent_long, lent_opening}
-use borrow.Author.Rules.{rules}
 use Rattle.book_group.proofs.book_group.open_from_lists.Goals as goal
 
 pub slice_bounds-open-end : goal.slice_bounds-open-end

@@ -2,7 +2,6 @@
 use native.Mathlib.Omega.{arith}
 use Rattle.tariff.specs.Sizes.{max_places}
 use Rattle.tariff.proofs.Lists.{placed_in, placed_out}
-use borrow.Author.Rules.{rules}
 use Rattle.counted_lines.proofs.book_lines.place.Goals as goal
 
 pub returns-then-k-lt-MAX_PLACES : goal.returns-then-k-lt-MAX_PLACES

@@ -1,7 +1,6 @@
 -- `counted_lines::book_lines::read_pairs` meets its contract: so far it has read the first k of the lines. Assumes nothing.
 use Prim.Native.Nat.{◌-◌}
-use borrow.Author.Rules.{rules}
-use Rattle.counted_lines.proofs.PairLaws.{ReadTo, no_pairs, pair_within, one_pair_more, pairs_cut, all_pairs}
+use Rattle.counted_lines.proofs.PairLaws.{ReadTo}
 use Rattle.counted_lines.proofs.book_lines.read_pairs.Given as goal
 
 abbrev pub invariant-loop-k : goal.invariant-loop-k

@@ -4,7 +4,6 @@ use native.Mathlib.Omega.{arith}
 use borrow.Author.Tests.{eq-eqb, ne_eqb}
 use Rattle.lines.specs.Rows.{set_line, broken_set_line}
 use Rattle.counted_lines.proofs.SetLaws.{no_bytes, one_line, set_line_lem}
-use borrow.Author.Rules.{rules}
 use Rattle.counted_lines.proofs.book_lines.read_set_line.Goals as goal
 
 pub returns-then-row-eq-SET_LINE : goal.returns-then-row-eq-SET_LINE

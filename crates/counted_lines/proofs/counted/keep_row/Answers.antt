@@ -3,7 +3,6 @@ use native.Mathlib.Omega.{arith}
 use lib.ListN.{length-set}
 use Rattle.lines.specs.Rows.{field}
 use Rattle.counted_lines.proofs.BufferLaws.{line_stored}
-use borrow.Author.Rules.{rules}
 use Rattle.counted_lines.proofs.counted.keep_row.Goals as goal
 
 pub bounds-buffer-column : goal.bounds-buffer-column

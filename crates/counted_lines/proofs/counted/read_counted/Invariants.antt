@@ -1,13 +1,10 @@
 -- `counted_lines::counted::read_counted` meets its contract: so far it has read and kept the first k of the lines. Assumes nothing.
 use Prim.Native.Nat.{◌-◌}
 use mathlib.Core.Path.{◌≡◌}
-use native.Mathlib.Omega.{arith}
 use lib.ListN.{take}
-use borrow.Author.Rules.{rules}
 use Rattle.lines.specs.Rows.{rows_of}
-use Rattle.counted_lines.specs.Counted.{column_length, buffer_with}
-use Rattle.counted_lines.proofs.CountedLaws.{SoFar, none_read, turn, turn_kept, turn_within, line_fits, buffer_length, buffer_all, buffer_read, cut_short, all_read}
-use Rattle.counted_lines.proofs.BufferLaws.{no_rows_kept}
+use Rattle.counted_lines.specs.Counted.{buffer_with}
+use Rattle.counted_lines.proofs.CountedLaws.{SoFar}
 use Rattle.counted_lines.proofs.counted.read_counted.Given as goal
 
 abbrev pub invariant-loop-k : goal.invariant-loop-k

@@ -7,7 +7,6 @@ use Rattle.lines.specs.Rows.{field}
 use Rattle.counted_lines.specs.Counted.{rows_counted}
 use Rattle.groups.proofs.OutcomeLaws.{fits_counted, kept_counted, count_fits, column_is, outcome_bytes, incomplete_outcome, complete_outcome, load_is, load_counts}
 use Rattle.groups.proofs.HeadLaws.{load_request}
-use borrow.Author.Rules.{rules}
 use Rattle.groups.proofs.counted_calls.load_in_buffer.Goals as goal
 
 pub read_counted-read-requires : goal.read_counted-read-requires
@@ -43,9 +42,13 @@ returns c =
     let all = not-false _ c.if-not-read.false in
     let counts = load_counts _ c.requires.load in
     let requests = load_request _ _ c.requires.load in
-    let fits = fits_counted _ _ _ counts _ c.requires.buffer in record { answer = λ x k.
+    let fits = fits_counted _ _ _ counts _ c.requires.buffer in record {
+      answer = λ x k.
           complete_outcome _ _ _ _ _ _ read.counted counts requests _ all _ _
           (load_is _ c.args.head (rows_counted (field 5 c.args.head) c.args.rest.now) _ _ _ _ (outcome_if _ _ _ _ _ _ _ _ _ _ k (c.load-answer.ensures x k))
           (column_is _ _ _ _ read.counted all _ _ fits read.kept 0 _ (omega arith) c.column-firsts.ensures)
           (column_is _ _ _ _ read.counted all _ _ fits read.kept 1 _ (omega arith) c.column-lengths.ensures)
-          (column_is _ _ _ _ read.counted all _ _ fits read.kept 2 _ (omega arith) c.column-kws.ensures)); consumed = outcome_bytes _ _ _ _ _ _ read.counted counts requests; buffer = kept_counted _ _ _ counts _ _ read.kept }
+          (column_is _ _ _ _ read.counted all _ _ fits read.kept 2 _ (omega arith) c.column-kws.ensures));
+      consumed = outcome_bytes _ _ _ _ _ _ read.counted counts requests;
+      buffer = kept_counted _ _ _ counts _ _ read.kept;
+    }

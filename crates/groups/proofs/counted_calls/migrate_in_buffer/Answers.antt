@@ -7,7 +7,6 @@ use Rattle.lines.specs.Rows.{field}
 use Rattle.counted_lines.specs.Counted.{rows_counted}
 use Rattle.groups.proofs.OutcomeLaws.{fits_counted, kept_counted, count_fits, column_is, outcome_bytes, incomplete_outcome, complete_outcome, migrate_is, migrate_counts}
 use Rattle.groups.proofs.HeadLaws.{migrate_request}
-use borrow.Author.Rules.{rules}
 use Rattle.groups.proofs.counted_calls.migrate_in_buffer.Goals as goal
 
 pub read_counted-read-requires : goal.read_counted-read-requires
@@ -53,11 +52,15 @@ returns c =
     let all = not-false _ c.if-not-read.false in
     let counts = migrate_counts _ c.requires.migrate in
     let requests = migrate_request _ _ c.requires.migrate in
-    let fits = fits_counted _ _ _ counts _ c.requires.buffer in record { answer = λ m x k.
+    let fits = fits_counted _ _ _ counts _ c.requires.buffer in record {
+      answer = λ m x k.
           complete_outcome _ _ _ _ _ _ read.counted counts requests _ all _ _
           (migrate_is _ c.args.head (rows_counted (field 2 c.args.head) c.args.rest.now) _ _ _ _ _ _ (outcome_if _ _ _ _ _ _ _ _ _ _ k (c.migrate-answer.ensures m x k))
           (column_is _ _ _ _ read.counted all _ _ fits read.kept 0 _ (omega arith) c.column-froms.ensures)
           (column_is _ _ _ _ read.counted all _ _ fits read.kept 1 _ (omega arith) c.column-tos.ensures)
           (column_is _ _ _ _ read.counted all _ _ fits read.kept 2 _ (omega arith) c.column-classes.ensures)
           (column_is _ _ _ _ read.counted all _ _ fits read.kept 3 _ (omega arith) c.column-customers.ensures)
-          (column_is _ _ _ _ read.counted all _ _ fits read.kept 4 _ (omega arith) c.column-watts.ensures)); consumed = outcome_bytes _ _ _ _ _ _ read.counted counts requests; buffer = kept_counted _ _ _ counts _ _ read.kept }
+          (column_is _ _ _ _ read.counted all _ _ fits read.kept 4 _ (omega arith) c.column-watts.ensures));
+      consumed = outcome_bytes _ _ _ _ _ _ read.counted counts requests;
+      buffer = kept_counted _ _ _ counts _ _ read.kept;
+    }

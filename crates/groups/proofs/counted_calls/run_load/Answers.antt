@@ -1,7 +1,6 @@
 -- `groups::counted_calls::run_load` meets its contract: the buffer has a place for each line that is counted. Assumes nothing.
 use Rattle.lines.specs.Rows.{field}
 use Rattle.groups.proofs.OutcomeLaws.{few_fit, all_fit, load_counts}
-use borrow.Author.Rules.{rules}
 use Rattle.groups.proofs.counted_calls.run_load.Goals as goal
 
 pub load_in_buffer-requires : goal.load_in_buffer-requires

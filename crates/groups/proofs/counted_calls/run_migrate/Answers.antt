@@ -1,7 +1,6 @@
 -- `groups::counted_calls::run_migrate` meets its contract: the buffer has a place for each line that is counted. Assumes nothing.
 use Rattle.lines.specs.Rows.{field}
 use Rattle.groups.proofs.OutcomeLaws.{few_fit, all_fit, migrate_counts}
-use borrow.Author.Rules.{rules}
 use Rattle.groups.proofs.counted_calls.run_migrate.Goals as goal
 
 pub migrate_in_buffer-requires : goal.migrate_in_buffer-requires

@@ -8,7 +8,6 @@ use Rattle.lines.specs.Rows.{field}
 use Rattle.groups.specs.Outcome.{head_group}
 use Rattle.groups.proofs.HeadLaws.{carry_request, prior_request, open_request, nominate_request, award_request, close_request, limit_request, held_request, net_request, no_head, by_call, by_query, by_unreadable, beside_evidence}
 use Rattle.groups.proofs.OutcomeLaws.{answers_one_line, bytes_one_line, kind_counts, other_counts}
-use borrow.Author.Rules.{rules}
 use Rattle.std.proofs.Common.{◌≡◌, ℕ, arith}
 use Rattle.heads.proofs.heads.run_head.Goals as goal
 

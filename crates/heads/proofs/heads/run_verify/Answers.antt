@@ -5,7 +5,6 @@ use Rattle.lines.specs.Rows.{field}
 use Rattle.groups.specs.Outcome.{head_group}
 use Rattle.groups.proofs.HeadLaws.{verify_request, by_call, beside_evidence}
 use Rattle.groups.proofs.OutcomeLaws.{answers_one_line, bytes_one_line, kind_counts}
-use borrow.Author.Rules.{rules}
 use Rattle.heads.proofs.heads.run_verify.Goals as goal
 
 pub returns : goal.returns

@@ -1,6 +1,5 @@
 -- `digits::digit_byte` meets its contract. Assumes nothing.
 use mathlib.Core.Path.{refl}
-use borrow.Author.Rules.{rules}
 use Rattle.lines.specs.Text.{digit}
 use Rattle.lines.proofs.digits.digit_byte.Goals as goal
 

@@ -1,11 +1,10 @@
 -- `digits::write_decimal` meets its contract. The loop's invariant: the digits of what is left, and then those found, are the number's, and there is a place for each that is left. Assumes nothing.
-use Prim.Native.Nat.{ℕ, ◌+◌, ◌-◌, ◌^◌, ◌≤◌, ◌<◌}
+use Prim.Native.Nat.{ℕ, ◌+◌, ◌-◌, ◌≤◌, ◌<◌}
 use mathlib.Core.Path.{◌≡◌, refl, ap, ◌∙◌}
 use mathlib.Core.List.{List, ◌++◌, append-nil}
 use native.Mathlib.Omega.{arith}
 use lib.ListN.{length, set, take, drop, length-set, length-drop}
 use lib.Seq.{take_all}
-use borrow.Author.Rules.{rules}
 use Rattle.lines.specs.Text.{digit, digits_of, decimal}
 use Rattle.lines.proofs.DigitLaws.{place_left, digit_found, first_found}
 use Rattle.lines.proofs.WritingLaws.{written_as}

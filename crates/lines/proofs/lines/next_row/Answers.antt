@@ -4,7 +4,6 @@ use native.Mathlib.Omega.{arith}
 use borrow.Author.Tests.{not-true, not-false}
 use Rattle.lines.proofs.ReadRowLaws.{key_fits, count_fits, end_within, fields_unread, word_unknown, row_read}
 use Rattle.tariff.specs.Sum.{tabulate}
-use borrow.Author.Rules.{rules}
 use Rattle.lines.proofs.lines.next_row.Goals as goal
 
 pub returns-then-not-fields : goal.returns-then-not-fields

@@ -2,7 +2,6 @@
 use mathlib.Core.Path.{ap₂}
 use Rattle.lines.specs.Reading.{unreadable_line}
 use Rattle.lines.proofs.NextRowLaws.{ended_bytes, unended_bytes}
-use borrow.Author.Rules.{rules}
 use Rattle.lines.proofs.lines.unreadable_line.Goals as goal
 
 pub returns-then-length-rest : goal.returns-then-length-rest

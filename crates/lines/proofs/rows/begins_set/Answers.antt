@@ -4,7 +4,6 @@ use mathlib.Core.Bool.{◌&&◌}
 use lib.Dec.{eqb}
 use Rattle.lines.specs.Text.{comma}
 use Rattle.lines.proofs.BeginLaws.{set_bytes}
-use borrow.Author.Rules.{rules}
 use Rattle.lines.proofs.rows.begins_set.Goals as goal
 
 pub returns : goal.returns

@@ -1,7 +1,6 @@
 -- `lines::rows::byte_at` meets its contract: past the last byte it is 0. Assumes nothing.
 use mathlib.Core.Path.{sym}
 use lib.ListN.{get_or-eq_default}
-use borrow.Author.Rules.{rules}
 use Rattle.lines.proofs.rows.byte_at.Goals as goal
 
 pub returns-else-at-rest : goal.returns-else-at-rest

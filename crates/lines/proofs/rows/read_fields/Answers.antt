@@ -1,14 +1,11 @@
 -- `lines::rows::read_fields` meets its contract: what is read of the fields so far, and what is left of the line, give what is read of them all. Assumes nothing.
-use Prim.Native.Nat.{◌-◌, ◌≤◌}
-use mathlib.Core.Path.{◌≡◌, refl, sym, ◌∙◌}
+use mathlib.Core.Path.{refl, sym, ◌∙◌}
 use native.Mathlib.Omega.{arith}
 use borrow.Author.Tests.{not-true, not-false}
-use lib.ListN.{length, get_or, drop, length-set}
+use lib.ListN.{length-set}
 use Rattle.tariff.specs.Sum.{tabulate}
 use Rattle.lines.specs.Text.{line_feed, comma}
-use Rattle.lines.specs.Rows.{max_fields}
-use Rattle.lines.specs.Reading.{fields_read}
-use Rattle.lines.proofs.FieldLaws.{zeros, read_from, reading_starts, byte_inside, field_follows, none_follows, line_ends, stops, stops_at_none, continues}
+use Rattle.lines.proofs.FieldLaws.{zeros, reading_starts, byte_inside, field_follows, none_follows, line_ends, stops, stops_at_none, continues}
 use borrow.Author.Rules.{rules}
 use Rattle.lines.proofs.rows.read_fields.Goals as goal
 

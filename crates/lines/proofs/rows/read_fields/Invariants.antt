@@ -1,15 +1,10 @@
 -- `lines::rows::read_fields` meets its contract: what is read of the fields so far, and what is left of the line, give what is read of them all. Assumes nothing.
 use Prim.Native.Nat.{◌-◌, ◌≤◌}
-use mathlib.Core.Path.{◌≡◌, refl, sym, ◌∙◌}
-use native.Mathlib.Omega.{arith}
-use borrow.Author.Tests.{not-true, not-false}
-use lib.ListN.{length, get_or, drop, length-set}
-use Rattle.tariff.specs.Sum.{tabulate}
-use Rattle.lines.specs.Text.{line_feed, comma}
+use mathlib.Core.Path.{◌≡◌}
+use lib.ListN.{length, get_or, drop}
 use Rattle.lines.specs.Rows.{max_fields}
 use Rattle.lines.specs.Reading.{fields_read}
-use Rattle.lines.proofs.FieldLaws.{zeros, read_from, reading_starts, byte_inside, field_follows, none_follows, line_ends, stops, stops_at_none, continues}
-use borrow.Author.Rules.{rules}
+use Rattle.lines.proofs.FieldLaws.{read_from}
 use Rattle.lines.proofs.rows.read_fields.Given as goal
 
 abbrev pub invariant-loop-byte : goal.invariant-loop-byte

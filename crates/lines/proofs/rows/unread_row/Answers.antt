@@ -4,7 +4,6 @@ use mathlib.Core.Bool.{true, false}
 use Rattle.tariff.specs.Sum.{tabulate}
 use Rattle.lines.specs.Rows.{row}
 use Rattle.lines.proofs.BeginLaws.{unread_by}
-use borrow.Author.Rules.{rules}
 use Rattle.lines.proofs.rows.unread_row.Goals as goal
 
 pub returns-then-begins_set : goal.returns-then-begins_set

@@ -1,9 +1,7 @@
 -- `lines::text::bytes_before` meets its contract: none of the bytes passed so far is the stop. Assumes nothing.
-use Prim.Native.Nat.{◌-◌, ◌≤◌, zero-le}
-use native.Mathlib.Omega.{arith}
+use Prim.Native.Nat.{◌-◌, ◌≤◌}
 use lib.ListN.{length}
-use Rattle.lines.proofs.TextLaws.{Passed, stop_found, passed_more, passed_all}
-use borrow.Author.Rules.{rules}
+use Rattle.lines.proofs.TextLaws.{Passed}
 use Rattle.lines.proofs.text.bytes_before.Given as goal
 
 abbrev pub invariant-loop-i : goal.invariant-loop-i

@@ -1,10 +1,7 @@
 -- `lines::text::count_line_feeds` meets its contract: what is counted are the LFs of the chunks passed so far. Assumes nothing.
-use Prim.Native.Nat.{◌+◌, ◌-◌, ◌≤◌, zero-le}
-use native.Mathlib.Nat.{le_refl}
-use native.Mathlib.Omega.{arith}
+use Prim.Native.Nat.{◌-◌, ◌≤◌}
 use lib.ListN.{length}
-use Rattle.lines.proofs.FeedLaws.{Counted, chunk_size, chunk_few, chunk_more, all_counted}
-use borrow.Author.Rules.{rules}
+use Rattle.lines.proofs.FeedLaws.{Counted}
 use Rattle.lines.proofs.text.count_line_feeds.Given as goal
 
 abbrev pub invariant-loop-i : goal.invariant-loop-i

@@ -1,10 +1,7 @@
 -- `lines::text::line_feeds_in` meets its contract: what is counted are the LFs of the bytes passed so far. Assumes nothing.
-use Prim.Native.Nat.{◌≤◌, ◌-◌, zero-le}
-use mathlib.Core.Logic.{⊎_elim}
-use native.Mathlib.Omega.{arith}
+use Prim.Native.Nat.{◌≤◌, ◌-◌}
 use lib.ListN.{length}
-use Rattle.lines.proofs.FeedLaws.{Counted, feed_more, other_byte, all_counted}
-use borrow.Author.Rules.{rules}
+use Rattle.lines.proofs.FeedLaws.{Counted}
 use Rattle.lines.proofs.text.line_feeds_in.Given as goal
 
 abbrev pub invariant-loop-i : goal.invariant-loop-i

@@ -1,12 +1,8 @@
 -- `lines::text::read_digits` meets its contract: the value of the digits read so far is below a power of ten, so that nine of them fit. Assumes nothing.
 use Prim.Native.Nat.{◌+◌, ◌-◌, ◌^◌, ◌≤◌, ◌<◌}
-use native.Mathlib.Nat.{le_refl}
-use native.Mathlib.Omega.{arith}
 use lib.ListN.{length}
-use Rattle.lines.specs.Text.{is_digit, max_digits}
-use Rattle.lines.proofs.LeadingLaws.{limit_within}
-use Rattle.lines.proofs.NumberLaws.{in_range, below_range, above_range, power_more, power_none, power_max, DigitsTo, no_digits_yet, digit_more, digits_stop, digits_end}
-use borrow.Author.Rules.{rules}
+use Rattle.lines.specs.Text.{max_digits}
+use Rattle.lines.proofs.NumberLaws.{DigitsTo}
 use Rattle.lines.proofs.text.read_digits.Given as goal
 
 abbrev pub invariant-loop-i : goal.invariant-loop-i

@@ -2,7 +2,6 @@
 use mathlib.Core.Path.{sym, ◌∙◌}
 use native.Mathlib.Omega.{arith}
 use Rattle.lines.proofs.NumberLaws.{no_digit, zero_leads, one_digit_read, more_digits_read, first_at, digits_within}
-use borrow.Author.Rules.{rules}
 use Rattle.lines.proofs.text.read_field.Goals as goal
 
 pub returns-then-end-from : goal.returns-then-end-from

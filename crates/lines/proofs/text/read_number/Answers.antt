@@ -1,7 +1,6 @@
 -- `lines::text::read_number` meets its contract: a number has no byte after its digits. Assumes nothing.
 use borrow.Author.Tests.{not-true, not-false}
 use Rattle.lines.proofs.NumberLaws.{numeral_invalid, numeral_part, numeral_read}
-use borrow.Author.Rules.{rules}
 use Rattle.lines.proofs.text.read_number.Goals as goal
 
 pub returns-then-not-number : goal.returns-then-not-number

@@ -4,7 +4,6 @@ use mathlib.Core.Path.{sym, ap}
 use mathlib.Core.Bool.{cond}
 use borrow.Author.Tests.{lt-ltb, le-ltb}
 use Rattle.lines.specs.Reading.{reading_limit}
-use borrow.Author.Rules.{rules}
 use Rattle.lines.proofs.text.reading_limit.Goals as goal
 
 pub returns-then-most-length : goal.returns-then-most-length

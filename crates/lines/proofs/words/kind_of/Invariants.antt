@@ -1,13 +1,9 @@
 -- `lines::words::kind_of` meets its contract: the forms passed so far are not the line's, and the table is that of the forms. Assumes nothing.
-use Prim.Native.Nat.{ℕ, ◌-◌, ◌≤◌, zero-le}
+use Prim.Native.Nat.{ℕ, ◌-◌, ◌≤◌}
 use mathlib.Core.Path.{◌≡◌}
 use mathlib.Core.List.{List}
-use native.Mathlib.Omega.{arith}
-use Rattle.lines.specs.Text.{bytes_of}
-use Rattle.lines.specs.Rows.{forms}
-use Rattle.lines.specs.Words.{key_after, letter_key, word_key, form_number}
-use Rattle.lines.proofs.WordLaws.{form_count, SoughtTo, none_sought, form_found, form_passed, all_sought}
-use borrow.Author.Rules.{rules}
+use Rattle.lines.specs.Words.{word_key}
+use Rattle.lines.proofs.WordLaws.{form_count, SoughtTo}
 use Rattle.lines.proofs.words.kind_of.Given as goal
 
 abbrev pub invariant-loop-k : goal.invariant-loop-k

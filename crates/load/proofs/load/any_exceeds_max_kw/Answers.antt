@@ -1,8 +1,7 @@
 -- `load::load::any_exceeds_max_kw` meets its contract: the kW of no block passed so far exceeds the most, and the first that does ends the search. Assumes nothing.
-use Prim.Native.Nat.{◌≤◌, ◌-◌, zero-le}
+use Prim.Native.Nat.{◌-◌, zero-le}
 use mathlib.Core.Bool.{false}
-use mathlib.Core.Path.{◌≡◌, refl}
-use lib.ListN.{length}
+use mathlib.Core.Path.{refl}
 use borrow.Author.Tests.{lt-ltb, le-ltb}
 use Rattle.tariff.specs.Sum.{any_below}
 use Rattle.tariff.proofs.Tests.{none_more}

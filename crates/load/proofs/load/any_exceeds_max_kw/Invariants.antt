@@ -1,14 +1,10 @@
 -- `load::load::any_exceeds_max_kw` meets its contract: the kW of no block passed so far exceeds the most, and the first that does ends the search. Assumes nothing.
-use Prim.Native.Nat.{◌≤◌, ◌-◌, zero-le}
+use Prim.Native.Nat.{◌≤◌, ◌-◌}
 use mathlib.Core.Bool.{false}
-use mathlib.Core.Path.{◌≡◌, refl}
+use mathlib.Core.Path.{◌≡◌}
 use lib.ListN.{length}
-use borrow.Author.Tests.{lt-ltb, le-ltb}
 use Rattle.tariff.specs.Sum.{any_below}
-use Rattle.tariff.proofs.Tests.{none_more}
 use Rattle.load.specs.Loads.{exceeds_max_kw}
-use Rattle.records.proofs.Searches.{found, not_found}
-use borrow.Author.Rules.{rules}
 use Rattle.load.proofs.load.any_exceeds_max_kw.Given as goal
 
 abbrev pub invariant-loop-k : goal.invariant-loop-k

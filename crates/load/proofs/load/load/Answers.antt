@@ -1,7 +1,6 @@
 -- `load::load::load` meets its contract: a refusal leaves the arrays, and an accepted load adds to the load of its term and is noted. Assumes nothing.
 use native.Mathlib.Omega.{arith}
 use Rattle.load.proofs.LoadSteps.{load_refused, room_in_load, posted_cell, load_accepted}
-use borrow.Author.Rules.{rules}
 use Rattle.load.proofs.load.load.Goals as goal
 
 pub add-requires : goal.add-requires

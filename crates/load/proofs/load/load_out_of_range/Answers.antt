@@ -1,6 +1,5 @@
 -- `load::load::load_out_of_range` meets its contract: its tests are those of the range. Assumes nothing.
 use Rattle.load.proofs.BlockLaws.{range_by_kws}
-use borrow.Author.Rules.{rules}
 use Rattle.load.proofs.load.load_out_of_range.Goals as goal
 
 pub returns : goal.returns

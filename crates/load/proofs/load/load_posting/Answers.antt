@@ -1,14 +1,12 @@
 -- `load::load::load_posting` meets its contract: each return is what the load comes to by the tests on the way. Assumes nothing.
 use mathlib.Core.List.{List}
 use mathlib.Core.Path.{sym, ◌∙◌}
-use borrow.Author.Tests.{not-true, not-false}
 use Rattle.source_evidence.specs.declared.evidence.Entry.{Entry}
 use Rattle.records.specs.Opening.{opening_in}
 use Rattle.slots.specs.Layout.{ledger_in}
 use Rattle.slots.specs.Steps.{Reachable}
 use Rattle.slots.proofs.Reachable.{settings_known}
 use Rattle.load.proofs.PostingLaws.{uneven, early_stops, Passed, unequal_stops, broken_stops, missing_stops, sink_stops, kw_posts}
-use borrow.Author.Rules.{rules}
 use Rattle.load.proofs.load.load_posting.Goals as goal
 use Rattle.load.proofs.load.load_posting.Goals.{After-load_posted}
 

@@ -11,7 +11,6 @@ use Rattle.slots.specs.Layout.{ledger_in, load_posted_slot}
 use Rattle.slots.proofs.Reachable.{posted_long}
 use Rattle.slots.proofs.CalendarLaws.{late_test}
 use Rattle.postings.proofs.PostedSlotLaws.{posted_there}
-use borrow.Author.Rules.{rules}
 use Rattle.load.proofs.load.load_refusal_early.Goals as goal
 
 pub is_posted-posted-requires : goal.is_posted-posted-requires

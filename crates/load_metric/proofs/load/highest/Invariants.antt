@@ -1,10 +1,8 @@
 -- `load_metric::load::highest` meets its contract. The loop's invariant: the highest kW so far and the highest of those left give the highest of all.
 use Prim.Native.Nat.{◌-◌, ◌≤◌, max}
 use mathlib.Core.Path.{◌≡◌}
-use native.Mathlib.Omega.{arith}
 use lib.ListN.{length, drop}
 use Rattle.load_metric.specs.Levels.{highest_kw}
-use Rattle.load_metric.proofs.Lowest.{highest_left, highest_none_left}
 use Rattle.load_metric.proofs.load.highest.Given as goal
 
 abbrev pub invariant-loop-i : goal.invariant-loop-i

@@ -1,12 +1,9 @@
 -- `load_metric::load::level_below` meets its contract. The loop's invariant: what the pass has found and what the blocks left give is what all of them give.
 use Prim.Native.Nat.{◌+◌, ◌-◌, ◌≤◌, max}
 use mathlib.Core.Path.{◌≡◌}
-use mathlib.Core.Logic.{⊎_elim}
-use native.Mathlib.Omega.{arith}
 use lib.ListN.{length}
-use Rattle.load_metric.specs.Levels.{loads_of, level_below, highest_below, hours_at_least}
+use Rattle.load_metric.specs.Levels.{loads_of, highest_below, hours_at_least}
 use Rattle.load_metric.proofs.Blocks.{blocks_from}
-use Rattle.load_metric.proofs.Levels.{from_within_present, left_below, left_from, left_none}
 use Rattle.load_metric.proofs.load.level_below.Given as goal
 
 abbrev pub invariant-loop-i : goal.invariant-loop-i

@@ -2,8 +2,6 @@
 use mathlib.Core.Path.{◌≡◌, sym, ◌∙◌}
 use native.Mathlib.Omega.{arith}
 use lib.ListN.{length}
-use borrow.Author.Tests.{not-true, not-false}
-use borrow.Author.Rules.{rules}
 use Rattle.tariff.proofs.Fractions.{legal_settings}
 use Rattle.load_metric.proofs.Refusals.{unequal, lengths_same, broken_empty, broken_blocks_lem}
 use Rattle.load_metric.proofs.Refusals.{Passed, present_within, missing_hours_lem, covering, metered}

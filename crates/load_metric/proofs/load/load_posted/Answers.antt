@@ -1,6 +1,5 @@
 -- `load_metric::load::load_posted` meets its contract: a refusal is passed on, and contract load comes off a kW. Assumes nothing.
 use mathlib.Core.Path.{◌≡◌, ap, ◌∙◌}
-use borrow.Author.Rules.{rules}
 use Rattle.load_metric.specs.declared.load.Metering.{Metering}
 use Rattle.load_metric.specs.declared.load.Metering.TheVariants.{Kw}
 use Rattle.load_metric.specs.Metering.{load_or_cause}

@@ -1,8 +1,8 @@
 -- `load_metric::load::metric_of_blocks` meets its contract. The loop's invariant: the kW is a block's and within the exceedance, and the level is the step down from it.
-use Rattle.std.proofs.Common.{◌≡◌, ◌+◌, ◌-◌, ◌≤◌, min, List, sym, ap, ◌∙◌, arith}
+use Rattle.std.proofs.Common.{◌≡◌, ◌-◌, ◌≤◌, min, List, sym, ap, ◌∙◌, arith}
 use Rattle.load_metric.specs.Load.{Block}
-use Rattle.load_metric.specs.Levels.{loads_of, level_below, hours_at_least, Countable}
-use Rattle.load_metric.proofs.Found.{Standing, level_kw, most_above, level_above, step_down, step_adds, metric_found, stand_highest}
+use Rattle.load_metric.specs.Levels.{loads_of, hours_at_least, Countable}
+use Rattle.load_metric.proofs.Found.{level_kw, most_above, level_above, step_down, step_adds, metric_found, stand_highest}
 use Rattle.load_metric.proofs.load.metric_of_blocks.Goals as goal
 use Rattle.load_metric.proofs.load.metric_of_blocks.Goals.{At-loop-below, Start}
 

@@ -1,11 +1,8 @@
 -- `load_metric::load::metric_of_blocks` meets its contract. The loop's invariant: the kW is a block's and within the exceedance, and the level is the step down from
-use Prim.Native.Nat.{◌+◌, ◌-◌, ◌≤◌, min}
-use mathlib.Core.Path.{◌≡◌, sym, ap, ◌∙◌}
-use mathlib.Core.List.{List}
-use native.Mathlib.Omega.{arith}
-use Rattle.load_metric.specs.Load.{Block}
-use Rattle.load_metric.specs.Levels.{loads_of, level_below, hours_at_least, Countable}
-use Rattle.load_metric.proofs.Found.{Standing, level_kw, most_above, level_above, step_down, step_adds, metric_found, stand_highest}
+use Prim.Native.Nat.{◌+◌, ◌-◌}
+use mathlib.Core.Path.{◌≡◌}
+use Rattle.load_metric.specs.Levels.{loads_of, level_below}
+use Rattle.load_metric.proofs.Found.{Standing}
 use Rattle.load_metric.proofs.load.metric_of_blocks.Given as goal
 
 abbrev pub invariant-loop-below : goal.invariant-loop-below

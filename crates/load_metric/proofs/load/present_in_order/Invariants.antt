@@ -1,16 +1,10 @@
 -- `load_metric::load::present_in_order` meets its contract. The loop's invariant: the last block ended by hour n, the hours so far lie before its end, all
 use Prim.Native.Nat.{◌+◌, ◌-◌, ◌≤◌}
-use mathlib.Core.Path.{◌≡◌, refl, ◌∙◌}
-use mathlib.Core.Bool.{false}
-use mathlib.Core.List.{List, ◌∷◌}
-use native.Mathlib.Omega.{arith}
+use mathlib.Core.Path.{◌≡◌}
 use lib.ListN.{length}
-use Rattle.load_metric.specs.declared.load.BlockOrder.TheVariants.{Broken}
-use Rattle.load_metric.specs.Load.{Block, in_order, present_hours}
-use Rattle.load_metric.specs.Levels.{spans_of, ordered_hours}
-use Rattle.load_metric.proofs.Blocks.{blocks_from, block_at}
-use Rattle.load_metric.proofs.Ordered.{order_next, order_early, order_without_hours, order_late, order_left, order_none_left}
-use Rattle.load_metric.proofs.Ordered.{present_left, present_none_left, ordered_broken, ordered_present}
+use Rattle.load_metric.specs.Load.{in_order, present_hours}
+use Rattle.load_metric.specs.Levels.{spans_of}
+use Rattle.load_metric.proofs.Blocks.{blocks_from}
 use Rattle.load_metric.proofs.load.present_in_order.Given as goal
 
 abbrev pub invariant-loop-i : goal.invariant-loop-i

@@ -1,11 +1,9 @@
 -- `migrate::class_tests::any_not_between_lses` meets its contract: no line passed so far passes the test, and the first that does ends the search. Assumes nothing.
-use Prim.Native.Nat.{◌≤◌, ◌-◌, zero-le}
+use Prim.Native.Nat.{◌-◌, zero-le}
 use mathlib.Core.Bool.{false}
-use mathlib.Core.Path.{◌≡◌, refl, sym, ◌∙◌}
-use lib.ListN.{length}
+use mathlib.Core.Path.{refl, sym, ◌∙◌}
 use Rattle.tariff.specs.Sum.{any_below}
 use Rattle.tariff.proofs.Tests.{none_more}
-use Rattle.records.specs.Opening.{opening_in}
 use Rattle.migrate.specs.Lines.{not_between_lses_at}
 use Rattle.records.proofs.Searches.{found, not_found}
 use borrow.Author.Rules.{rules}

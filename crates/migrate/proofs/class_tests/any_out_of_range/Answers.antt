@@ -1,8 +1,7 @@
 -- `migrate::class_tests::any_out_of_range` meets its contract: no line passed so far is wrong, and the first that is ends the search. Assumes nothing.
-use Prim.Native.Nat.{◌≤◌, ◌-◌, zero-le}
+use Prim.Native.Nat.{◌-◌, zero-le}
 use mathlib.Core.Bool.{false}
-use mathlib.Core.Path.{◌≡◌, refl, sym, ◌∙◌}
-use lib.ListN.{length}
+use mathlib.Core.Path.{refl, sym, ◌∙◌}
 use Rattle.tariff.specs.Sum.{any_below}
 use Rattle.tariff.proofs.Tests.{none_more}
 use Rattle.migrate.specs.Lines.{out_of_range_at}

@@ -1,13 +1,10 @@
 -- `migrate::class_tests::any_out_of_range` meets its contract: no line passed so far is wrong, and the first that is ends the search. Assumes nothing.
-use Prim.Native.Nat.{◌≤◌, ◌-◌, zero-le}
+use Prim.Native.Nat.{◌≤◌, ◌-◌}
 use mathlib.Core.Bool.{false}
-use mathlib.Core.Path.{◌≡◌, refl, sym, ◌∙◌}
+use mathlib.Core.Path.{◌≡◌}
 use lib.ListN.{length}
 use Rattle.tariff.specs.Sum.{any_below}
-use Rattle.tariff.proofs.Tests.{none_more}
 use Rattle.migrate.specs.Lines.{out_of_range_at}
-use Rattle.records.proofs.Searches.{found, not_found}
-use borrow.Author.Rules.{rules}
 use Rattle.migrate.proofs.class_tests.any_out_of_range.Given as goal
 
 abbrev pub invariant-loop-k : goal.invariant-loop-k

@@ -1,14 +1,11 @@
 -- `migrate::class_tests::any_unknown` meets its contract: no line passed so far passes the test, and the first that does ends the search. Assumes nothing.
-use Prim.Native.Nat.{◌≤◌, ◌-◌, zero-le}
+use Prim.Native.Nat.{◌≤◌, ◌-◌}
 use mathlib.Core.Bool.{false}
-use mathlib.Core.Path.{◌≡◌, refl, sym, ◌∙◌}
+use mathlib.Core.Path.{◌≡◌}
 use lib.ListN.{length}
 use Rattle.tariff.specs.Sum.{any_below}
-use Rattle.tariff.proofs.Tests.{none_more}
 use Rattle.records.specs.Opening.{opening_in}
 use Rattle.migrate.specs.Lines.{unknown_at}
-use Rattle.records.proofs.Searches.{found, not_found}
-use borrow.Author.Rules.{rules}
 use Rattle.migrate.proofs.class_tests.any_unknown.Given as goal
 
 abbrev pub invariant-loop-k : goal.invariant-loop-k

@@ -1,7 +1,6 @@
 -- `migrate::class_tests::names_unknown` meets its contract, from the tests on the two holders. Assumes nothing.
 use mathlib.Core.Bool.{◌||◌}
 use mathlib.Core.Path.{ap₂}
-use borrow.Author.Rules.{rules}
 use Rattle.migrate.proofs.class_tests.names_unknown.Goals as goal
 
 pub returns : goal.returns

@@ -2,7 +2,6 @@
 use lib.Dec.{eqb}
 use mathlib.Core.Bool.{◌||◌}
 use mathlib.Core.Path.{ap₂}
-use borrow.Author.Rules.{rules}
 use Rattle.migrate.proofs.class_tests.not_between_lses.Goals as goal
 
 pub returns : goal.returns

@@ -1,6 +1,5 @@
 -- `migrate::migrate::early_refusal` meets its contract: its tests are the first four causes, in their order. Assumes nothing.
 use Rattle.migrate.proofs.MigrateSteps.{early_cause}
-use borrow.Author.Rules.{rules}
 use Rattle.migrate.proofs.migrate.early_refusal.Goals as goal
 
 pub returns : goal.returns

@@ -1,15 +1,10 @@
 -- `migrate::migrate::loss_exceeds_load` meets its contract: no holder passed so far gives more than its load. Assumes nothing.
-use Prim.Native.Nat.{◌≤◌, ◌-◌, zero-le}
+use Prim.Native.Nat.{◌≤◌, ◌-◌}
 use mathlib.Core.Bool.{false}
-use mathlib.Core.Path.{◌≡◌, refl}
-use native.Mathlib.Omega.{arith}
+use mathlib.Core.Path.{◌≡◌}
 use lib.Dec.{ltb}
 use Rattle.tariff.specs.Sum.{sum_to, any_below}
 use Rattle.netting.specs.Netting.{pair_at, holder_at}
-use Rattle.tariff.proofs.Tests.{none_more}
-use Rattle.records.proofs.Searches.{found, not_found}
-use Rattle.migrate.proofs.LineLaws.{loss_above, loss_within}
-use borrow.Author.Rules.{rules}
 use Rattle.migrate.proofs.migrate.loss_exceeds_load.Given as goal
 
 abbrev pub invariant-loop-i : goal.invariant-loop-i

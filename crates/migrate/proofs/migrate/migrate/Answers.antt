@@ -2,7 +2,6 @@
 use mathlib.Core.Bool.{not}
 use mathlib.Core.Path.{ap}
 use Rattle.migrate.proofs.MigrateSteps.{uneven, lengths, early_refused, load_there, losses, too_much, load_needs, rights_needs, migrated_steps}
-use borrow.Author.Rules.{rules}
 use Rattle.migrate.proofs.migrate.migrate.Goals as goal
 
 pub returns-then-not-same_counts : goal.returns-then-not-same_counts

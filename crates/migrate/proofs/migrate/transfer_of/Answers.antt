@@ -1,6 +1,5 @@
 -- `migrate::migrate::transfer_of` meets its contract. Assumes nothing.
 use Rattle.migrate.specs.Lines.{transfer_of}
-use borrow.Author.Rules.{rules}
 use Rattle.migrate.proofs.migrate.transfer_of.Goals as goal
 
 pub returns : goal.returns

@@ -1,13 +1,10 @@
 -- `netting::netting::all_fit` meets its contract: no line passed so far is unfit, and the first unfit one ends the search. Assumes nothing.
 use borrow.Author.Tests.{not-true, not-false}
 use Rattle.netting.proofs.FitLines.{some_unfit, none_unfit}
-use lib.ListN.{length}
-use mathlib.Core.Bool.{false}
-use mathlib.Core.Path.{◌≡◌, refl, sym, ◌∙◌}
-use Prim.Native.Nat.{◌≤◌, ◌-◌, zero-le}
+use mathlib.Core.Path.{refl, sym, ◌∙◌}
+use Prim.Native.Nat.{zero-le}
 use Rattle.tariff.specs.Sum.{any_below}
 use Rattle.tariff.proofs.Tests.{none_more}
-use Rattle.netting.proofs.FitLines.{unfit_at}
 use borrow.Author.Rules.{rules}
 use Rattle.netting.proofs.netting.all_fit.Goals as goal
 

@@ -3,7 +3,6 @@ use mathlib.Core.Bool.{not, ◌&&◌}
 use mathlib.Core.Path.{ap, ◌∙◌}
 use lib.Dec.{ltb}
 use Rattle.netting.proofs.FitLines.{line_tests}
-use borrow.Author.Rules.{rules}
 use Rattle.netting.proofs.netting.line_fits.Goals as goal
 
 pub returns : goal.returns

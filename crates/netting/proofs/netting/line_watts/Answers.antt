@@ -1,6 +1,5 @@
 -- `netting::netting::line_watts` meets its contract: the product of numbers in range fits. Assumes nothing.
 use Rattle.netting.proofs.Products.{line_product_fits}
-use borrow.Author.Rules.{rules}
 use Rattle.netting.proofs.netting.line_watts.Goals as goal
 
 pub overflow_mul-result : goal.overflow_mul-result

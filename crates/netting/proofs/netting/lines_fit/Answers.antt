@@ -1,6 +1,5 @@
 -- `netting::netting::lines_fit` meets its contract: the tests on the lengths, and then those on the lines. Assumes nothing.
 use Rattle.netting.proofs.FitLines.{by_counts, lengths_by_counts, fit_by_lines, unfit_by_lengths}
-use borrow.Author.Rules.{rules}
 use Rattle.netting.proofs.netting.lines_fit.Goals as goal
 
 pub all_fit-requires : goal.all_fit-requires

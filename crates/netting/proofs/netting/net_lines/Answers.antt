@@ -1,7 +1,6 @@
 -- `netting::netting::net_lines` meets its contract: fit lines are summed and netted, and unfit ones give 0. Assumes nothing.
 use mathlib.Core.Path.{sym, ◌∙◌}
 use Rattle.netting.proofs.NettedLines.{summable, netting_fit, netting_unfit}
-use borrow.Author.Rules.{rules}
 use Rattle.netting.proofs.netting.net_lines.Goals as goal
 
 pub watts_of_pairs-pairs-requires : goal.watts_of_pairs-pairs-requires

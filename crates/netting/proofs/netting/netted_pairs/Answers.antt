@@ -1,12 +1,11 @@
 -- `netting::netting::netted_pairs` meets its contract: the cells passed so far are netted. Assumes nothing.
 use native.Mathlib.Nat.{not-suc-le-zero}
 use native.Mathlib.Omega.{arith}
-use lib.ListN.{length, length-set}
-use mathlib.Core.Path.{◌≡◌, refl, ap, ◌∙◌}
-use Prim.Native.Nat.{◌≤◌, ◌-◌, ◌/◌, zero-le}
+use lib.ListN.{length-set}
+use mathlib.Core.Path.{refl, ap, ◌∙◌}
+use Prim.Native.Nat.{◌/◌, zero-le}
 use Rattle.netting.proofs.Pairs.{net_cell, net_cells}
-use Rattle.tariff.proofs.Lists.{Filled, filled_more, filled_all}
-use borrow.Author.Rules.{rules}
+use Rattle.tariff.proofs.Lists.{filled_more, filled_all}
 use Rattle.netting.proofs.netting.netted_pairs.Goals as goal
 
 pub loop-k-init : goal.loop-k-init

@@ -1,11 +1,8 @@
 -- `netting::netting::watts_of_pairs` meets its contract: the cells hold the watts of the lines passed so far. Assumes nothing.
-use Prim.Native.Nat.{◌≤◌, ◌-◌, zero-le}
-use mathlib.Core.Path.{◌≡◌, refl}
-use native.Mathlib.Omega.{arith}
-use lib.ListN.{length, length-set}
-use Rattle.netting.specs.Netting.{pair_at}
-use Rattle.netting.proofs.Pairs.{HoldsWatts, no_watts, next_watts, all_watts, watts_room}
-use borrow.Author.Rules.{rules}
+use Prim.Native.Nat.{◌≤◌, ◌-◌}
+use mathlib.Core.Path.{◌≡◌}
+use lib.ListN.{length}
+use Rattle.netting.proofs.Pairs.{HoldsWatts}
 use Rattle.netting.proofs.netting.watts_of_pairs.Given as goal
 
 abbrev pub invariant-loop-k : goal.invariant-loop-k

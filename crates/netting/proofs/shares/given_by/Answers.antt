@@ -1,7 +1,7 @@
 -- `netting::shares::given_by` meets its contract: the sum is that of the parts passed so far. Assumes nothing.
 use native.Mathlib.Omega.{arith}
-use mathlib.Core.Path.{◌≡◌, refl}
-use Prim.Native.Nat.{◌≤◌, ◌-◌, zero-le}
+use mathlib.Core.Path.{refl}
+use Prim.Native.Nat.{zero-le}
 use Rattle.netting.specs.Netting.{pair_at}
 use Rattle.tariff.specs.Sum.{sum_to}
 use Rattle.tariff.proofs.Sums.{sum_more, sum_whole, sum_part_le}

@@ -1,11 +1,8 @@
 -- `netting::shares::given_by` meets its contract: the sum is that of the parts passed so far. Assumes nothing.
-use native.Mathlib.Omega.{arith}
-use mathlib.Core.Path.{◌≡◌, refl}
-use Prim.Native.Nat.{◌≤◌, ◌-◌, zero-le}
+use mathlib.Core.Path.{◌≡◌}
+use Prim.Native.Nat.{◌≤◌, ◌-◌}
 use Rattle.netting.specs.Netting.{pair_at}
 use Rattle.tariff.specs.Sum.{sum_to}
-use Rattle.tariff.proofs.Sums.{sum_more, sum_whole, sum_part_le}
-use borrow.Author.Rules.{rules}
 use Rattle.netting.proofs.shares.given_by.Given as goal
 
 abbrev pub invariant-loop-j : goal.invariant-loop-j

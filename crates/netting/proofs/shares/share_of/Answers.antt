@@ -2,7 +2,6 @@
 use Rattle.netting.proofs.ShareCells.{share_none, share_with_nothing}
 use mathlib.Core.Path.{refl}
 use Rattle.netting.specs.Migration.{share}
-use borrow.Author.Rules.{rules}
 use Rattle.netting.proofs.shares.share_of.Goals as goal
 
 pub returns-then-m-eq0 : goal.returns-then-m-eq0

@@ -1,12 +1,11 @@
 -- `netting::shares::shares_of` meets its contract: the cells passed so far hold their shares. Assumes nothing.
 use native.Mathlib.Nat.{not-suc-le-zero}
 use native.Mathlib.Omega.{arith}
-use lib.ListN.{length, length-set}
-use mathlib.Core.Path.{◌≡◌, refl, ◌∙◌}
-use Prim.Native.Nat.{◌≤◌, ◌-◌, zero-le}
+use lib.ListN.{length-set}
+use mathlib.Core.Path.{refl, ◌∙◌}
+use Prim.Native.Nat.{zero-le}
 use Rattle.netting.proofs.ShareCells.{share_cell, share_cells_lem, product_fits}
-use Rattle.tariff.proofs.Lists.{Filled, filled_more, filled_all}
-use borrow.Author.Rules.{rules}
+use Rattle.tariff.proofs.Lists.{filled_more, filled_all}
 use Rattle.netting.proofs.shares.shares_of.Goals as goal
 
 pub loop-k-init : goal.loop-k-init

@@ -5,7 +5,6 @@ use Rattle.slots.specs.Layout.{nominated_slot}
 use Rattle.slots.proofs.Reachable.{counts}
 use Rattle.nomination_tests.proofs.NominateCauses.{path_cell, path_room}
 use Rattle.nomination_tests.proofs.StepCauses.{tier_1_test}
-use borrow.Author.Rules.{rules}
 use Rattle.nomination_tests.proofs.long_term_step.exceeds_tier_1_award.Goals as goal
 
 pub read-award-requires : goal.read-award-requires

@@ -5,7 +5,6 @@ use mathlib.Core.Bool.{not, ◌&&◌}
 use Rattle.ledger.specs.TenYear.{has_ten_year}
 use Rattle.slots.specs.Layout.{ledger_in}
 use Rattle.slots.proofs.Places.{source_place}
-use borrow.Author.Rules.{rules}
 use Rattle.nomination_tests.proofs.long_term_step.lacks_evidence_at.Goals as goal
 
 pub has_ten_year-has-requires : goal.has_ten_year-has-requires

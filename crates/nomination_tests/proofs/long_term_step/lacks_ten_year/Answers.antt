@@ -8,7 +8,6 @@ use Rattle.slots.specs.Layout.{ledger_in}
 use Rattle.slots.proofs.Reachable.{bases_known, counts}
 use Rattle.slots.proofs.Places.{path_base_place}
 use Rattle.nomination_tests.proofs.StepCauses.{lacks_not_in_tier, lacks_unasked, lacks_somewhere}
-use borrow.Author.Rules.{rules}
 use Rattle.nomination_tests.proofs.long_term_step.lacks_ten_year.Goals as goal
 
 pub returns-then-current_tier-ne-LONG_TERM_STEP : goal.returns-then-current_tier-ne-LONG_TERM_STEP

@@ -5,7 +5,6 @@ use Rattle.slots.proofs.Figures.{summable}
 use Rattle.tier_limits.proofs.EvidenceSlots.{source_cell}
 use Rattle.nomination_tests.proofs.NominateCauses.{base_room, base_fits}
 use Rattle.nomination_tests.proofs.StepCauses.{obaalse_needs, above_without}
-use borrow.Author.Rules.{rules}
 use Rattle.nomination_tests.proofs.long_term_step.needs_ten_year.Goals as goal
 
 pub returns-then-holder_kind-eq-OBAALSE : goal.returns-then-holder_kind-eq-OBAALSE

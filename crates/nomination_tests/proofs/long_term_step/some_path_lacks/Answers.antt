@@ -1,15 +1,11 @@
 -- `nomination_tests::long_term_step::some_path_lacks` meets its contract: no path passed so far passes the test, and the first that does ends the search. Assumes nothing.
-use Prim.Native.Nat.{◌-◌, ◌≤◌, zero-le}
-use mathlib.Core.Path.{◌≡◌, refl, sym, ◌∙◌}
-use mathlib.Core.Bool.{false, not, ◌&&◌}
+use Prim.Native.Nat.{◌-◌, zero-le}
+use mathlib.Core.Path.{refl, sym, ◌∙◌}
+use mathlib.Core.Bool.{false}
 use native.Mathlib.Omega.{arith}
 use Rattle.tariff.specs.Sum.{any_below}
 use Rattle.tariff.proofs.Tests.{none_more}
-use Rattle.ledger.specs.Opening.{path_source}
-use Rattle.ledger.specs.TenYear.{has_ten_year}
-use Rattle.ledger.specs.Causes.{needs_evidence_at}
 use Rattle.records.proofs.Searches.{found, not_found}
-use Rattle.slots.specs.Steps.{InFigures}
 use borrow.Author.Rules.{rules}
 use Rattle.nomination_tests.proofs.long_term_step.some_path_lacks.Goals as goal
 

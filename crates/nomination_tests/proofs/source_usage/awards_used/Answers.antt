@@ -4,7 +4,6 @@ use mathlib.Core.Path.{ap}
 use native.Mathlib.Omega.{arith}
 use Rattle.slots.proofs.Figures.{summable}
 use Rattle.nomination_tests.proofs.UsageLaws.{awards_left_out, awards_summed}
-use borrow.Author.Rules.{rules}
 use Rattle.nomination_tests.proofs.source_usage.awards_used.Goals as goal
 
 pub returns-then-not-uses_same_evidence : goal.returns-then-not-uses_same_evidence

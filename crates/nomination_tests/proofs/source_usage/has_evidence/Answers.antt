@@ -2,7 +2,6 @@
 use native.Mathlib.Omega.{arith}
 use Rattle.tier_limits.proofs.EvidenceSlots.{term_fits, source_cell}
 use Rattle.nomination_tests.proofs.VerifiedLaws.{evidence_is}
-use borrow.Author.Rules.{rules}
 use Rattle.nomination_tests.proofs.source_usage.has_evidence.Goals as goal
 
 pub overflow_add-ownership : goal.overflow_add-ownership

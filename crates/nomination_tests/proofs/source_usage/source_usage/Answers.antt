@@ -3,7 +3,6 @@ use native.Mathlib.Omega.{arith}
 use Rattle.slots.proofs.Figures.{summable}
 use Rattle.tier_limits.proofs.LimitLaws.{open_last_lem}
 use Rattle.nomination_tests.proofs.UsageLaws.{usage_fits, usage_is}
-use borrow.Author.Rules.{rules}
 use Rattle.nomination_tests.proofs.source_usage.source_usage.Goals as goal
 
 pub used_before-before-requires : goal.used_before-before-requires

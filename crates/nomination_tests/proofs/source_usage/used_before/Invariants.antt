@@ -1,14 +1,9 @@
 -- `nomination_tests::source_usage::used_before` meets its contract: before tier n the sum is that of the tiers below n. Assumes nothing.
 use Prim.Native.Nat.{◌-◌, ◌≤◌}
-use mathlib.Core.Path.{◌≡◌, refl}
-use native.Mathlib.Omega.{arith}
+use mathlib.Core.Path.{◌≡◌}
 use Rattle.tariff.specs.Sum.{sum_to}
-use Rattle.tariff.proofs.Sums.{sum_more, sum_whole}
-use Rattle.ledger.specs.Verification.{used_before}
 use Rattle.slots.specs.Steps.{InFigures}
 use Rattle.nomination_tests.specs.Usage.{awards_used}
-use Rattle.nomination_tests.proofs.UsageLaws.{before_room}
-use borrow.Author.Rules.{rules}
 use Rattle.nomination_tests.proofs.source_usage.used_before.Given as goal
 
 abbrev pub invariant-loop-n : goal.invariant-loop-n

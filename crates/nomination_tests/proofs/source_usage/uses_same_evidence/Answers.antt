@@ -1,6 +1,5 @@
 -- `nomination_tests::source_usage::uses_same_evidence` meets its contract. Assumes nothing.
 use Rattle.nomination_tests.proofs.UsageLaws.{same_evidence}
-use borrow.Author.Rules.{rules}
 use Rattle.nomination_tests.proofs.source_usage.uses_same_evidence.Goals as goal
 
 pub returns : goal.returns

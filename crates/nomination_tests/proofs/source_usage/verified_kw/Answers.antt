@@ -2,7 +2,6 @@
 use native.Mathlib.Omega.{arith}
 use Rattle.tier_limits.proofs.EvidenceSlots.{term_fits, source_cell}
 use Rattle.nomination_tests.proofs.VerifiedLaws.{verified_fits, verified_is}
-use borrow.Author.Rules.{rules}
 use Rattle.nomination_tests.proofs.source_usage.verified_kw.Goals as goal
 
 pub overflow_add-ownership : goal.overflow_add-ownership

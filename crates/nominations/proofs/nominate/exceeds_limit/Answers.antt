@@ -8,7 +8,6 @@ use Rattle.slots.proofs.Reachable.{bases_known, counts}
 use Rattle.slots.proofs.Places.{path_base_place}
 use Rattle.tier_limits.proofs.LimitLaws.{open_last_lem}
 use Rattle.nomination_tests.proofs.NominateCauses.{base_room, limit_test}
-use borrow.Author.Rules.{rules}
 use Rattle.nominations.proofs.nominate.exceeds_limit.Goals as goal
 
 pub path_base-base-requires : goal.path_base-base-requires

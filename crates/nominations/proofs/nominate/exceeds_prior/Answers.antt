@@ -2,7 +2,6 @@
 use native.Mathlib.Omega.{arith}
 use Rattle.slots.specs.Layout.{nominated_slot}
 use Rattle.nomination_tests.proofs.NominateCauses.{path_cell, path_room, prior_test}
-use borrow.Author.Rules.{rules}
 use Rattle.nominations.proofs.nominate.exceeds_prior.Goals as goal
 
 pub read-remaining-requires : goal.read-remaining-requires

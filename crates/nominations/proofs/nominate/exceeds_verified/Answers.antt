@@ -7,7 +7,6 @@ use native.Mathlib.Omega.{arith}
 use Rattle.slots.proofs.Places.{source_place}
 use Rattle.nomination_tests.proofs.UsageLaws.{usage_fits}
 use Rattle.nomination_tests.proofs.VerifiedLaws.{none_needed, verified_test}
-use borrow.Author.Rules.{rules}
 use Rattle.nominations.proofs.nominate.exceeds_verified.Goals as goal
 
 pub returns-then-not-needs_verification : goal.returns-then-not-needs_verification

@@ -5,7 +5,6 @@ use Prim.Native.Nat.{◌<◌}
 use mathlib.Core.Path.{sym, subst}
 use Rattle.slots.proofs.Places.{source_place}
 use Rattle.nomination_tests.proofs.VerifiedLaws.{none_needed, evidence_test}
-use borrow.Author.Rules.{rules}
 use Rattle.nominations.proofs.nominate.lacks_evidence.Goals as goal
 
 pub returns-then-not-needs_verification : goal.returns-then-not-needs_verification

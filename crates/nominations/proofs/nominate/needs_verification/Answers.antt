@@ -1,7 +1,6 @@
 -- `nominations::nominate::needs_verification` meets its contract. Assumes nothing.
 use Rattle.slots.specs.Layout.{ledger_in}
 use Rattle.nomination_tests.proofs.VerifiedLaws.{verification_test}
-use borrow.Author.Rules.{rules}
 use Rattle.nominations.proofs.nominate.needs_verification.Goals as goal
 
 pub returns : goal.returns

@@ -1,7 +1,6 @@
 -- `nominations::nominate::nominate` meets its contract: a refusal leaves the figures, and an accepted nomination adds to the open tier's. Assumes nothing.
 use Rattle.slots.proofs.StepLaws.{steps_refused}
 use Rattle.nominations.proofs.NominateLaws.{nominate_room, nominate_steps}
-use borrow.Author.Rules.{rules}
 use Rattle.nominations.proofs.nominate.nominate.Goals as goal
 
 pub returns-then-number-ne0 : goal.returns-then-number-ne0

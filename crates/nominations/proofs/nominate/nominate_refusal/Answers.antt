@@ -8,7 +8,6 @@ use Rattle.records.proofs.MetCauses.{met_first, unmet_first}
 use Rattle.slots.specs.Layout.{ledger_in}
 use Rattle.slots.proofs.CalendarLaws.{open_test}
 use Rattle.nomination_tests.proofs.NominateCauses.{in_book}
-use borrow.Author.Rules.{rules}
 use Rattle.nominations.proofs.nominate.nominate_refusal.Goals as goal
 
 pub returns-then-unknown : goal.returns-then-unknown

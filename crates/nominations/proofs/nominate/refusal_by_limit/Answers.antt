@@ -4,7 +4,6 @@ use Rattle.ledger.specs.Numbers.{above_tier1_award, no_ten_year_evidence, above_
 use Rattle.ledger.specs.Causes.{nominate_causes}
 use Rattle.records.proofs.CauseLaws.{link, no_more}
 use Rattle.records.proofs.MetCauses.{met_first, unmet_first}
-use borrow.Author.Rules.{rules}
 use Rattle.nominations.proofs.nominate.refusal_by_limit.Goals as goal
 
 pub returns-then-exceeds_tier_1_award : goal.returns-then-exceeds_tier_1_award

@@ -3,7 +3,6 @@ use mathlib.Core.Path.{sym, ◌∙◌}
 use Rattle.ledger.specs.Numbers.{sink_ineligible, unverified, above_verified, above_prior}
 use Rattle.ledger.specs.Causes.{nominate_causes}
 use Rattle.records.proofs.MetCauses.{met_first, unmet_first}
-use borrow.Author.Rules.{rules}
 use Rattle.nominations.proofs.nominate.refusal_in_tier.Goals as goal
 
 pub returns-then-sink_ineligible : goal.returns-then-sink_ineligible

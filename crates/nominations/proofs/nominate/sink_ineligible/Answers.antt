@@ -1,6 +1,5 @@
 -- `nominations::nominate::sink_ineligible` meets its contract. Assumes nothing.
 use Rattle.nomination_tests.proofs.NominateCauses.{sink_test}
-use borrow.Author.Rules.{rules}
 use Rattle.nominations.proofs.nominate.sink_ineligible.Goals as goal
 
 pub returns : goal.returns

@@ -2,7 +2,6 @@
 use mathlib.Core.Bool.{◌&&◌}
 use lib.Dec.{leb}
 use Rattle.ledger.specs.Opening.{counts_fit}
-use borrow.Author.Rules.{rules}
 use Rattle.opening.proofs.legality.counts_fit.Goals as goal
 
 pub returns : goal.returns

@@ -3,7 +3,6 @@ use mathlib.Core.Path.{ap}
 use mathlib.Core.Bool.{◌||◌}
 use lib.Dec.{eqb}
 use Rattle.ledger.specs.Opening.{holder_legal}
-use borrow.Author.Rules.{rules}
 use Rattle.opening.proofs.legality.holder_legal.Goals as goal
 
 pub returns : goal.returns

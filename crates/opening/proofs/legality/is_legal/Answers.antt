@@ -1,10 +1,8 @@
 -- `opening::legality::is_legal` meets its contract: counts that do not fit are not legal, and where they do the rest decides. Assumes nothing.
 use mathlib.Core.Path.{sym, ap, ◌∙◌}
 use mathlib.Core.Bool.{◌&&◌}
-use borrow.Author.Tests.{not-true, not-false}
 use Rattle.tariff.specs.Settings.{settings_legal}
 use Rattle.opening.proofs.KeptOpening.{unfit_counts, legal_by_lines}
-use borrow.Author.Rules.{rules}
 use Rattle.opening.proofs.legality.is_legal.Goals as goal
 
 pub returns-then-not-counts_fit : goal.returns-then-not-counts_fit

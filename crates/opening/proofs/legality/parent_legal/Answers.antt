@@ -4,7 +4,6 @@ use mathlib.Core.Bool.{◌&&◌}
 use lib.Dec.{ltb, eqb}
 use Rattle.ledger.specs.Opening.{sink_kind, parent_legal}
 use Rattle.records.specs.Opening.{opening_in}
-use borrow.Author.Rules.{rules}
 use Rattle.opening.proofs.legality.parent_legal.Goals as goal
 
 pub returns : goal.returns

@@ -2,7 +2,6 @@
 use mathlib.Core.Bool.{◌&&◌}
 use lib.Dec.{ltb}
 use Rattle.ledger.specs.Opening.{path_legal}
-use borrow.Author.Rules.{rules}
 use Rattle.opening.proofs.legality.path_legal.Goals as goal
 
 pub returns : goal.returns

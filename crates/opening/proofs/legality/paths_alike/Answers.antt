@@ -2,7 +2,6 @@
 use mathlib.Core.Bool.{◌&&◌}
 use lib.Dec.{eqb}
 use Rattle.ledger.specs.Opening.{paths_alike}
-use borrow.Author.Rules.{rules}
 use Rattle.opening.proofs.legality.paths_alike.Goals as goal
 
 pub returns : goal.returns

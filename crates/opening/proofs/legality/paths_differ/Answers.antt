@@ -1,11 +1,10 @@
 -- `opening::legality::paths_differ` meets its contract: no path passed so far is like an earlier one, and the first pair that is alike ends the search. Assumes nothing.
-use Prim.Native.Nat.{◌≤◌, ◌-◌, zero-le}
-use mathlib.Core.Bool.{true, false}
-use mathlib.Core.Path.{◌≡◌, refl, sym, ap, ◌∙◌}
+use Prim.Native.Nat.{zero-le}
+use mathlib.Core.Path.{refl, sym, ap, ◌∙◌}
 use borrow.Author.Rules.{rules}
 use Rattle.tariff.specs.Sum.{all_below, any_below}
 use Rattle.tariff.proofs.Tests.{none_more}
-use Rattle.ledger.specs.Opening.{paths_alike, path_new}
+use Rattle.ledger.specs.Opening.{path_new}
 use Rattle.records.specs.Opening.{opening_in}
 use Rattle.opening.proofs.LegalityLaws.{all_more, one_fails, all_pass, like_none, like_earlier}
 use Rattle.opening.proofs.legality.paths_differ.Goals as goal

@@ -1,13 +1,10 @@
 -- `opening::legality::paths_legal` meets its contract: every path passed so far is legal, and the first that is not ends the loop. Assumes nothing.
-use Prim.Native.Nat.{◌≤◌, ◌-◌, zero-le}
+use Prim.Native.Nat.{◌≤◌, ◌-◌}
 use mathlib.Core.Bool.{true}
-use mathlib.Core.Path.{◌≡◌, refl, sym, ap, ◌∙◌}
-use borrow.Author.Rules.{rules}
-use borrow.Author.Tests.{not-true, not-false}
+use mathlib.Core.Path.{◌≡◌}
 use Rattle.tariff.specs.Sum.{all_below}
 use Rattle.ledger.specs.Opening.{path_legal}
 use Rattle.records.specs.Opening.{opening_in}
-use Rattle.opening.proofs.LegalityLaws.{all_more, one_fails, all_pass}
 use Rattle.opening.proofs.legality.paths_legal.Given as goal
 
 abbrev pub invariant-loop-p : goal.invariant-loop-p

@@ -1,6 +1,5 @@
 -- `opening::legality::sink_legal` meets its contract, by the kind of the sink. Assumes nothing.
 use Rattle.opening.proofs.LegalityLaws.{sub_lap_legal, own_sink_legal}
-use borrow.Author.Rules.{rules}
 use Rattle.opening.proofs.legality.sink_legal.Goals as goal
 
 pub returns-then-kind-eq-SUB_LAP : goal.returns-then-kind-eq-SUB_LAP

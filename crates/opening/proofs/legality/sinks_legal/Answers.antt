@@ -1,9 +1,7 @@
 -- `opening::legality::sinks_legal` meets its contract: every sink passed so far is legal, and the first that is not ends the loop. Assumes nothing.
-use Prim.Native.Nat.{◌≤◌, ◌-◌, zero-le}
-use mathlib.Core.Bool.{true}
-use mathlib.Core.Path.{◌≡◌, refl, sym, ap, ◌∙◌}
+use Prim.Native.Nat.{zero-le}
+use mathlib.Core.Path.{refl, sym, ap, ◌∙◌}
 use borrow.Author.Rules.{rules}
-use borrow.Author.Tests.{not-true, not-false}
 use Rattle.tariff.specs.Sum.{all_below}
 use Rattle.ledger.specs.Opening.{sink_legal}
 use Rattle.records.specs.Opening.{opening_in}

@@ -2,7 +2,6 @@
 use mathlib.Core.Path.{sym, ◌∙◌}
 use native.Mathlib.Omega.{arith}
 use Rattle.opening.proofs.KeptArray.{counted_size, size_1, size_2, size_3, size_4, size_5, opening_kept_lem}
-use borrow.Author.Rules.{rules}
 use Rattle.opening.proofs.lists.keep_opening.Goals as goal
 
 pub slice_bounds-copy_into-end : goal.slice_bounds-copy_into-end

@@ -1,13 +1,12 @@
 -- `opening::lists::path_bases` meets its contract: the bases looked up so far are those of the first paths. Assumes nothing.
-use Prim.Native.Nat.{◌≤◌, ◌-◌, zero-le}
-use mathlib.Core.Path.{◌≡◌, refl}
+use Prim.Native.Nat.{zero-le}
+use mathlib.Core.Path.{refl}
 use native.Mathlib.Nat.{not-suc-le-zero}
 use native.Mathlib.Omega.{arith}
-use lib.ListN.{length, length-set}
-use Rattle.tariff.proofs.Lists.{Filled, filled_more, filled_all}
+use lib.ListN.{length-set}
+use Rattle.tariff.proofs.Lists.{filled_more, filled_all}
 use Rattle.ledger.specs.Opening.{path_base}
 use Rattle.records.specs.Opening.{opening_in, path_bases}
-use borrow.Author.Rules.{rules}
 use Rattle.opening.proofs.lists.path_bases.Goals as goal
 
 pub loop-p-init : goal.loop-p-init

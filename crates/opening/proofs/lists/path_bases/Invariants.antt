@@ -1,13 +1,10 @@
 -- `opening::lists::path_bases` meets its contract: the bases looked up so far are those of the first paths. Assumes nothing.
-use Prim.Native.Nat.{◌≤◌, ◌-◌, zero-le}
-use mathlib.Core.Path.{◌≡◌, refl}
-use native.Mathlib.Nat.{not-suc-le-zero}
-use native.Mathlib.Omega.{arith}
-use lib.ListN.{length, length-set}
-use Rattle.tariff.proofs.Lists.{Filled, filled_more, filled_all}
+use Prim.Native.Nat.{◌≤◌, ◌-◌}
+use mathlib.Core.Path.{◌≡◌}
+use lib.ListN.{length}
+use Rattle.tariff.proofs.Lists.{Filled}
 use Rattle.ledger.specs.Opening.{path_base}
-use Rattle.records.specs.Opening.{opening_in, path_bases}
-use borrow.Author.Rules.{rules}
+use Rattle.records.specs.Opening.{opening_in}
 use Rattle.opening.proofs.lists.path_bases.Given as goal
 
 abbrev pub invariant-loop-p : goal.invariant-loop-p

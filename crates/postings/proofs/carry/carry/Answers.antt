@@ -1,7 +1,6 @@
 -- `postings::carry::carry` meets its contract: a refusal leaves the arrays, and an accepted carry adds to the carried rights and is noted. Assumes nothing.
 use Rattle.postings.proofs.CarryLaws.{carry_room, carry_cell, carry_steps}
 use Rattle.slots.proofs.StepLaws.{steps_refused}
-use borrow.Author.Rules.{rules}
 use Rattle.postings.proofs.carry.carry.Goals as goal
 
 pub returns-then-number-ne0 : goal.returns-then-number-ne0

@@ -1,6 +1,5 @@
 -- `postings::posted_slot::posted_slot` meets its contract: each return is the number's slot by the tests on the way. Assumes nothing.
 use Rattle.postings.proofs.PostedSlotLaws.{slot_below, slot_above, slot_there}
-use borrow.Author.Rules.{rules}
 use Rattle.postings.proofs.posted_slot.posted_slot.Goals as goal
 
 pub returns-then-k-low : goal.returns-then-k-low

@@ -3,7 +3,6 @@ use native.Mathlib.Omega.{arith}
 use Rattle.slots.proofs.RoomLaws.{room_now}
 use Rattle.slots.proofs.StepLaws.{steps_refused}
 use Rattle.postings.proofs.PriorLaws.{prior_part, prior_room, remaining_room, prior_cell, prior_steps}
-use borrow.Author.Rules.{rules}
 use Rattle.postings.proofs.prior.prior.Goals as goal
 
 pub returns-then-number-ne0 : goal.returns-then-number-ne0

@@ -10,7 +10,6 @@ use Rattle.slots.specs.Layout.{ledger_in, prior_posted_slot}
 use Rattle.slots.proofs.Reachable.{posted_long}
 use Rattle.slots.proofs.PostedLaws.{posted_one}
 use Rattle.slots.proofs.CalendarLaws.{late_test}
-use borrow.Author.Rules.{rules}
 use Rattle.postings.proofs.prior.prior_refusal.Goals as goal
 
 pub is_posted-posted-requires : goal.is_posted-posted-requires

@@ -2,7 +2,6 @@
 use lib.Dec.{ltb}
 use mathlib.Core.Bool.{not, ◌&&◌}
 use mathlib.Core.Path.{ap}
-use borrow.Author.Rules.{rules}
 use Rattle.records.proofs.calendar.before_tier.Goals as goal
 
 pub returns : goal.returns

@@ -1,6 +1,5 @@
 -- `records::calendar::follows` meets its contract. Assumes nothing.
 use Rattle.records.proofs.CalendarLaws.{next_test, past_test}
-use borrow.Author.Rules.{rules}
 use Rattle.records.proofs.calendar.follows.Goals as goal
 
 pub returns-then-last_closed-tier : goal.returns-then-last_closed-tier

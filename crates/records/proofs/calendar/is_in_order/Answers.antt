@@ -1,7 +1,6 @@
 -- `records::calendar::is_in_order` meets its contract, by the test on the tier. Assumes nothing.
 use borrow.Author.Tests.{eq-eqb, ne_eqb}
 use Rattle.tariff.specs.Terms.{is_long_term_step}
-use borrow.Author.Rules.{rules}
 use Rattle.records.proofs.calendar.is_in_order.Goals as goal
 
 pub returns-then-tier-eq-LONG_TERM_STEP : goal.returns-then-tier-eq-LONG_TERM_STEP

@@ -1,7 +1,6 @@
 -- `records::calendar::is_next_tier` meets its contract. Assumes nothing.
 use mathlib.Core.Bool.{not, ◌&&◌}
 use mathlib.Core.Path.{ap₂}
-use borrow.Author.Rules.{rules}
 use Rattle.records.proofs.calendar.is_next_tier.Goals as goal
 
 pub returns : goal.returns

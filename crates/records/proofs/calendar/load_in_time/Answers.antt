@@ -6,7 +6,6 @@ use lib.Dec.{ltb, eqb}
 use borrow.Author.Tests.{eq-eqb}
 use Rattle.tariff.specs.Terms.{first_tier_of}
 use Rattle.records.proofs.CalendarLaws.{month_not_ended}
-use borrow.Author.Rules.{rules}
 use Rattle.records.proofs.calendar.load_in_time.Goals as goal
 
 pub returns-then-term-eq0 : goal.returns-then-term-eq0

@@ -2,7 +2,6 @@
 use mathlib.Core.Bool.{◌&&◌, ◌||◌}
 use mathlib.Core.Path.{ap}
 use lib.Dec.{leb, eqb}
-use borrow.Author.Rules.{rules}
 use Rattle.records.proofs.calendar.migration_in_time.Goals as goal
 
 pub returns : goal.returns

@@ -1,10 +1,8 @@
 -- `records::lists::clear` meets its contract: before place k the numbers below k are 0. Assumes nothing.
-use Prim.Native.Nat.{◌-◌}
-use mathlib.Core.Path.{◌≡◌, refl, ◌∙◌}
+use mathlib.Core.Path.{refl, ◌∙◌}
 use native.Mathlib.Omega.{arith}
-use lib.ListN.{length, length-set}
-use Rattle.tariff.proofs.Lists.{Filled, filled_none, filled_more, filled_all}
-use borrow.Author.Rules.{rules}
+use lib.ListN.{length-set}
+use Rattle.tariff.proofs.Lists.{filled_none, filled_more, filled_all}
 use Rattle.records.proofs.lists.clear.Goals as goal
 
 pub loop-k-init : goal.loop-k-init

@@ -1,10 +1,8 @@
 -- `records::lists::clear` meets its contract: before place k the numbers below k are 0. Assumes nothing.
 use Prim.Native.Nat.{◌-◌}
-use mathlib.Core.Path.{◌≡◌, refl, ◌∙◌}
-use native.Mathlib.Omega.{arith}
-use lib.ListN.{length, length-set}
-use Rattle.tariff.proofs.Lists.{Filled, filled_none, filled_more, filled_all}
-use borrow.Author.Rules.{rules}
+use mathlib.Core.Path.{◌≡◌}
+use lib.ListN.{length}
+use Rattle.tariff.proofs.Lists.{Filled}
 use Rattle.records.proofs.lists.clear.Given as goal
 
 abbrev pub invariant-loop-k : goal.invariant-loop-k

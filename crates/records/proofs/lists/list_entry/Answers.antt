@@ -3,7 +3,6 @@ use mathlib.Core.Path.{◌∙◌}
 use native.Mathlib.Omega.{arith}
 use lib.ListN.{drop}
 use Rattle.records.proofs.Entries.{entry_past, entry_none, entry_part}
-use borrow.Author.Rules.{rules}
 use Rattle.records.proofs.lists.list_entry.Goals as goal
 
 pub returns-then-count-i : goal.returns-then-count-i

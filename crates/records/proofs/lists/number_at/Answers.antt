@@ -1,7 +1,6 @@
 -- `records::lists::number_at` meets its contract: past the end there is none. Assumes nothing.
 use mathlib.Core.Path.{sym}
 use lib.ListN.{get_or-eq_default}
-use borrow.Author.Rules.{rules}
 use Rattle.records.proofs.lists.number_at.Goals as goal
 
 pub returns-then-numbers-i : goal.returns-then-numbers-i

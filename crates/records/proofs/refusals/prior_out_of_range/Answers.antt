@@ -3,7 +3,6 @@ use lib.Dec.{ltb}
 use mathlib.Core.Bool.{◌||◌}
 use mathlib.Core.Path.{ap}
 use Rattle.ledger.specs.Ranges.{prior_out_of_range}
-use borrow.Author.Rules.{rules}
 use Rattle.records.proofs.refusals.prior_out_of_range.Goals as goal
 
 pub returns : goal.returns

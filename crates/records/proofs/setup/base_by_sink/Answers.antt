@@ -2,7 +2,6 @@
 use mathlib.Core.Path.{ap, ◌∙◌}
 use Rattle.records.specs.Opening.{opening_in}
 use Rattle.ledger.specs.Opening.{base, path_base}
-use borrow.Author.Rules.{rules}
 use Rattle.records.proofs.setup.base_by_sink.Goals as goal
 
 pub returns : goal.returns

@@ -5,7 +5,6 @@ use native.Mathlib.Omega.{arith}
 use lib.ListN.{get_or}
 use lib.Seq.{get_or-drop}
 use Rattle.tariff.specs.Settings.{fraction_at}
-use borrow.Author.Rules.{rules}
 use Rattle.records.proofs.setup.fraction_at.Goals as goal
 
 pub returns : goal.returns

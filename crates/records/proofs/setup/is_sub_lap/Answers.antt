@@ -2,7 +2,6 @@
 use lib.Dec.{eqb}
 use mathlib.Core.Path.{ap}
 use Rattle.ledger.specs.Causes.{is_sub_lap}
-use borrow.Author.Rules.{rules}
 use Rattle.records.proofs.setup.is_sub_lap.Goals as goal
 
 pub returns : goal.returns

@@ -1,7 +1,6 @@
 -- `records::setup::kind_ineligible` meets its contract, by the kind of the holder. Assumes nothing.
 use mathlib.Core.Path.{sym, ◌∙◌}
 use Rattle.records.proofs.CauseLaws.{sink_of_lse, sink_of_obaalse}
-use borrow.Author.Rules.{rules}
 use Rattle.records.proofs.setup.kind_ineligible.Goals as goal
 
 pub returns-then-holder_kind-eq-LSE : goal.returns-then-holder_kind-eq-LSE

@@ -1,5 +1,4 @@
 -- `records::setup::path_base` meets its contract: the bases of the paths stand after the lists. Assumes nothing.
-use native.Mathlib.Omega.{arith}
 use Rattle.records.proofs.OpeningLaws.{bases_size, base_at}
 use borrow.Author.Rules.{rules}
 use Rattle.records.proofs.setup.path_base.Goals as goal

@@ -1,6 +1,5 @@
 -- `records::setup::paths` meets its contract: the number at its place in the array. Assumes nothing.
 use Rattle.records.specs.Opening.{opening_in}
-use borrow.Author.Rules.{rules}
 use Rattle.records.proofs.setup.paths.Goals as goal
 
 pub returns : goal.returns

@@ -1,7 +1,6 @@
 -- `records::setup::settings` meets its contract: six fractions of the array. Assumes nothing.
 use Rattle.tariff.specs.Settings.{settings_of}
 use Rattle.records.specs.Opening.{opening_in}
-use borrow.Author.Rules.{rules}
 use Rattle.records.proofs.setup.settings.Goals as goal
 
 pub returns : goal.returns

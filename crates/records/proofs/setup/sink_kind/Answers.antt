@@ -3,7 +3,6 @@ use mathlib.Core.Path.{ap, ◌∙◌}
 use lib.ListN.{take, drop, get_or}
 use Rattle.records.specs.Opening.{opening_in}
 use Rattle.ledger.specs.Opening.{sink_kind}
-use borrow.Author.Rules.{rules}
 use Rattle.records.proofs.setup.sink_kind.Goals as goal
 
 pub returns : goal.returns

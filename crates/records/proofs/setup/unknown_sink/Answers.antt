@@ -2,7 +2,6 @@
 use mathlib.Core.Path.{ap}
 use lib.Dec.{leb}
 use Rattle.ledger.specs.Ranges.{unknown_sink}
-use borrow.Author.Rules.{rules}
 use Rattle.records.proofs.setup.unknown_sink.Goals as goal
 
 pub returns : goal.returns

@@ -2,7 +2,6 @@
 use mathlib.Core.Path.{ap}
 use lib.Dec.{leb}
 use Rattle.ledger.specs.Ranges.{unknown_source}
-use borrow.Author.Rules.{rules}
 use Rattle.records.proofs.setup.unknown_source.Goals as goal
 
 pub returns : goal.returns

@@ -3,7 +3,6 @@ use Prim.Native.Nat.{ℕ, ◌+◌, ◌≤◌, ◌<◌}
 use mathlib.Core.Path.{◌≡◌, sym, ap, subst}
 use mathlib.Core.List.{List, [], ◌∷◌}
 use lib.ListN.{length}
-use borrow.Author.Rules.{rules}
 use Rattle.ledger.specs.Season as season
 use Rattle.records.specs.declared.answers.Answer.{Answer}
 use Rattle.records.specs.declared.answers.Answer.TheVariants.{Done, Value, Refused}
@@ -42,7 +41,7 @@ write_value-requires c = record { room = (room_for c.args.out.now _ _ c.args.at 
 
 pub write_refusal-requires : goal.write_refusal-requires
 write_refusal-requires c =
-     record { room = room_for c.args.out.now _ _ c.args.at c.requires.room (refusal-text c.args.answer c.in-Refused.number c.in-Refused.is); two_digits = number_small c.args.answer c.in-Refused.number c.in-Refused.is c.requires.two_digits }
+    record { room = room_for c.args.out.now _ _ c.args.at c.requires.room (refusal-text c.args.answer c.in-Refused.number c.in-Refused.is); two_digits = number_small c.args.answer c.in-Refused.number c.in-Refused.is c.requires.two_digits }
 
 pub returns-in-Done : goal.returns-in-Done
 returns-in-Done c =
@@ -52,11 +51,9 @@ returns-in-Done c =
 pub returns-in-Value : goal.returns-in-Value
 returns-in-Value c =
     let wrote = c.write_value in
-    
     let done = written_as c.args.out.now wrote.new.out _ _ c.args.at wrote.result (value-text c.args.answer c.in-Value.v c.in-Value.is) (wrote.ensures.end, wrote.ensures.written) in record { end = done.0; written = done.1 }
 
 pub returns-in-Refused : goal.returns-in-Refused
 returns-in-Refused c =
     let wrote = c.write_refusal in
-    
     let done = written_as c.args.out.now wrote.new.out _ _ c.args.at wrote.result (refusal-text c.args.answer c.in-Refused.number c.in-Refused.is) (wrote.ensures.end, wrote.ensures.written) in record { end = done.0; written = done.1 }

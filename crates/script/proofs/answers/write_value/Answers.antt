@@ -4,7 +4,6 @@ use mathlib.Core.Path.{◌≡◌, sym, ap}
 use mathlib.Core.List.{List, [], ◌∷◌, ◌++◌, append-nil}
 use native.Mathlib.Omega.{arith}
 use lib.ListN.{length, length-append}
-use borrow.Author.Rules.{rules}
 use Rattle.ledger.specs.Season.{value}
 use Rattle.lines.specs.Text.{bytes_of, line_feed}
 use Rattle.lines.proofs.WritingLaws.{written_both, written_as}

@@ -1,7 +1,6 @@
 -- `script::run::answer_script` meets its contract: the book group is answered, and where it opens a book what is left. Assumes nothing.
 use borrow.Author.Tests.{not-true, not-false}
 use Rattle.script.proofs.ScriptLaws.{first_writable, stopped, left_reachable, left_within, left_few, left_room, gone_on}
-use borrow.Author.Rules.{rules}
 use Rattle.script.proofs.run.answer_script.Goals as goal
 
 pub write_answer-written-requires : goal.write_answer-written-requires

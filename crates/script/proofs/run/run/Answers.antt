@@ -4,7 +4,6 @@ use mathlib.Core.Path.{sym, ap}
 use native.Mathlib.Nat.{le_trans, le_of_eq}
 use Rattle.lines.proofs.NextRowLaws.{row_count}
 use Rattle.script.proofs.RunLaws.{long_bytes, long_lines, short_output, a_run, no_bytes, some_bytes}
-use borrow.Author.Rules.{rules}
 use Rattle.script.proofs.run.run.Goals as goal
 
 pub returns-then-script-gt-MAX_BYTES : goal.returns-then-script-gt-MAX_BYTES

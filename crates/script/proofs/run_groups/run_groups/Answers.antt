@@ -2,12 +2,10 @@
 use Prim.Native.Nat.{◌-◌}
 use mathlib.Core.Path.{sym}
 use native.Mathlib.Omega.{arith}
-use lib.ListN.{length}
 use borrow.Author.Rules.{rules}
-use Rattle.ledger.specs.Ledger.{empty_ledger}
 use Rattle.slots.proofs.Reachable.{figures_long, posted_long}
-use Rattle.book.specs.Reading.{book_in, book_of}
-use Rattle.script.proofs.RunGroupLaws.{RunSoFar, none_run, answered_length, answered_within, part_few, turn_some, turn_within, turn_writable, group_more, answered_number, answered_bytes}
+use Rattle.book.specs.Reading.{book_in}
+use Rattle.script.proofs.RunGroupLaws.{none_run, answered_length, answered_within, part_few, turn_some, turn_within, turn_writable, group_more, answered_number, answered_bytes}
 use Rattle.script.proofs.run_groups.run_groups.Goals as goal
 
 pub loop-at-init : goal.loop-at-init

@@ -1,13 +1,9 @@
 -- `script::run_groups::run_groups` meets its contract: so far it has answered the groups up to a place. Assumes nothing.
 use Prim.Native.Nat.{◌-◌}
-use mathlib.Core.Path.{sym}
-use native.Mathlib.Omega.{arith}
 use lib.ListN.{length}
-use borrow.Author.Rules.{rules}
 use Rattle.ledger.specs.Ledger.{empty_ledger}
-use Rattle.slots.proofs.Reachable.{figures_long, posted_long}
-use Rattle.book.specs.Reading.{book_in, book_of}
-use Rattle.script.proofs.RunGroupLaws.{RunSoFar, none_run, answered_length, answered_within, part_few, turn_some, turn_within, turn_writable, group_more, answered_number, answered_bytes}
+use Rattle.book.specs.Reading.{book_of}
+use Rattle.script.proofs.RunGroupLaws.{RunSoFar}
 use Rattle.script.proofs.run_groups.run_groups.Given as goal
 
 abbrev pub invariant-loop-at : goal.invariant-loop-at

@@ -1,6 +1,5 @@
 -- `slots::calendar::current_tier` meets its contract. Assumes nothing.
 use Rattle.slots.specs.Layout.{current_tier_in}
-use borrow.Author.Rules.{rules}
 use Rattle.slots.proofs.calendar.current_tier.Goals as goal
 
 pub returns : goal.returns

@@ -1,6 +1,5 @@
 -- `slots::calendar::last_closed` meets its contract. Assumes nothing.
 use Rattle.slots.specs.Layout.{last_closed_in}
-use borrow.Author.Rules.{rules}
 use Rattle.slots.proofs.calendar.last_closed.Goals as goal
 
 pub returns : goal.returns

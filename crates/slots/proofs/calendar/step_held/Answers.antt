@@ -2,7 +2,6 @@
 use mathlib.Core.Path.{ap}
 use lib.Dec.{eqb}
 use Rattle.slots.specs.Layout.{step_held_in}
-use borrow.Author.Rules.{rules}
 use Rattle.slots.proofs.calendar.step_held.Goals as goal
 
 pub returns : goal.returns

@@ -1,7 +1,6 @@
 -- `slots::cells::add` meets its contract: what stood in the slot is stored with kw more. Assumes nothing.
 use Rattle.slots.proofs.CellLaws.{added_is}
 use Rattle.slots.specs.Layout.{figure_slots}
-use borrow.Author.Rules.{rules}
 use Rattle.slots.proofs.cells.add.Goals as goal
 
 pub returns : goal.returns

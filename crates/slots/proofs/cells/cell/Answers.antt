@@ -1,7 +1,6 @@
 -- `slots::cells::cell` meets its contract: the cells are few, so that its number is small. Assumes nothing.
 use mathlib.Core.Path.{refl}
 use native.Mathlib.Omega.{arith}
-use borrow.Author.Rules.{rules}
 use Rattle.slots.specs.Cells.{cell_of}
 use Rattle.slots.proofs.CellLaws.{cell_below, cell_small}
 use Rattle.slots.proofs.cells.cell.Goals as goal

@@ -1,11 +1,9 @@
 -- `slots::cells::clear` meets its contract: the loop has cleared the slot in the rows that it has passed. Assumes nothing.
-use Prim.Native.Nat.{◌≤◌, ◌-◌}
 use mathlib.Core.Path.{◌≡◌, refl, ap, ◌∙◌}
 use native.Mathlib.Omega.{arith}
-use lib.ListN.{length}
 use borrow.Author.Rules.{rules}
 use Rattle.slots.specs.Cells.{rows, cleared_to}
-use Rattle.slots.specs.Layout.{figure_slots, figure_count}
+use Rattle.slots.specs.Layout.{figure_slots}
 use Rattle.slots.proofs.ClearLaws.{cleared_more}
 use Rattle.slots.proofs.cells.clear.Goals as goal
 

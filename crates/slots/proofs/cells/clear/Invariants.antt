@@ -1,12 +1,9 @@
 -- `slots::cells::clear` meets its contract: the loop has cleared the slot in the rows that it has passed. Assumes nothing.
 use Prim.Native.Nat.{◌≤◌, ◌-◌}
-use mathlib.Core.Path.{◌≡◌, refl, ap, ◌∙◌}
-use native.Mathlib.Omega.{arith}
+use mathlib.Core.Path.{◌≡◌}
 use lib.ListN.{length}
-use borrow.Author.Rules.{rules}
 use Rattle.slots.specs.Cells.{rows, cleared_to}
 use Rattle.slots.specs.Layout.{figure_slots, figure_count}
-use Rattle.slots.proofs.ClearLaws.{cleared_more}
 use Rattle.slots.proofs.cells.clear.Given as goal
 
 abbrev pub invariant-loop-row : goal.invariant-loop-row

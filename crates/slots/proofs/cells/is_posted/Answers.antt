@@ -1,7 +1,6 @@
 -- `slots::cells::is_posted` meets its contract: a cell that there is not holds nothing. Assumes nothing.
 use mathlib.Core.Path.{◌∙◌}
 use Rattle.slots.proofs.CellLaws.{read_is, look_here, look_unknown_holder, look_no_place, look_no_slot}
-use borrow.Author.Rules.{rules}
 use Rattle.slots.proofs.cells.is_posted.Goals as goal
 
 pub returns-then-h : goal.returns-then-h

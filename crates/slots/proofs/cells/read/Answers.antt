@@ -1,6 +1,5 @@
 -- `slots::cells::read` meets its contract. Assumes nothing.
 use Rattle.slots.proofs.CellLaws.{read_is}
-use borrow.Author.Rules.{rules}
 use Rattle.slots.proofs.cells.read.Goals as goal
 
 pub returns : goal.returns

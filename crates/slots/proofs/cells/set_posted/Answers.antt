@@ -2,7 +2,6 @@
 use mathlib.Core.Bool.{true, false}
 use Rattle.slots.proofs.CellLaws.{stored_is}
 use Rattle.slots.specs.Layout.{posted_slots}
-use borrow.Author.Rules.{rules}
 use Rattle.slots.proofs.cells.set_posted.Goals as goal
 
 pub returns : goal.returns

@@ -1,7 +1,6 @@
 -- `slots::cells::store` meets its contract. Assumes nothing.
 use Rattle.slots.proofs.CellLaws.{stored_is}
 use Rattle.slots.specs.Layout.{figure_slots}
-use borrow.Author.Rules.{rules}
 use Rattle.slots.proofs.cells.store.Goals as goal
 
 pub returns : goal.returns

@@ -1,10 +1,8 @@
 -- `slots::coverage::coverage` meets its contract, by the test on the term. Assumes nothing.
 use mathlib.Core.Path.{sym, ap, ◌∙◌}
-use borrow.Author.Tests.{not-true, not-false}
 use Prim.Native.Nat.{◌+◌}
 use Rattle.tariff.proofs.Sums.{when_is_true, when_is_false}
 use Rattle.slots.specs.Coverage.{coverage}
-use borrow.Author.Rules.{rules}
 use Rattle.slots.proofs.coverage.coverage.Goals as goal
 
 pub returns-then-not-counts_for : goal.returns-then-not-counts_for

@@ -2,7 +2,6 @@
 use Prim.Native.Nat.{◌-◌}
 use mathlib.Core.Path.{ap, ◌∙◌}
 use Rattle.slots.specs.Coverage.{covered_kw}
-use borrow.Author.Rules.{rules}
 use Rattle.slots.proofs.coverage.covered_kw.Goals as goal
 
 pub returns : goal.returns

@@ -3,7 +3,6 @@ use mathlib.Core.Path.{ap}
 use mathlib.Core.Bool.{not}
 use lib.Dec.{eqb}
 use Rattle.slots.specs.Coverage.{is_covered}
-use borrow.Author.Rules.{rules}
 use Rattle.slots.proofs.coverage.is_covered.Goals as goal
 
 pub returns : goal.returns

@@ -4,7 +4,6 @@ use mathlib.Core.Path.{refl}
 use native.Mathlib.Omega.{arith}
 use Rattle.slots.proofs.RoomLaws.{room_now, room_next}
 use Rattle.slots.proofs.MonthLaws.{amount_le, amount_is, months_added}
-use borrow.Author.Rules.{rules}
 use Rattle.slots.proofs.months.add_in_term.Goals as goal
 
 pub add-requires : goal.add-requires

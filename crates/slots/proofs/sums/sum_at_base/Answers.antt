@@ -1,12 +1,9 @@
 -- `slots::sums::sum_at_base` meets its contract: before path p the sum is that of the paths below p. Assumes nothing.
-use Prim.Native.Nat.{◌-◌, ◌≤◌}
-use mathlib.Core.Path.{◌≡◌, refl}
+use mathlib.Core.Path.{refl}
 use native.Mathlib.Omega.{arith}
 use Rattle.tariff.specs.Sum.{sum_to}
 use Rattle.tariff.proofs.Sums.{sum_more, sum_whole}
 use Rattle.ledger.specs.Limits.{sum_at_base}
-use Rattle.records.specs.Opening.{opening_in}
-use Rattle.slots.specs.Sums.{on_path}
 use Rattle.slots.proofs.PathSums.{at_base, next_at_base, room_at_base, path_cell, base_inputs}
 use borrow.Author.Rules.{rules}
 use Rattle.slots.proofs.sums.sum_at_base.Goals as goal

@@ -1,12 +1,9 @@
 -- `slots::sums::sum_from_source` meets its contract: before path p the sum is that of the paths below p. Assumes nothing.
-use Prim.Native.Nat.{◌-◌, ◌≤◌}
-use mathlib.Core.Path.{◌≡◌, refl}
+use mathlib.Core.Path.{refl}
 use native.Mathlib.Omega.{arith}
 use Rattle.tariff.specs.Sum.{sum_to}
 use Rattle.tariff.proofs.Sums.{sum_more, sum_whole}
 use Rattle.ledger.specs.Verification.{sum_from_source}
-use Rattle.records.specs.Opening.{opening_in}
-use Rattle.slots.specs.Sums.{on_path}
 use Rattle.slots.proofs.PathSums.{from_source, next_from_source, room_from_source, path_cell}
 use borrow.Author.Rules.{rules}
 use Rattle.slots.proofs.sums.sum_from_source.Goals as goal

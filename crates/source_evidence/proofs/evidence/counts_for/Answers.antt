@@ -1,7 +1,6 @@
 -- `source_evidence::evidence::counts_for` meets its contract, by the test on the term. Assumes nothing.
 use borrow.Author.Tests.{eq-eqb, ne_eqb}
 use Rattle.source_evidence.specs.Evidence.{counts_for}
-use borrow.Author.Rules.{rules}
 use Rattle.source_evidence.proofs.evidence.counts_for.Goals as goal
 
 pub returns-then-term-eq0 : goal.returns-then-term-eq0

@@ -3,7 +3,6 @@ use Rattle.tariff.proofs.Sums.{when_is_true, when_is_false}
 use mathlib.Core.Path.{sym, ◌∙◌}
 use native.Mathlib.Omega.{arith}
 use Rattle.source_evidence.specs.Evidence.{entry_kw}
-use borrow.Author.Rules.{rules}
 use Rattle.source_evidence.proofs.evidence.entry_kw.Goals as goal
 
 pub returns-then-counts_for : goal.returns-then-counts_for

@@ -1,6 +1,5 @@
 -- `source_evidence::evidence::evidence_in_range` meets its contract: its seven tests are those of the definition. Assumes nothing.
 use Rattle.source_evidence.proofs.EvidenceRange.{all_seven}
-use borrow.Author.Rules.{rules}
 use Rattle.source_evidence.proofs.evidence.evidence_in_range.Goals as goal
 
 pub returns : goal.returns

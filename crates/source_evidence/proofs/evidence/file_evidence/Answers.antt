@@ -5,7 +5,6 @@ use mathlib.Core.Path.{sym, ◌∙◌}
 use borrow.Author.Tests.{not-true, not-false, eq-eqb, ne_eqb}
 use Rattle.source_evidence.specs.Evidence.{highest_right}
 use Rattle.source_evidence.proofs.EvidenceRange.{evidence_facts}
-use borrow.Author.Rules.{rules}
 use Rattle.source_evidence.proofs.evidence.file_evidence.Goals as goal
 
 pub returns-then-not-evidence_in_range : goal.returns-then-not-evidence_in_range

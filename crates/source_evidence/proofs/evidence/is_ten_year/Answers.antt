@@ -2,7 +2,6 @@
 use mathlib.Core.Path.{sym, ap, ◌∙◌}
 use mathlib.Core.Bool.{◌&&◌}
 use Rattle.source_evidence.specs.Evidence.{counts_for, is_ten_year}
-use borrow.Author.Rules.{rules}
 use Rattle.source_evidence.proofs.evidence.is_ten_year.Goals as goal
 
 pub returns-then-marked : goal.returns-then-marked

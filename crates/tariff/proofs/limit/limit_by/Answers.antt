@@ -1,7 +1,6 @@
 -- `tariff::limit::limit_by` meets its contract: each arm is given which formula it has. Assumes nothing.
 use mathlib.Core.Path.{◌∙◌, sym, ap}
 use Rattle.tariff.specs.Limit.{limit_by}
-use borrow.Author.Rules.{rules}
 use Rattle.tariff.proofs.limit.limit_by.Goals as goal
 
 pub returns-in-First : goal.returns-in-First

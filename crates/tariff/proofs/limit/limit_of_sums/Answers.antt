@@ -1,7 +1,6 @@
 -- `tariff::limit::limit_of_sums` meets its contract, from those of the two that it calls. Assumes nothing.
 use mathlib.Core.Path.{◌∙◌, ap}
 use Rattle.tariff.specs.Limit.{limit_by, rule_of, limit_of_sums}
-use borrow.Author.Rules.{rules}
 use Rattle.tariff.proofs.limit.limit_of_sums.Goals as goal
 
 pub returns : goal.returns

@@ -2,7 +2,6 @@
 use Prim.Native.Nat.{◌-◌, min}
 use mathlib.Core.Path.{ap, ◌∙◌}
 use Rattle.tariff.specs.Limit.{limit_tier1}
-use borrow.Author.Rules.{rules}
 use Rattle.tariff.proofs.limit.limit_tier_1.Goals as goal
 
 pub returns : goal.returns

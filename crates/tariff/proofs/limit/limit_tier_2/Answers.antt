@@ -1,7 +1,6 @@
 -- `tariff::limit::limit_tier_2` meets its contract. Assumes nothing.
 use native.Mathlib.Omega.{arith}
 use Rattle.tariff.specs.Limit.{limit_tier2}
-use borrow.Author.Rules.{rules}
 use Rattle.tariff.proofs.limit.limit_tier_2.Goals as goal
 
 pub returns : goal.returns

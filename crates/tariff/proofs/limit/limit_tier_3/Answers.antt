@@ -1,7 +1,6 @@
 -- `tariff::limit::limit_tier_3` meets its contract. Assumes nothing.
 use native.Mathlib.Omega.{arith}
 use Rattle.tariff.specs.Limit.{limit_tier3}
-use borrow.Author.Rules.{rules}
 use Rattle.tariff.proofs.limit.limit_tier_3.Goals as goal
 
 pub returns : goal.returns

@@ -3,7 +3,6 @@ use Prim.Native.Nat.{min}
 use mathlib.Core.Path.{sym, ap, ◌∙◌}
 use native.Mathlib.Omega.{arith}
 use Rattle.tariff.proofs.LongTerm.{share_obaalse, share_without, share_by_evidence}
-use borrow.Author.Rules.{rules}
 use Rattle.tariff.proofs.limit.long_term_eligible.Goals as goal
 
 pub returns-then-s : goal.returns-then-s

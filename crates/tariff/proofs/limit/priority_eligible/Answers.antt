@@ -3,7 +3,6 @@ use mathlib.Core.Path.{ap, ◌∙◌}
 use Rattle.tariff.specs.Settings.{part_of}
 use Rattle.tariff.specs.Eligible.{priority_eligible}
 use Rattle.tariff.proofs.Fractions.{legal_settings}
-use borrow.Author.Rules.{rules}
 use Rattle.tariff.proofs.limit.priority_eligible.Goals as goal
 
 pub part_of-requires : goal.part_of-requires

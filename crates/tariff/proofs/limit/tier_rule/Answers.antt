@@ -1,5 +1,5 @@
 -- `tariff::limit::tier_rule` meets its contract: each arm has the formula and the term that the definition selects. Assumes nothing.
-use Rattle.std.proofs.Common.{◌≡◌, ℕ, ◌≤◌, ◌%◌, sym, ◌∙◌, arith, false}
+use Rattle.std.proofs.Common.{◌≡◌, sym, ◌∙◌, arith, false}
 use Rattle.tariff.specs.Ranges.{within}
 use Rattle.tariff.proofs.Formulas.{formula_first, formula_second, formula_third, formula_long_term, formula_even, formula_odd, below_one, above_three, rule_is, season_term, term_past}
 use Rattle.tariff.proofs.limit.tier_rule.Goals as goal

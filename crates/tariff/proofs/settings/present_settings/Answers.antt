@@ -1,6 +1,5 @@
 -- `tariff::settings::present_settings` meets its contract. Assumes nothing.
 use Rattle.tariff.specs.Settings.{present_settings}
-use borrow.Author.Rules.{rules}
 use Rattle.tariff.proofs.settings.present_settings.Goals as goal
 
 pub returns : goal.returns

@@ -1,7 +1,6 @@
 -- `tariff::settings::settings_legal` meets its contract: every fraction is tested. Assumes nothing.
 use mathlib.Core.Bool.{◌&&◌}
 use Rattle.tariff.specs.Settings.{settings_legal}
-use borrow.Author.Rules.{rules}
 use Rattle.tariff.proofs.settings.settings_legal.Goals as goal
 
 pub returns : goal.returns

@@ -1,7 +1,6 @@
 -- `tariff::settings::settings_of` meets its contract. Assumes nothing.
 use mathlib.Core.Path.{refl}
 use Rattle.tariff.specs.Settings.{fraction_at, settings_of}
-use borrow.Author.Rules.{rules}
 use Rattle.tariff.proofs.settings.settings_of.Goals as goal
 
 pub returns : goal.returns

@@ -2,7 +2,6 @@
 use mathlib.Core.Path.{refl, sym}
 use Rattle.tariff.proofs.Formulas.{term_none, term_past}
 use Rattle.tariff.specs.Terms.{term_table, term_of}
-use borrow.Author.Rules.{rules}
 use Rattle.tariff.proofs.terms.term_of.Goals as goal
 
 pub returns-then-tier-lt1 : goal.returns-then-tier-lt1

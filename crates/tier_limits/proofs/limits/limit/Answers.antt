@@ -1,7 +1,6 @@
 -- `tier_limits::limits::limit` meets its contract: a query that meets no cause is answered by the limit. Assumes nothing.
 use Rattle.tier_limits.proofs.LimitLaws.{query_inputs, limit_answered}
 use Rattle.slots.proofs.StepLaws.{query_refused}
-use borrow.Author.Rules.{rules}
 use Rattle.tier_limits.proofs.limits.limit.Goals as goal
 
 pub returns-then-number-ne0 : goal.returns-then-number-ne0

@@ -7,7 +7,6 @@ use Rattle.ledger.specs.Causes.{limit_causes, query_causes, query_refusal}
 use Rattle.records.proofs.CauseLaws.{link, no_more}
 use Rattle.slots.specs.Layout.{ledger_in}
 use Rattle.slots.proofs.CalendarLaws.{open_test}
-use borrow.Author.Rules.{rules}
 use Rattle.tier_limits.proofs.limits.limit_refusal.Goals as goal
 
 pub returns : goal.returns

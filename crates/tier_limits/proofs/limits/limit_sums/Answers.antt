@@ -1,7 +1,6 @@
 -- `tier_limits::limits::limit_sums` meets its contract: the slots are those of the tier, and the sums over all paths are the limit's. Assumes nothing.
 use native.Mathlib.Omega.{arith}
 use Rattle.tier_limits.proofs.LimitLaws.{load_cell, month_range, all_summable, limit_sums_are}
-use borrow.Author.Rules.{rules}
 use Rattle.tier_limits.proofs.limits.limit_sums.Goals as goal
 
 pub read-load-requires : goal.read-load-requires

@@ -1,10 +1,7 @@
 -- `tier_limits::limits::sum_paths` meets its contract: before path p the sums are those of the paths below p. Assumes nothing.
-use Prim.Native.Nat.{◌-◌, ◌≤◌}
-use mathlib.Core.Path.{◌≡◌}
+use Prim.Native.Nat.{◌-◌}
 use native.Mathlib.Omega.{arith}
-use Rattle.records.specs.Opening.{opening_in}
 use Rattle.slots.proofs.PathSums.{base_inputs}
-use Rattle.tier_limits.specs.PathSums.{sums_to}
 use Rattle.tier_limits.proofs.PathSumLaws.{sums_none, sums_more, sums_whole, path_fits}
 use borrow.Author.Rules.{rules}
 use Rattle.tier_limits.proofs.limits.sum_paths.Goals as goal

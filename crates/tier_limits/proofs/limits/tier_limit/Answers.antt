@@ -3,7 +3,6 @@ use mathlib.Core.Path.{◌∙◌}
 use Rattle.tariff.specs.Limit.{limit_of_sums}
 use Rattle.ledger.specs.Limits.{tier_limit}
 use Rattle.slots.proofs.Reachable.{settings_known}
-use borrow.Author.Rules.{rules}
 use Rattle.tier_limits.proofs.limits.tier_limit.Goals as goal
 
 pub limit_of_sums-requires : goal.limit_of_sums-requires

@@ -3,7 +3,6 @@ use mathlib.Core.Bool.{not}
 use mathlib.Core.Path.{ap}
 use native.Mathlib.Omega.{arith}
 use Rattle.tier_limits.proofs.PathSumLaws.{left_out, added, has_room}
-use borrow.Author.Rules.{rules}
 use Rattle.tier_limits.proofs.limits.with_path.Goals as goal
 
 pub returns-then-not-counts : goal.returns-then-not-counts

@@ -2,7 +2,6 @@
 use native.Mathlib.Omega.{arith}
 use Rattle.tier_limits.proofs.EvidenceSlots.{source_cell}
 use Rattle.tier_limits.proofs.TenYearLaws.{has_is}
-use borrow.Author.Rules.{rules}
 use Rattle.tier_limits.proofs.ten_year.has_ten_year.Goals as goal
 
 pub read-ownership-requires : goal.read-ownership-requires

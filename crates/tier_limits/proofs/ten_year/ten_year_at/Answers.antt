@@ -2,7 +2,6 @@
 use native.Mathlib.Omega.{arith}
 use Rattle.tier_limits.proofs.EvidenceSlots.{source_cell}
 use Rattle.tier_limits.proofs.TenYearLaws.{at_is, at_fits}
-use borrow.Author.Rules.{rules}
 use Rattle.tier_limits.proofs.ten_year.ten_year_at.Goals as goal
 
 pub read-owned-requires : goal.read-owned-requires

@@ -1,7 +1,6 @@
 -- `tier_limits::ten_year::ten_year_in` meets its contract, by the test on the tier. Assumes nothing.
 use mathlib.Core.Path.{◌∙◌}
 use Rattle.tier_limits.proofs.TenYearLaws.{step_takes, tier_takes_none}
-use borrow.Author.Rules.{rules}
 use Rattle.tier_limits.proofs.ten_year.ten_year_in.Goals as goal
 
 pub returns-then-tier-ne-LONG_TERM_STEP : goal.returns-then-tier-ne-LONG_TERM_STEP

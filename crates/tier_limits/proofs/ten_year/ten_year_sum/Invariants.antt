@@ -1,14 +1,9 @@
 -- `tier_limits::ten_year::ten_year_sum` meets its contract: before source s the sum is that of the sources below s. Assumes nothing.
 use Prim.Native.Nat.{◌-◌, ◌≤◌}
-use mathlib.Core.Path.{◌≡◌, refl}
-use native.Mathlib.Omega.{arith}
+use mathlib.Core.Path.{◌≡◌}
 use Rattle.tariff.specs.Sum.{sum_to}
-use Rattle.tariff.proofs.Sums.{sum_more, sum_whole}
-use Rattle.ledger.specs.TenYear.{ten_year_at, ten_year_sum}
+use Rattle.ledger.specs.TenYear.{ten_year_at}
 use Rattle.slots.specs.Steps.{InFigures}
-use Rattle.slots.proofs.Reachable.{counts}
-use Rattle.tier_limits.proofs.TenYearLaws.{sources_room}
-use borrow.Author.Rules.{rules}
 use Rattle.tier_limits.proofs.ten_year.ten_year_sum.Given as goal
 
 abbrev pub invariant-loop-s : goal.invariant-loop-s

@@ -1,14 +1,13 @@
 -- `transfers::transfers::column_at` meets its contract: the entries read so far are the column's. Assumes nothing.
-use Prim.Native.Nat.{◌≤◌, ◌-◌, zero-le}
-use mathlib.Core.Path.{◌≡◌, refl}
+use Prim.Native.Nat.{zero-le}
+use mathlib.Core.Path.{refl}
 use native.Mathlib.Nat.{not-suc-le-zero}
 use native.Mathlib.Omega.{arith}
-use lib.ListN.{length, length-set}
+use lib.ListN.{length-set}
 use Rattle.netting.specs.Netting.{column_cells}
-use Rattle.tariff.proofs.Lists.{Filled, filled_more, filled_all}
+use Rattle.tariff.proofs.Lists.{filled_more, filled_all}
 use Rattle.transfers.specs.Columns.{in_column, column_at}
 use Rattle.transfers.proofs.ColumnLaws.{column_cell}
-use borrow.Author.Rules.{rules}
 use Rattle.transfers.proofs.transfers.column_at.Goals as goal
 
 pub loop-h-init : goal.loop-h-init

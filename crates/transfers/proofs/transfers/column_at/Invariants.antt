@@ -1,14 +1,9 @@
 -- `transfers::transfers::column_at` meets its contract: the entries read so far are the column's. Assumes nothing.
-use Prim.Native.Nat.{◌≤◌, ◌-◌, zero-le}
-use mathlib.Core.Path.{◌≡◌, refl}
-use native.Mathlib.Nat.{not-suc-le-zero}
-use native.Mathlib.Omega.{arith}
-use lib.ListN.{length, length-set}
-use Rattle.netting.specs.Netting.{column_cells}
-use Rattle.tariff.proofs.Lists.{Filled, filled_more, filled_all}
-use Rattle.transfers.specs.Columns.{in_column, column_at}
-use Rattle.transfers.proofs.ColumnLaws.{column_cell}
-use borrow.Author.Rules.{rules}
+use Prim.Native.Nat.{◌≤◌, ◌-◌}
+use mathlib.Core.Path.{◌≡◌}
+use lib.ListN.{length}
+use Rattle.tariff.proofs.Lists.{Filled}
+use Rattle.transfers.specs.Columns.{in_column}
 use Rattle.transfers.proofs.transfers.column_at.Given as goal
 
 abbrev pub invariant-loop-h : goal.invariant-loop-h

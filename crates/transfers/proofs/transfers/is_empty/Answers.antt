@@ -1,13 +1,9 @@
 -- `transfers::transfers::is_empty` meets its contract: the entries passed so far are 0. Assumes nothing.
-use Prim.Native.Nat.{◌≤◌, ◌-◌, zero-le}
-use mathlib.Core.Path.{◌≡◌, refl}
-use mathlib.Core.Bool.{true}
+use Prim.Native.Nat.{zero-le}
+use mathlib.Core.Path.{refl}
 use native.Mathlib.Omega.{arith}
-use lib.Dec.{eqb}
 use Rattle.tariff.specs.Sum.{all_below}
-use Rattle.netting.specs.Netting.{holder_at}
 use Rattle.transfers.proofs.EmptyLaws.{empty_more, not_empty, empty_whole}
-use borrow.Author.Rules.{rules}
 use Rattle.transfers.proofs.transfers.is_empty.Goals as goal
 
 pub loop-h-init : goal.loop-h-init

@@ -1,7 +1,6 @@
 -- `transfers::transfers::slot_moves` meets its contract. Assumes nothing.
 use borrow.Author.Tests.{eq-eqb, ne_eqb}
 use Rattle.transfers.specs.Transfers.{slot_moves}
-use borrow.Author.Rules.{rules}
 use Rattle.transfers.proofs.transfers.slot_moves.Goals as goal
 
 pub returns-then-term-eq0 : goal.returns-then-term-eq0

@@ -1,11 +1,8 @@
 -- `transfers::transfers::store_column` meets its contract: the holders passed so far have their entries of the column. Assumes nothing.
-use Prim.Native.Nat.{◌≤◌, ◌-◌, zero-le}
-use mathlib.Core.Path.{◌≡◌, refl, ap, ◌∙◌}
-use native.Mathlib.Omega.{arith}
+use Prim.Native.Nat.{◌≤◌, ◌-◌}
+use mathlib.Core.Path.{◌≡◌}
 use lib.ListN.{length}
 use Rattle.transfers.specs.Columns.{column_stored}
-use Rattle.transfers.proofs.ColumnLaws.{column_cell, column_long, stored_more}
-use borrow.Author.Rules.{rules}
 use Rattle.transfers.proofs.transfers.store_column.Given as goal
 
 abbrev pub invariant-loop-h : goal.invariant-loop-h

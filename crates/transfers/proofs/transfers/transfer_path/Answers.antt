@@ -1,15 +1,10 @@
 -- `transfers::transfers::transfer_path` meets its contract: the slots that move and come before this one have moved. Assumes nothing.
-use Prim.Native.Nat.{◌≤◌, ◌-◌}
-use mathlib.Core.Path.{◌≡◌, sym, ◌∙◌}
+use mathlib.Core.Path.{sym, ◌∙◌}
 use native.Mathlib.Omega.{arith}
-use lib.ListN.{length}
-use Rattle.slots.specs.Layout.{figure_count, prior_allocated_slot, nominated_slot}
-use Rattle.transfers.specs.Columns.{ColumnTransfer}
-use Rattle.transfers.specs.Transfers.{share_column, column_where}
+use Rattle.transfers.specs.Transfers.{share_column}
 use Rattle.transfers.proofs.WhereLaws.{where_long}
-use Rattle.transfers.proofs.MovingLaws.{below, one_more}
+use Rattle.transfers.proofs.MovingLaws.{one_more}
 use Rattle.transfers.proofs.PathTransfers.{on_path, slot_number, first_slot, path_moved, path_still, next_slot_fits}
-use borrow.Author.Rules.{rules}
 use Rattle.transfers.proofs.transfers.transfer_path.Goals as goal
 
 pub path_base-requires : goal.path_base-requires

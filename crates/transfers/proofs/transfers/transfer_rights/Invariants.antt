@@ -1,18 +1,14 @@
 -- `transfers::transfers::transfer_rights` meets its contract: the columns that move on the paths before this one have moved. Assumes nothing.
-use Prim.Native.Nat.{◌≤◌, ◌-◌, zero-le}
-use mathlib.Core.Path.{◌≡◌, sym, ◌∙◌}
-use native.Mathlib.Nat.{le_trans}
-use native.Mathlib.Omega.{arith}
+use Prim.Native.Nat.{◌≤◌, ◌-◌}
+use mathlib.Core.Path.{◌≡◌}
 use lib.ListN.{length}
 use Rattle.records.specs.Opening.{opening_in}
 use Rattle.slots.specs.Cells.{max_places}
 use Rattle.slots.specs.Layout.{figure_count}
 use Rattle.transfers.specs.Columns.{ColumnTransfer}
 use Rattle.transfers.specs.Transfers.{share_column, moves_at, column_where}
-use Rattle.transfers.proofs.WhereLaws.{where_long}
-use Rattle.transfers.proofs.MovingLaws.{below, none_yet, one_more, all_moved}
-use Rattle.transfers.proofs.PathTransfers.{path_number, next_path_fits}
-use borrow.Author.Rules.{rules}
+use Rattle.transfers.proofs.MovingLaws.{below}
+use Rattle.transfers.proofs.PathTransfers.{path_number}
 use Rattle.transfers.proofs.transfers.transfer_rights.Given as goal
 
 abbrev pub invariant-loop-p : goal.invariant-loop-p

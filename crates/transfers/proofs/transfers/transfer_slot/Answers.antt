@@ -1,8 +1,6 @@
 -- `transfers::transfers::transfer_slot` meets its contract: the column is transferred where it moves, and left where it does not. Assumes nothing.
 use mathlib.Core.Path.{sym, ◌∙◌}
-use borrow.Author.Tests.{not-true, not-false}
 use Rattle.transfers.proofs.PathTransfers.{slot_moved, slot_still}
-use borrow.Author.Rules.{rules}
 use Rattle.transfers.proofs.transfers.transfer_slot.Goals as goal
 
 pub returns-then-not-slot_moves : goal.returns-then-not-slot_moves

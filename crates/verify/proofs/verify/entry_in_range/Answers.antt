@@ -2,7 +2,6 @@
 use mathlib.Core.Path.{sym, ap, ◌∙◌}
 use Rattle.source_evidence.specs.Evidence.{empty_entry}
 use Rattle.verify.proofs.VerifyLaws.{entry_in, in_range_filed}
-use borrow.Author.Rules.{rules}
 use Rattle.verify.proofs.verify.entry_in_range.Goals as goal
 
 pub returns-in-Valid : goal.returns-in-Valid

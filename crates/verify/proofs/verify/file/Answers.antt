@@ -1,7 +1,6 @@
 -- `verify::verify::file` meets its contract: one cell is stored. Assumes nothing.
 use Rattle.source_evidence.specs.Evidence.{empty_entry}
 use Rattle.slots.proofs.CellLaws.{stored_is}
-use borrow.Author.Rules.{rules}
 use Rattle.verify.proofs.verify.file.Goals as goal
 
 pub returns : goal.returns

@@ -1,6 +1,5 @@
 -- `verify::verify::store_by_term` meets its contract: the four stores are those of the entry's terms. Assumes nothing.
 use Rattle.verify.proofs.TermLaws.{terms_are}
-use borrow.Author.Rules.{rules}
 use Rattle.verify.proofs.verify.store_by_term.Goals as goal
 
 pub returns : goal.returns

@@ -1,6 +1,5 @@
 -- `verify::verify::store_entry` meets its contract: the coverage by term is stored, and then the flag. Assumes nothing.
 use Rattle.verify.proofs.TermLaws.{entry_is}
-use borrow.Author.Rules.{rules}
 use Rattle.verify.proofs.verify.store_entry.Goals as goal
 
 pub returns : goal.returns

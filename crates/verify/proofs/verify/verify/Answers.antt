@@ -2,7 +2,6 @@
 use native.Mathlib.Omega.{arith}
 use Rattle.slots.proofs.StepLaws.{steps_refused, beside_next_evidence}
 use Rattle.verify.proofs.VerifyLaws.{verify_in_range, verify_kinds, verify_slots, verify_cell, verify_steps}
-use borrow.Author.Rules.{rules}
 use Rattle.verify.proofs.verify.verify.Goals as goal
 
 pub returns-then-number-ne0 : goal.returns-then-number-ne0

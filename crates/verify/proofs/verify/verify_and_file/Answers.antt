@@ -1,5 +1,4 @@
 -- `verify::verify::verify_and_file` meets its contract: the evidence filed is that of the step. Assumes nothing.
-use borrow.Author.Rules.{rules}
 use Rattle.verify.proofs.verify.verify_and_file.Goals as goal
 
 pub returns : goal.returns

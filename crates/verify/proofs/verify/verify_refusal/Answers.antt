@@ -12,7 +12,6 @@ use Rattle.slots.specs.Layout.{ledger_in, evidence_posted_slot}
 use Rattle.slots.proofs.Reachable.{posted_long}
 use Rattle.slots.proofs.CalendarLaws.{open_test}
 use Rattle.postings.proofs.PostedSlotLaws.{posted_there}
-use borrow.Author.Rules.{rules}
 use Rattle.verify.proofs.verify.verify_refusal.Goals as goal
 
 pub is_posted-posted-requires : goal.is_posted-posted-requires

@@ -2,7 +2,6 @@
 use native.Mathlib.Omega.{arith}
 use Rattle.slots.proofs.StepLaws.{steps_refused}
 use Rattle.verify.proofs.VerifyLaws.{verify_in_range, verify_kinds, verify_entry, verify_filed}
-use borrow.Author.Rules.{rules}
 use Rattle.verify.proofs.verify.with_filed.Goals as goal
 
 pub returns-then-verify_refusal-ne0 : goal.returns-then-verify_refusal-ne0

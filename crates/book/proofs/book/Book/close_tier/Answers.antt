@@ -3,7 +3,6 @@ use mathlib.Core.Path.{◌∙◌}
 use Rattle.book.specs.Reading.{book_in}
 use Rattle.book.specs.Outcomes.{with_figures, with_postings}
 use Rattle.book.proofs.OutcomeBooks.{outcome_book}
-use borrow.Author.Rules.{rules}
 use Rattle.book.proofs.book.Book.close_tier.Goals as goal
 
 pub close_tier-answer-requires : goal.close_tier-answer-requires

@@ -2,7 +2,6 @@
 use Rattle.slots.specs.Steps.{query_answer}
 use Rattle.book.specs.Reading.{ledger_of, opening_of_book}
 use Rattle.book.specs.Outcomes.{query_answer_in}
-use borrow.Author.Rules.{rules}
 use Rattle.book.proofs.book.Book.limit.Goals as goal
 
 pub limit-requires : goal.limit-requires

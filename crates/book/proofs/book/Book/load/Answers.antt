@@ -3,7 +3,6 @@ use mathlib.Core.Path.{◌∙◌}
 use Rattle.book.specs.Reading.{book_in}
 use Rattle.book.specs.Outcomes.{with_postings, outcome_of_blocks}
 use Rattle.book.proofs.OutcomeBooks.{outcome_if}
-use borrow.Author.Rules.{rules}
 use Rattle.book.proofs.book.Book.load.Goals as goal
 
 pub returns : goal.returns

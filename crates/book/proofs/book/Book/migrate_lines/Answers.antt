@@ -1,6 +1,5 @@
 -- `book::book::Book::migrate_lines` meets its contract: the columns of all lines are migrated, and that is the migration of the lines. Assumes nothing.
-use Rattle.std.proofs.Common.{◌≡◌, ℕ, ◌≤◌, length, get_or, ap, ◌∙◌, arith, zero-le}
-use native.Mathlib.Nat.{le_antisymm}
+use Rattle.std.proofs.Common.{◌≡◌, ℕ, length, get_or, ap, ◌∙◌, arith, zero-le}
 use Rattle.book.specs.ClassLines.{no_line, with_line, columns_to, outcome_of_columns}
 use Rattle.book.proofs.ClassLineLaws.{columns_none, columns_more, columns_full, columns_outcome}
 use Rattle.book.proofs.book.Book.migrate_lines.Goals as goal

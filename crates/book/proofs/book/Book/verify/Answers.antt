@@ -1,7 +1,6 @@
 -- `book::Book::verify` meets its contract: the next book is made of the arrays that were lent, and of the evidence returned. Assumes nothing.
 use Rattle.book.specs.Reading.{book_in}
 use Rattle.book.proofs.OutcomeBooks.{outcome_book}
-use borrow.Author.Rules.{rules}
 use Rattle.book.proofs.book.Book.verify.Goals as goal
 
 pub verify_and_file-outcome-requires : goal.verify_and_file-outcome-requires
