@@ -40,8 +40,7 @@ fn answer_script(script: &[u8], out: &mut [u8]) -> usize
 }
 
 // Runs a script: the refusal, 0 for a run, times 1,000,000, plus the written length. Nothing is asked of the two slices.
-#[unsafe(no_mangle)]
-pub extern "C" fn run(script: &[u8], out: &mut [u8]) -> u64
+pub fn run(script: &[u8], out: &mut [u8]) -> u64
     ensures number { result ≡ run_number script.now out.old }
     ensures output { out.new ≡ output_after script.now out.old }
 {

@@ -20,27 +20,49 @@
 // every line.
 #![tactic(auto)]
 
+ghost use Rattle.std.specs.Prelude.{◌≤◌, length};
+
 use crate::reading::{line_end, next_vector};
 use crate::show::run_vector;
-use libc::STDIN_FILENO;
+use std::io;
+use std::io::Read;
 
 mod building;
 mod reading;
 mod show;
 
+// Reads until the text is full, the input ends or a read fails, and says how many bytes stand at the start of the text.
+fn read_full(input: &mut impl Read, text: &mut [u8]) -> usize
+    ensures { result ≤ length text.new }
+{
+    let mut done: usize = 0;
+    while done < text.len() {
+        let Ok(more) = input.read(&mut text[done..]) else {
+            return done;
+        };
+        if more == 0 {
+            return done;
+        }
+        done += more;
+    }
+    done
+}
+
 // Runs each vector: the lines from one that begins a vector up to the next such line.
-fn run_vectors(text: &[u8]) {
+fn run_vectors(rt: &impl Print, text: &[u8]) -> io::Result<()> {
     let mut at = next_vector(text, 0);
     while at < text.len() {
         let end = next_vector(text, line_end(text, at));
-        run_vector(&text[at..end]);
+        run_vector(rt, &text[at..end])?;
         at = end;
     }
+    Ok(())
 }
 
 // Reads the vectors, and runs them.
-fn main() {
+fn main(rt: HostRuntime) -> io::Result<()> {
     let mut text = [0u8; 262_144];
-    let length = io::read_full(STDIN_FILENO, &mut text);
-    run_vectors(&text[..length]);
+    let mut input = rt.stdin();
+    let length = read_full(&mut input, &mut text);
+    run_vectors(&rt, &text[..length])
 }
