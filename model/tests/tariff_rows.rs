@@ -61,7 +61,8 @@ fn numbers(file: &str, table: &str) -> Vec<u64> {
     let start = file.find(&format!("pub const {table}: ")).expect(table);
     let lines = file[start..].lines().skip(1);
     let lines = lines.take_while(|line| *line != "];");
-    let numbers = lines.filter_map(|line| line.trim().strip_suffix(','));
+    let numbers = lines.flat_map(|line| line.trim().split(", "));
+    let numbers = numbers.map(|number| number.trim_end_matches(','));
     numbers.filter_map(|number| number.parse().ok()).collect()
 }
 

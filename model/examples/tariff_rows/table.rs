@@ -33,14 +33,39 @@ impl Table {
     fn text(&self) -> String {
         let (name, about, len) = (self.name, self.about, self.len());
         let mut text = format!("// {about}\npub const {name}: [u64; {len}] = [\n");
+        let short = self.is_short();
         for (about, numbers) in &self.runs {
             text += &format!("    // {about}\n");
-            for number in numbers {
-                text += &format!("    {number},\n");
+            for line in lines(numbers, short) {
+                text += &format!("    {line}\n");
             }
         }
         text + "];\n"
     }
+
+    /// Numbers of at most ten digits stand side by side in the layout that
+    /// `rt fmt` gives a list; where one is longer, each has a line.
+    fn is_short(&self) -> bool {
+        let numbers = self.runs.iter().flat_map(|(_, run)| run);
+        numbers.clone().all(|number| number.to_string().len() <= 10)
+    }
+}
+
+/// A run's numbers as lines, of at most a hundred characters with the margin
+/// where they stand side by side.
+fn lines(numbers: &[u64], side_by_side: bool) -> Vec<String> {
+    let mut lines: Vec<String> = Vec::new();
+    for number in numbers {
+        let written = format!("{number},");
+        match lines.last_mut() {
+            Some(line) if side_by_side && line.len() + written.len() < 96 => {
+                line.push(' ');
+                line.push_str(&written);
+            }
+            _ => lines.push(written),
+        }
+    }
+    lines
 }
 
 /// A table file: what it is about, and its tables.
