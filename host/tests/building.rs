@@ -46,9 +46,10 @@ fn write_program(path: &Path, text: &str) {
     fs::set_permissions(path, fs::Permissions::from_mode(0o755)).expect("a program that runs");
 }
 
-/// A repository with nothing built, in which `rt` is this program.
+/// A repository with nothing built, in which `rt` is this program. It stands
+/// outside this one, where `rt` would find its crates.
 fn repository(name: &str, rt: &str) -> PathBuf {
-    let root = Path::new(env!("CARGO_TARGET_TMPDIR")).join(name);
+    let root = std::env::temp_dir().join(format!("season-book-{name}-{}", std::process::id()));
     let _ = fs::remove_dir_all(&root);
     fs::create_dir_all(root.join("crates/lines")).expect("a folder");
     fs::create_dir_all(root.join("crates/season")).expect("a folder");
@@ -103,6 +104,7 @@ fn a_build_says_crate_by_crate_where_it_is() {
     let changed = season(&root);
     assert!(changed.status.success());
     assert!(String::from_utf8_lossy(&changed.stderr).ends_with("season: built\n"));
+    fs::remove_dir_all(root).expect("the repository goes");
 }
 
 #[test]
@@ -116,4 +118,5 @@ fn a_build_that_fails_says_all_that_was_said() {
         said.ends_with("lines.rt:1: not proved\nrt: FAILED: lines\n"),
         "{said}"
     );
+    fs::remove_dir_all(root).expect("the repository goes");
 }

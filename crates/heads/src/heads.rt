@@ -1,6 +1,7 @@
 // Groups: a head with the lines that it counts, put to a book's lent arrays (01, Script and host).
 ghost use Rattle.std.specs.Prelude.{◌≡◌, List, ℕ, ◌≤◌, length};
-ghost use Rattle.slots.specs.Steps.{ReachablePostings};
+ghost use Rattle.ledger.specs.Call.{nominate, award, limit_of, net_on};
+ghost use Rattle.slots.specs.Steps.{ReachableFigures, ReachablePostings, FiguresStep, InFigures, query_answer};
 ghost use Rattle.lines.specs.Rows.{rows_of, verify_line};
 ghost use Rattle.lines.specs.Text.{max_lines};
 ghost use Rattle.groups.specs.Outcome.{head_group, head_bytes, first_group, group_bytes, GroupAnswers};
@@ -22,6 +23,38 @@ use records::answers::Answer;
 use records::numbers::UNREADABLE;
 use tier_limits::limits::limit;
 use verify::verify::verify;
+
+// A nomination put to the book by the numbers of its line.
+fn run_nominate(o: &[u64], f: &mut [u64], holder: u64, path: u64, nominated: u64) -> Answer
+    requires { ReachableFigures o.now f.old }
+    ensures { FiguresStep o.now f.old (nominate holder path nominated) result f.new }
+{
+    nominate(o, f, holder, path, nominated)
+}
+
+// An award, likewise.
+fn run_award(o: &[u64], f: &mut [u64], holder: u64, path: u64, awarded: u64) -> Answer
+    requires { ReachableFigures o.now f.old }
+    ensures { FiguresStep o.now f.old (award holder path awarded) result f.new }
+{
+    award(o, f, holder, path, awarded)
+}
+
+// A limit query, likewise.
+fn run_limit(o: &[u64], f: &[u64], holder: u64, sink: u64) -> Answer
+    requires { ReachableFigures o.now f.now }
+    ensures { InFigures o.now f.now (λ O L. result ≡ query_answer O L (limit_of holder sink)) }
+{
+    limit(o, f, holder, sink)
+}
+
+// A net query, likewise.
+fn run_net(o: &[u64], f: &[u64], path: u64, month: u64) -> Answer
+    requires { ReachableFigures o.now f.now }
+    ensures { InFigures o.now f.now (λ O L. result ≡ query_answer O L (net_on path month)) }
+{
+    net(o, f, path, month)
+}
 
 // Evidence: its line has more numbers than any other head's. It counts no lines, whatever stands after it.
 fn run_verify(o: &[u64], f: &mut [u64], m: &mut [bool], head: Row) -> GroupOutcome
@@ -55,12 +88,12 @@ fn run_head(o: &[u64], f: &mut [u64], m: &mut [bool], head: Row, rest: &[u8]) ->
         VERIFY_LINE => run_verify(o, f, m, head),
         MIGRATE_LINE => run_migrate(o, f, head, rest),
         OPEN_LINE => of_one_line(open_tier(f, a)),
-        NOMINATE_LINE => of_one_line(nominate(o, f, a, b, c)),
-        AWARD_LINE => of_one_line(award(o, f, a, b, c)),
+        NOMINATE_LINE => of_one_line(run_nominate(o, f, a, b, c)),
+        AWARD_LINE => of_one_line(run_award(o, f, a, b, c)),
         CLOSE_LINE => of_one_line(close_tier(f)),
-        LIMIT_LINE => of_one_line(limit(o, f, a, b)),
+        LIMIT_LINE => of_one_line(run_limit(o, f, a, b)),
         HELD_LINE => of_one_line(held(o, f, a, b, c)),
-        NET_LINE => of_one_line(net(o, f, a, b)),
+        NET_LINE => of_one_line(run_net(o, f, a, b)),
         _ => of_one_line(Answer::Refused(UNREADABLE)),
     }
 }

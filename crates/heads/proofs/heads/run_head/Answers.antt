@@ -42,13 +42,13 @@ pub returns-in-13 : goal.returns-in-13
 unfolding field head_group
 returns-in-13 c =
     let one = c.of_one_line-in-13.ensures in
-    let kind = c.in-13.is in record { answer = λ x k. answers_one_line _ _ one _ _ _ (beside_evidence _ _ _ _ _ _ _ (by_call _ _ _ _ _ (outcome_book _ _ _ _ _ _ _ _ _ (c.nominate.ensures _ x k)) (nominate_request _ _ kind))); consumed = bytes_one_line _ _ one _ _ (kind_counts _ _ _ kind refl refl) }
+    let kind = c.in-13.is in record { answer = λ x k. answers_one_line _ _ one _ _ _ (beside_evidence _ _ _ _ _ _ _ (by_call _ _ _ _ _ (outcome_book _ _ _ _ _ _ _ _ _ (c.run_nominate.ensures _ x k)) (nominate_request _ _ kind))); consumed = bytes_one_line _ _ one _ _ (kind_counts _ _ _ kind refl refl) }
 
 pub returns-in-14 : goal.returns-in-14
 unfolding field head_group
 returns-in-14 c =
     let one = c.of_one_line-in-14.ensures in
-    let kind = c.in-14.is in record { answer = λ x k. answers_one_line _ _ one _ _ _ (beside_evidence _ _ _ _ _ _ _ (by_call _ _ _ _ _ (outcome_book _ _ _ _ _ _ _ _ _ (c.award.ensures _ x k)) (award_request _ _ kind))); consumed = bytes_one_line _ _ one _ _ (kind_counts _ _ _ kind refl refl) }
+    let kind = c.in-14.is in record { answer = λ x k. answers_one_line _ _ one _ _ _ (beside_evidence _ _ _ _ _ _ _ (by_call _ _ _ _ _ (outcome_book _ _ _ _ _ _ _ _ _ (c.run_award.ensures _ x k)) (award_request _ _ kind))); consumed = bytes_one_line _ _ one _ _ (kind_counts _ _ _ kind refl refl) }
 
 pub returns-in-15 : goal.returns-in-15
 unfolding field head_group
@@ -60,7 +60,7 @@ pub returns-in-16 : goal.returns-in-16
 unfolding field head_group query_answer_in query_answer book_in ledger_of opening_of_book
 returns-in-16 c =
     let one = c.of_one_line-in-16.ensures in
-    let kind = c.in-16.is in record { answer = λ x k. answers_one_line _ _ one _ _ _ (beside_evidence _ _ _ _ _ _ _ (by_query _ _ _ _ (c.limit.ensures _ x k) (limit_request _ _ kind))); consumed = bytes_one_line _ _ one _ _ (kind_counts _ _ _ kind refl refl) }
+    let kind = c.in-16.is in record { answer = λ x k. answers_one_line _ _ one _ _ _ (beside_evidence _ _ _ _ _ _ _ (by_query _ _ _ _ (c.run_limit.ensures _ x k) (limit_request _ _ kind))); consumed = bytes_one_line _ _ one _ _ (kind_counts _ _ _ kind refl refl) }
 
 pub returns-in-17 : goal.returns-in-17
 unfolding field head_group query_answer_in query_answer book_in ledger_of opening_of_book
@@ -72,7 +72,7 @@ pub returns-in-18 : goal.returns-in-18
 unfolding field head_group query_answer_in query_answer book_in ledger_of opening_of_book
 returns-in-18 c =
     let one = c.of_one_line-in-18.ensures in
-    let kind = c.in-18.is in record { answer = λ x k. answers_one_line _ _ one _ _ _ (beside_evidence _ _ _ _ _ _ _ (by_query _ _ _ _ (c.net.ensures _ x k) (net_request _ _ kind))); consumed = bytes_one_line _ _ one _ _ (kind_counts _ _ _ kind refl refl) }
+    let kind = c.in-18.is in record { answer = λ x k. answers_one_line _ _ one _ _ _ (beside_evidence _ _ _ _ _ _ _ (by_query _ _ _ _ (c.run_net.ensures _ x k) (net_request _ _ kind))); consumed = bytes_one_line _ _ one _ _ (kind_counts _ _ _ kind refl refl) }
 
 pub returns-in_default : goal.returns-in_default
 unfolding head_group
