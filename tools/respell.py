@@ -53,10 +53,6 @@ def snake(name):
     return s.replace("-", "_")
 
 
-def is_type(text, name):
-    return name[0].isupper()
-
-
 def kind_of(path):
     if "/src/" in path:
         return "src"

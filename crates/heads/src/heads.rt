@@ -24,6 +24,9 @@ use records::numbers::UNREADABLE;
 use tier_limits::limits::limit;
 use verify::verify::verify;
 
+// The next four put one call or query to the book each and promise what it promises, so that a call that is put to the book as another breaks
+// a promise by itself.
+
 // A nomination put to the book by the numbers of its line.
 fn run_nominate(o: &[u64], f: &mut [u64], holder: u64, path: u64, nominated: u64) -> Answer
     requires { ReachableFigures o.now f.old }
