@@ -59,7 +59,7 @@ module _ (f : Fraction) (e : fraction_legal f ≡ true) (x : ℕ) where
   left_small = mul-le-mul (le_trans (le_of_lt (mod-lt x facts.some)) facts.denominator_fits) facts.numerator_fits
 
 -- every fraction of legal settings is legal
-pub record LegalSettings (s : Settings) : Type 0 where
+pub record EachLegal (s : Settings) : Type 0 where
   pub seasonal : fraction_legal s.seasonal ≡ true
   pub priority : fraction_legal s.priority ≡ true
   pub exceedance : fraction_legal s.exceedance ≡ true
@@ -67,9 +67,9 @@ pub record LegalSettings (s : Settings) : Type 0 where
   pub without_evidence : fraction_legal s.without_evidence ≡ true
   pub with_evidence : fraction_legal s.with_evidence ≡ true
 
-pub legal_settings : (s : Settings) → settings_legal s ≡ true → LegalSettings s
+pub each_legal : (s : Settings) → settings_legal s ≡ true → EachLegal s
 unfolding settings_legal
-legal_settings s e =
+each_legal s e =
     let five = and_both _ _ e in
     let four = and_both _ _ five.0 in
     let three = and_both _ _ four.0 in

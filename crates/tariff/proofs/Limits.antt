@@ -13,25 +13,25 @@ use Rattle.tariff.specs.Settings.{settings_legal}
 use Rattle.tariff.specs.Eligible.{seasonal_eligible, priority_eligible, eligible_without_evidence, eligible_with_evidence}
 use Rattle.tariff.specs.Terms.{is_long_term_step}
 use Rattle.tariff.specs.Limit.{limit_tier1, limit_tier2, limit_tier3, limit_even_tier, limit_odd_tier, eligible_by_evidence, long_term_of_lse, long_term_eligible, limit_long_term, limit_by, formula_of, limit_of_sums}
-use Rattle.tariff.proofs.Fractions.{part_le, legal_settings}
+use Rattle.tariff.proofs.Fractions.{part_le, each_legal}
 
 -- an eligible quantity is at most the load
 module _ (settings : Settings) (e : settings_legal settings ≡ true) (load : ℕ) where
   pub seasonal_le : seasonal_eligible settings load ≤ load
   unfolding seasonal_eligible
-  seasonal_le = part_le settings.seasonal (legal_settings settings e).seasonal load
+  seasonal_le = part_le settings.seasonal (each_legal settings e).seasonal load
 
   pub priority_le : priority_eligible settings load ≤ load
   unfolding priority_eligible
-  priority_le = le_trans (part_le settings.priority (legal_settings settings e).priority (seasonal_eligible settings load)) seasonal_le
+  priority_le = le_trans (part_le settings.priority (each_legal settings e).priority (seasonal_eligible settings load)) seasonal_le
 
   without-le : eligible_without_evidence settings load ≤ load
   unfolding eligible_without_evidence
-  without-le = part_le settings.without_evidence (legal_settings settings e).without_evidence load
+  without-le = part_le settings.without_evidence (each_legal settings e).without_evidence load
 
   with-le : eligible_with_evidence settings load ≤ load
   unfolding eligible_with_evidence
-  with-le = part_le settings.with_evidence (legal_settings settings e).with_evidence load
+  with-le = part_le settings.with_evidence (each_legal settings e).with_evidence load
 
 -- the limit by the tier's number, one law to a formula
 pub limit_one : (settings : Settings) (s : Sums) → limit_of_sums settings 1 s ≡ limit_tier1 settings s

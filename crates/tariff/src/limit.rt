@@ -1,10 +1,8 @@
-// Eligible quantities and the limit by tier, by the book's settings (01, Limits; 02, 1/14 and 3/14).
-ghost use Rattle.std.specs.Prelude.{◌≡◌, true, ◌-◌, min};
-ghost use Rattle.tariff.specs.Settings.{settings_legal};
-ghost use Rattle.tariff.specs.Eligible.{seasonal_eligible, priority_eligible, eligible_without_evidence, eligible_with_evidence};
+// The limit by tier, by the book's settings (01, Limits; 02, 1/14 and 3/14).
+ghost use Rattle.std.specs.Prelude.{◌≡◌};
 ghost use Rattle.tariff.specs.Limit.{limit_tier1, limit_tier2, limit_tier3, limit_even_tier, limit_odd_tier, long_term_eligible, limit_long_term, limit_by, rule_of, limit_of_sums};
 
-use crate::settings::{Settings, part_of};
+use crate::legal_settings::LegalSettings;
 use crate::sizes::{LAST_SEASON_TIER, LONG_TERM_STEP};
 use crate::terms::term_of;
 
@@ -79,151 +77,103 @@ pub fn tier_rule(tier: u64) -> TierRule
     }
 }
 
-// a less b, not below 0.
-pub fn saturating_sub(a: u64, b: u64) -> u64
-    ensures { result ≡ a - b }
-{
-    if b <= a { a - b } else { 0 }
-}
-
-// S of a load.
-pub fn seasonal_eligible(settings: Settings, load: u64) -> u64
-    requires { settings_legal settings ≡ true }
-    ensures { result ≡ seasonal_eligible settings load }
-{
-    part_of(settings.seasonal, load)
-}
-
-// P of a load, by its S.
-pub fn priority_eligible(settings: Settings, load: u64) -> u64
-    requires { settings_legal settings ≡ true }
-    ensures { result ≡ priority_eligible settings load }
-{
-    let season = seasonal_eligible(settings, load);
-    part_of(settings.priority, season)
-}
-
-// The lesser of two numbers.
-pub fn min(a: u64, b: u64) -> u64
-    ensures { result ≡ min a b }
-{
-    if a <= b { a } else { b }
-}
-
-fn limit_tier_1(settings: Settings, s: Sums) -> u64
-    requires { settings_legal settings ≡ true }
-    ensures { result ≡ limit_tier1 settings s }
-{
-    let by_load = saturating_sub(priority_eligible(settings, s.load), s.carried);
-    let by_prior = saturating_sub(s.prior, s.carried);
-    let by_cap = saturating_sub(eligible_with_evidence(settings, s.load), s.carried);
-    min(min(by_load, by_prior), by_cap)
-}
-
-fn limit_tier_2(settings: Settings, s: Sums) -> u64
-    requires { settings_legal settings ≡ true }
-    ensures { result ≡ limit_tier2 settings s }
-{
-    saturating_sub(
-        saturating_sub(priority_eligible(settings, s.load), s.tier1),
-        s.carried,
-    )
-}
-
-fn limit_tier_3(settings: Settings, s: Sums) -> u64
-    requires { settings_legal settings ≡ true }
-    ensures { result ≡ limit_tier3 settings s }
-{
-    saturating_sub(
-        saturating_sub(
-            saturating_sub(seasonal_eligible(settings, s.load), s.tier1),
-            s.tier2,
-        ),
-        s.carried,
-    )
-}
-
-// The awards come off one after the other, so that no sum wraps.
-fn limit_even_tier(s: Sums) -> u64
-    ensures { result ≡ limit_even_tier s }
-{
-    saturating_sub(
-        saturating_sub(
-            saturating_sub(saturating_sub(s.load, s.tier1), s.tier2),
-            s.tier3,
-        ),
-        s.carried,
-    )
-}
-
-fn limit_odd_tier(s: Sums) -> u64
-    ensures { result ≡ limit_odd_tier s }
-{
-    let before = s.before;
-    saturating_sub(limit_even_tier(s), before)
-}
-
-// What the Long Term step needs no ten-year evidence for.
-pub fn eligible_without_evidence(settings: Settings, load: u64) -> u64
-    requires { settings_legal settings ≡ true }
-    ensures { result ≡ eligible_without_evidence settings load }
-{
-    part_of(settings.without_evidence, load)
-}
-
-// What the Long Term step can come to with such evidence, and the most of tier 1.
-pub fn eligible_with_evidence(settings: Settings, load: u64) -> u64
-    requires { settings_legal settings ≡ true }
-    ensures { result ≡ eligible_with_evidence settings load }
-{
-    part_of(settings.with_evidence, load)
-}
-
-// The part of a holder's load that the Long Term step is for.
-fn long_term_eligible(settings: Settings, s: Sums) -> u64
-    requires { settings_legal settings ≡ true }
-    ensures { result ≡ long_term_eligible settings s }
-{
-    let without = eligible_without_evidence(settings, s.load);
-    let most = eligible_with_evidence(settings, s.load);
-    if s.obaalse {
-        return most;
+impl Sums {
+    // The awards come off one after the other, so that no sum wraps.
+    #[tactic(auto, unfolding(crate::specs::Limit::limit_even_tier))]
+    fn limit_even_tier(self) -> u64
+        ensures { result ≡ limit_even_tier self }
+    {
+        self.load
+            .saturating_sub(self.tier1)
+            .saturating_sub(self.tier2)
+            .saturating_sub(self.tier3)
+            .saturating_sub(self.carried)
     }
-    if s.ten_year_kw <= without {
-        return without;
-    }
-    min(s.ten_year_kw, most)
-}
 
-fn limit_long_term(settings: Settings, s: Sums) -> u64
-    requires { settings_legal settings ≡ true }
-    ensures { result ≡ limit_long_term settings s }
-{
-    let carried = s.carried;
-    saturating_sub(long_term_eligible(settings, s), carried)
-}
-
-// The limit by a formula.
-pub fn limit_by(settings: Settings, formula: Formula, s: Sums) -> u64
-    requires { settings_legal settings ≡ true }
-    ensures { result ≡ limit_by settings formula s }
-{
-    match formula {
-        Formula::First => limit_tier_1(settings, s),
-        Formula::Second => limit_tier_2(settings, s),
-        Formula::Third => limit_tier_3(settings, s),
-        Formula::Even => limit_even_tier(s),
-        Formula::Odd => limit_odd_tier(s),
-        Formula::LongTerm => limit_long_term(settings, s),
+    #[tactic(auto, unfolding(crate::specs::Limit::limit_odd_tier))]
+    fn limit_odd_tier(self) -> u64
+        ensures { result ≡ limit_odd_tier self }
+    {
+        self.limit_even_tier().saturating_sub(self.before)
     }
 }
 
-// The limit in a tier.
-pub fn limit_of_sums(settings: Settings, tier: u64, s: Sums) -> u64
-    requires { settings_legal settings ≡ true }
-    ensures { result ≡ limit_of_sums settings tier s }
-{
-    let rule = tier_rule(tier);
-    let formula = rule.formula;
-    limit_by(settings, formula, s)
+impl LegalSettings {
+    #[tactic(auto, unfolding(crate::specs::Limit::limit_tier1))]
+    fn limit_tier_1(self, s: Sums) -> u64
+        ensures { result ≡ limit_tier1 self.settings s }
+    {
+        let by_load = self.priority_eligible(s.load).saturating_sub(s.carried);
+        let by_prior = s.prior.saturating_sub(s.carried);
+        let by_cap = self
+            .eligible_with_evidence(s.load)
+            .saturating_sub(s.carried);
+        by_load.min(by_prior).min(by_cap)
+    }
+
+    #[tactic(auto, unfolding(crate::specs::Limit::limit_tier2))]
+    fn limit_tier_2(self, s: Sums) -> u64
+        ensures { result ≡ limit_tier2 self.settings s }
+    {
+        self.priority_eligible(s.load)
+            .saturating_sub(s.tier1)
+            .saturating_sub(s.carried)
+    }
+
+    #[tactic(auto, unfolding(crate::specs::Limit::limit_tier3))]
+    fn limit_tier_3(self, s: Sums) -> u64
+        ensures { result ≡ limit_tier3 self.settings s }
+    {
+        self.seasonal_eligible(s.load)
+            .saturating_sub(s.tier1)
+            .saturating_sub(s.tier2)
+            .saturating_sub(s.carried)
+    }
+
+    // The part of a holder's load that the Long Term step is for.
+    #[tactic(auto, unfolding(crate::specs::Limit::long_term_eligible, crate::specs::Limit::long_term_of_lse, crate::specs::Limit::eligible_by_evidence))]
+    fn long_term_eligible(self, s: Sums) -> u64
+        ensures { result ≡ long_term_eligible self.settings s }
+    {
+        let without = self.eligible_without_evidence(s.load);
+        let most = self.eligible_with_evidence(s.load);
+        if s.obaalse {
+            return most;
+        }
+        if s.ten_year_kw <= without {
+            return without;
+        }
+        s.ten_year_kw.min(most)
+    }
+
+    #[tactic(auto, unfolding(crate::specs::Limit::limit_long_term))]
+    fn limit_long_term(self, s: Sums) -> u64
+        ensures { result ≡ limit_long_term self.settings s }
+    {
+        self.long_term_eligible(s).saturating_sub(s.carried)
+    }
+
+    // The limit by a formula.
+    #[tactic(auto, unfolding(crate::specs::Limit::limit_by))]
+    pub fn limit_by(self, formula: Formula, s: Sums) -> u64
+        ensures { result ≡ limit_by self.settings formula s }
+    {
+        match formula {
+            Formula::First => self.limit_tier_1(s),
+            Formula::Second => self.limit_tier_2(s),
+            Formula::Third => self.limit_tier_3(s),
+            Formula::Even => s.limit_even_tier(),
+            Formula::Odd => s.limit_odd_tier(),
+            Formula::LongTerm => self.limit_long_term(s),
+        }
+    }
+
+    // The limit in a tier.
+    #[tactic(auto, unfolding(crate::specs::Limit::limit_of_sums, crate::specs::Limit::rule_of))]
+    pub fn limit_of_sums(self, tier: u64, s: Sums) -> u64
+        ensures { result ≡ limit_of_sums self.settings tier s }
+    {
+        let rule = tier_rule(tier);
+        self.limit_by(rule.formula, s)
+    }
 }

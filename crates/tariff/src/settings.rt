@@ -27,88 +27,105 @@ pub struct Settings {
     pub with_evidence: Fraction,
 }
 
-// A fraction of a number, rounded down. By whole denominators and by what is left, so that no product wraps.
-pub fn part_of(f: Fraction, x: u64) -> u64
-    requires { fraction_legal f ≡ true }
-    ensures { result ≡ part_of f x }
-{
-    let n = f.numerator;
-    let d = f.denominator;
-    x / d * n + x % d * n / d
+impl Fraction {
+    // A fraction of a number, rounded down. By whole denominators and by what is left, so that no product wraps.
+    pub fn part_of(self, x: u64) -> u64
+        requires { fraction_legal self ≡ true }
+        ensures { result ≡ part_of self x }
+    {
+        let n = self.numerator;
+        let d = self.denominator;
+        x / d * n + x % d * n / d
+    }
+
+    // 0 to 1,000, 1 to 1,000, and the numerator not above the denominator.
+    #[tactic(auto, unfolding(crate::specs::Settings::fraction_legal))]
+    pub fn is_legal(self) -> bool
+        ensures { result ≡ fraction_legal self }
+    {
+        let n = self.numerator;
+        let d = self.denominator;
+        n <= MAX_FRACTION && (1..=MAX_FRACTION).contains(&d) && n <= d
+    }
 }
 
-pub fn fraction_legal(f: Fraction) -> bool
-    ensures { result ≡ fraction_legal f }
-{
-    let n = f.numerator;
-    let d = f.denominator;
-    (n <= MAX_FRACTION) & ((1 <= d) & (d <= MAX_FRACTION)) & (n <= d)
-}
+impl Settings {
+    // The fractions of a book that is opened without a set line.
+    #[tactic(auto, unfolding(crate::specs::Settings::present_settings))]
+    pub fn present() -> Settings
+        ensures { result ≡ present_settings }
+    {
+        Settings::from([3, 4, 2, 3, 1, 200, 1, 50, 1, 5, 1, 2])
+    }
 
-// Every fraction is legal.
-pub fn settings_legal(s: Settings) -> bool
-    ensures { result ≡ settings_legal s }
-{
-    let limits = fraction_legal(s.seasonal) & fraction_legal(s.priority);
-    let hours = limits & fraction_legal(s.exceedance) & fraction_legal(s.missing);
-    hours & fraction_legal(s.without_evidence) & fraction_legal(s.with_evidence)
-}
-
-// The fractions of a book that is opened without a set line.
-pub fn present_settings() -> Settings
-    ensures { result ≡ present_settings }
-{
-    settings_of([3, 4, 2, 3, 1, 200, 1, 50, 1, 5, 1, 2])
+    // Every fraction is legal.
+    #[tactic(auto, unfolding(crate::specs::Settings::settings_legal))]
+    pub fn is_legal(self) -> bool
+        ensures { result ≡ settings_legal self }
+    {
+        self.seasonal.is_legal()
+            && self.priority.is_legal()
+            && self.exceedance.is_legal()
+            && self.missing.is_legal()
+            && self.without_evidence.is_legal()
+            && self.with_evidence.is_legal()
+    }
 }
 
 // Six pairs of a numerator and a denominator.
-pub fn settings_of(n: [u64; SETTING_COUNT]) -> Settings
-    ensures { result ≡ settings_of n }
-{
-    Settings {
-        seasonal: Fraction {
-            numerator: n[0],
-            denominator: n[1],
-        },
-        priority: Fraction {
-            numerator: n[2],
-            denominator: n[3],
-        },
-        exceedance: Fraction {
-            numerator: n[4],
-            denominator: n[5],
-        },
-        missing: Fraction {
-            numerator: n[6],
-            denominator: n[7],
-        },
-        without_evidence: Fraction {
-            numerator: n[8],
-            denominator: n[9],
-        },
-        with_evidence: Fraction {
-            numerator: n[10],
-            denominator: n[11],
-        },
+impl From<[u64; SETTING_COUNT]> for Settings {
+    ghost from_gives = { λ n s. s ≡ settings_of n };
+
+    #[tactic(auto, unfolding(crate::specs::Settings::settings_of, crate::specs::Settings::fraction_at))]
+    fn from(n: [u64; SETTING_COUNT]) -> Settings {
+        Settings {
+            seasonal: Fraction {
+                numerator: n[0],
+                denominator: n[1],
+            },
+            priority: Fraction {
+                numerator: n[2],
+                denominator: n[3],
+            },
+            exceedance: Fraction {
+                numerator: n[4],
+                denominator: n[5],
+            },
+            missing: Fraction {
+                numerator: n[6],
+                denominator: n[7],
+            },
+            without_evidence: Fraction {
+                numerator: n[8],
+                denominator: n[9],
+            },
+            with_evidence: Fraction {
+                numerator: n[10],
+                denominator: n[11],
+            },
+        }
     }
 }
 
 // The six pairs as numbers.
-pub fn settings_numbers(s: Settings) -> [u64; SETTING_COUNT]
-    ensures { result ≡ settings_numbers s }
-{
-    [
-        s.seasonal.numerator,
-        s.seasonal.denominator,
-        s.priority.numerator,
-        s.priority.denominator,
-        s.exceedance.numerator,
-        s.exceedance.denominator,
-        s.missing.numerator,
-        s.missing.denominator,
-        s.without_evidence.numerator,
-        s.without_evidence.denominator,
-        s.with_evidence.numerator,
-        s.with_evidence.denominator,
-    ]
+impl From<Settings> for [u64; SETTING_COUNT] {
+    ghost from_gives = { λ s n. n ≡ settings_numbers s };
+
+    #[tactic(auto, unfolding(crate::specs::Settings::settings_numbers))]
+    fn from(s: Settings) -> [u64; SETTING_COUNT] {
+        [
+            s.seasonal.numerator,
+            s.seasonal.denominator,
+            s.priority.numerator,
+            s.priority.denominator,
+            s.exceedance.numerator,
+            s.exceedance.denominator,
+            s.missing.numerator,
+            s.missing.denominator,
+            s.without_evidence.numerator,
+            s.without_evidence.denominator,
+            s.with_evidence.numerator,
+            s.with_evidence.denominator,
+        ]
+    }
 }

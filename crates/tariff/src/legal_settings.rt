@@ -1,0 +1,60 @@
+// The settings of a book, whose fractions are all legal, and what they give of a load (01, Limits; 02, 1/14 and 3/14).
+ghost use Rattle.std.specs.Prelude.{◌≡◌, true};
+ghost use Rattle.tariff.specs.Settings.{part_of, settings_legal};
+ghost use Rattle.tariff.specs.Eligible.{seasonal_eligible, priority_eligible, eligible_without_evidence, eligible_with_evidence};
+
+use crate::settings::Settings;
+
+#[derive(Clone, Copy)]
+pub struct LegalSettings {
+    pub settings: Settings,
+    ghost legal: { settings_legal settings ≡ true },
+}
+
+impl LegalSettings {
+    // S of a load.
+    #[tactic(auto, unfolding(crate::specs::Eligible::seasonal_eligible))]
+    pub fn seasonal_eligible(self, load: u64) -> u64
+        ensures { result ≡ seasonal_eligible self.settings load }
+    {
+        self.settings.seasonal.part_of(load)
+    }
+
+    // P of a load, by its S.
+    #[tactic(auto, unfolding(crate::specs::Eligible::priority_eligible))]
+    pub fn priority_eligible(self, load: u64) -> u64
+        ensures { result ≡ priority_eligible self.settings load }
+    {
+        self.settings.priority.part_of(self.seasonal_eligible(load))
+    }
+
+    // What the Long Term step needs no ten-year evidence for.
+    #[tactic(auto, unfolding(crate::specs::Eligible::eligible_without_evidence))]
+    pub fn eligible_without_evidence(self, load: u64) -> u64
+        ensures { result ≡ eligible_without_evidence self.settings load }
+    {
+        self.settings.without_evidence.part_of(load)
+    }
+
+    // What the Long Term step can come to with such evidence, and the most of tier 1.
+    #[tactic(auto, unfolding(crate::specs::Eligible::eligible_with_evidence))]
+    pub fn eligible_with_evidence(self, load: u64) -> u64
+        ensures { result ≡ eligible_with_evidence self.settings load }
+    {
+        self.settings.with_evidence.part_of(load)
+    }
+
+    // How many of the present hours may lie above the metric.
+    pub fn hours_above_metric(self, present: u64) -> u64
+        ensures { result ≡ part_of self.settings.exceedance present }
+    {
+        self.settings.exceedance.part_of(present)
+    }
+
+    // How many of the hours may be missing.
+    pub fn hours_missing(self, hours: u64) -> u64
+        ensures { result ≡ part_of self.settings.missing hours }
+    {
+        self.settings.missing.part_of(hours)
+    }
+}
