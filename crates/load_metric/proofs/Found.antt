@@ -6,12 +6,12 @@ use mathlib.Core.List.{List}
 use native.Mathlib.Nat.{le_refl}
 use native.Mathlib.Omega.{arith}
 use lib.ListN.{length}
+use Rattle.std.proofs.lemmas.List.{length-map}
 use borrow.Author.Tests.{le-leb, lt-leb}
 use Rattle.load_metric.specs.declared.load.Level.{Level}
-use Rattle.load_metric.specs.Load.{Block, present_hours, hours_above, within_exceedance, smallest_within}
-use Rattle.load_metric.specs.Metering.{blocks_of}
+use Rattle.load_metric.specs.declared.block.Block.{Block}
+use Rattle.load_metric.specs.Load.{present_hours, hours_above, within_exceedance, smallest_within}
 use Rattle.load_metric.specs.Levels.{highest_kw, highest_below, hours_at_least, level_below, kws_of, EachHasHours}
-use Rattle.load_metric.proofs.Blocks.{kws_of_lem}
 use Rattle.load_metric.proofs.Lowest.{Among, smallest_passing, among_highest}
 use Rattle.load_metric.proofs.Levels.{from_within_above, from_within_present, from_more, none_above_highest, above_next, next_among}
 
@@ -71,9 +71,7 @@ module _ (most : ℕ) where
         (λ x m l. lt-leb (hours_above x bs) most (lower-exceeded kw x h m l))
 
   -- the way down starts at the highest kW, which no hour exceeds
-  pub stand_highest : (fs hs ks : List ℕ) → length fs ≡ length ks → length hs ≡ length ks → 0 < length ks
-      → Standing (blocks_of fs hs ks) (highest_kw ks)
-  stand_highest fs hs ks p q some =
-      let e = kws_of_lem fs hs ks p q in
-      let none = none_above_highest (highest_kw ks) (blocks_of fs hs ks) (rw e (le_refl (highest_kw ks))) in
-      record { among = rw e (among_highest ks some); allowed = omega arith }
+  pub stand_highest : (bs : List Block) → 0 < length bs → Standing bs (highest_kw (kws_of bs))
+  stand_highest bs some =
+      let none = none_above_highest (highest_kw (kws_of bs)) bs (le_refl (highest_kw (kws_of bs))) in
+      record { among = among_highest (kws_of bs) (rw (length-map bs (λ b. b.kw)) some); allowed = omega arith }

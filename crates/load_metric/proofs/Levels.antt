@@ -10,11 +10,11 @@ use lib.Dec.{leb, ltb, eqb}
 use lib.ListN.{length, get_or}
 use borrow.Author.Tests.{leb-true, ltb-true, ltb-false, eqb-false, le-leb, lt-leb, lt-ltb, le-ltb}
 use Rattle.tariff.specs.Sum.{when_true, sum_over, any_of}
-use Rattle.load_metric.specs.Load.{Block, present_hours, hours_above}
+use Rattle.load_metric.specs.declared.block.Block.{Block}
+use Rattle.load_metric.specs.Load.{present_hours, hours_above}
 use Rattle.load_metric.specs.Levels.{highest_kw, highest_below, hours_at_least, kws_of, EachHasHours}
 use Rattle.tariff.proofs.Sums.{when_is_true, when_is_false, when_le}
 use Rattle.tariff.proofs.Tests.{or_unmet}
-use Rattle.load_metric.proofs.Blocks.{blocks_from, block_at, blocks_left, no_blocks_left}
 use Rattle.load_metric.proofs.Lowest.{Among, among_max}
 
 -- where one test passes only if another does, it counts no more
@@ -143,19 +143,3 @@ pub from_within_present : (cap : ℕ) (bs : List Block) → hours_at_least cap b
 unfolding hours_at_least present_hours
 from_within_present cap bs =
     sum_mono (λ b. when_true (leb cap b.kw) b.hours) (λ b. b.hours) bs (λ b. when_le (leb cap b.kw) b.hours)
-
--- the same steps in a pass over the slices, at block number i
-module _ (cap : ℕ) (hs ks : List ℕ) (i : ℕ) where
-  pub left_below : length hs ≡ length ks → i < length hs → get_or ks i 0 < cap
-      → (highest_below cap (blocks_from i hs hs ks) ≡ max (get_or ks i 0) (highest_below cap (blocks_from (i + 1) hs hs ks)))
-      × (hours_at_least cap (blocks_from i hs hs ks) ≡ hours_at_least cap (blocks_from (i + 1) hs hs ks))
-  left_below paired h l = rw (blocks_left hs hs ks i h h (omega arith)) (pass_below cap (block_at i hs hs ks) (blocks_from (i + 1) hs hs ks) l)
-
-  pub left_from : length hs ≡ length ks → i < length hs → cap ≤ get_or ks i 0
-      → (highest_below cap (blocks_from i hs hs ks) ≡ highest_below cap (blocks_from (i + 1) hs hs ks))
-      × (hours_at_least cap (blocks_from i hs hs ks) ≡ get_or hs i 0 + hours_at_least cap (blocks_from (i + 1) hs hs ks))
-  left_from paired h l = rw (blocks_left hs hs ks i h h (omega arith)) (pass_from cap (block_at i hs hs ks) (blocks_from (i + 1) hs hs ks) l)
-
-  pub left_none : length hs ≤ i → (highest_below cap (blocks_from i hs hs ks) ≡ 0) × (hours_at_least cap (blocks_from i hs hs ks) ≡ 0)
-  unfolding highest_below hours_at_least sum_over
-  left_none h = rw (no_blocks_left hs hs ks i h) (refl, refl)

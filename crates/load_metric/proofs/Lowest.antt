@@ -81,12 +81,3 @@ unfolding highest_kw
 among_highest [] h = absurd (not-suc-le-zero h)
 among_highest (x ∷ []) h = inl (omega arith)
 among_highest (x ∷ y ∷ ys) h = among_max x (highest_kw (y ∷ ys)) (x ∷ y ∷ ys) (inl refl) (inr (among_highest (y ∷ ys) (omega arith)))
-
--- a pass over a list, at number i
-pub highest_left : (xs : List ℕ) (i : ℕ) → i < length xs → highest_kw (drop i xs) ≡ max (get_or xs i 0) (highest_kw (drop (i + 1) xs))
-unfolding highest_kw
-highest_left xs i h = rw (add-one, drop-cons xs i 0 h)
-
-pub highest_none_left : (xs : List ℕ) (i : ℕ) → length xs ≤ i → highest_kw (drop i xs) ≡ 0
-unfolding highest_kw
-highest_none_left xs i h = rw (drop_of_length-le xs h)

@@ -8,7 +8,8 @@ use lib.Dec.{ltb}
 use borrow.Author.Tests.{ltb-false}
 use Rattle.tariff.specs.declared.settings.Settings.{Settings}
 use Rattle.tariff.specs.Sum.{any_of, filter}
-use Rattle.load_metric.specs.Load.{Block, exceedance_hours, smallest, within_exceedance, smallest_within, metric, load_posted}
+use Rattle.load_metric.specs.declared.block.Block.{Block}
+use Rattle.load_metric.specs.Load.{exceedance_hours, smallest, within_exceedance, smallest_within, metric, load_posted}
 use Rattle.tariff.proofs.Tests.{or_unmet}
 
 module _ {A : Type 0} (test : A → Bool) where

@@ -6,7 +6,8 @@ use mathlib.Core.List.{List, [], ◌∷◌, map}
 use lib.Dec.{leb, ltb}
 use Rattle.tariff.specs.Sum.{when_true, sum_over, filter}
 use Rattle.tariff.specs.Settings.{part_of, fraction_at, settings_of, present_settings}
-use Rattle.load_metric.specs.Load.{Block, present_hours, hours_above, exceedance_hours, within_exceedance, smallest, smallest_within, metric}
+use Rattle.load_metric.specs.declared.block.Block.{Block}
+use Rattle.load_metric.specs.Load.{present_hours, hours_above, exceedance_hours, within_exceedance, smallest, smallest_within, metric}
 
 -- ruled out: the blocks above a kW are counted in place of their hours
 pub metric_by_blocks : List Block → ℕ

@@ -1,14 +1,9 @@
 -- The load metric over blocks of metered hours, by the book's settings (01, Posting, Load; 02, 3/14).
 use Rattle.std.specs.Prelude.{ℕ, ◌+◌, ◌*◌, ◌-◌, min, Bool, true, false, not, ◌&&◌, ◌||◌, List, [], ◌∷◌, map, leb, ltb}
+use Rattle.load_metric.specs.declared.block.Block.{Block}
 use Rattle.tariff.specs.declared.settings.Settings.{Settings}
 use Rattle.tariff.specs.Sum.{when_true, sum_over, filter}
 use Rattle.tariff.specs.Settings.{part_of}
-
--- a run of hours with one load: its first hour, counted from 0, how many hours it has, and the kW
-pub record Block : Type 0 where
-  pub first : ℕ
-  pub hours : ℕ
-  pub kw : ℕ
 
 -- the blocks stand in order from hour `from` on: none begins before the last one ended, each has an hour or more and ends by hour n
 unfoldable pub in_order : ℕ → ℕ → List Block → Bool

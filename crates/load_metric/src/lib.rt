@@ -1,4 +1,5 @@
-// The load metric and the load posted, on numbers and slices of numbers. Each function equals a definition of specs/.
+// The load metric and the load posted, over blocks of metered hours. Each function equals a definition of specs/.
 #![tactic(auto)]
 
+pub mod block;
 pub mod load;

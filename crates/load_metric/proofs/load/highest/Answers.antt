@@ -1,30 +1,15 @@
--- `load_metric::load::highest` meets its contract. The loop's invariant: the highest kW so far and the highest of those left give the highest of all.
+-- `load_metric::load::highest` meets its contract. Assumes nothing.
 use native.Mathlib.Omega.{arith}
-use Rattle.load_metric.proofs.Lowest.{highest_left, highest_none_left}
+use Rattle.load_metric.specs.Levels.{highest_kw}
+use Rattle.load_metric.proofs.Blocks.{blocks_left, no_blocks_left}
 use Rattle.load_metric.proofs.load.highest.Goals as goal
 
-pub loop-i-init : goal.loop-i-init
-loop-i-init c = omega arith
-
-pub offset_bounds-kws-i : goal.offset_bounds-kws-i
-offset_bounds-kws-i c = omega arith
-
-pub bounds-kws-i : goal.bounds-kws-i
-bounds-kws-i c = omega arith
-
-pub max-highest-requires : goal.max-highest-requires
-max-highest-requires c = omega arith
-
-pub overflow_add-i : goal.overflow_add-i
-overflow_add-i c = omega arith
-
-pub loop-i-smaller : goal.loop-i-smaller
-loop-i-smaller c = omega arith
-
-pub loop-i-preserved : goal.loop-i-preserved
-loop-i-preserved c =
-    let kws = c.args.kws.now in
-    omega (arith, highest_left kws c.loop-i.i c.loop-i-test.true)
+pub loop-b-preserved : goal.loop-b-preserved
+unfolding highest_kw
+loop-b-preserved c =
+    let inv = rw (blocks_left c.args.blocks.now c.loop-b.b-index c.loop-b-test.true) at c.loop-b.invariant in
+    omega arith
 
 pub returns : goal.returns
-returns c = omega (arith, highest_none_left c.args.kws.now c.loop-i.i c.loop-i-test.false)
+unfolding highest_kw
+returns c = let inv = rw (no_blocks_left c.args.blocks.now c.loop-b.b-index c.loop-b-test.false) at c.loop-b.invariant in omega arith

@@ -1,62 +1,37 @@
--- `load_metric::load::level_below` meets its contract. The loop's invariant: what the pass has found and what the blocks left give is what all of them give.
+-- `load_metric::load::level_below` meets its contract. Assumes nothing.
+use Prim.Native.Nat.{◌+◌}
 use mathlib.Core.Path.{◌≡◌}
 use native.Mathlib.Omega.{arith}
-use Rattle.load_metric.specs.Levels.{loads_of, level_below, highest_below, hours_at_least}
-use Rattle.load_metric.proofs.Levels.{from_within_present, left_below, left_from, left_none}
+use lib.ListN.{drop}
+use Rattle.tariff.specs.Sum.{sum_over}
+use Rattle.load_metric.specs.Levels.{highest_below, hours_at_least, level_below}
+use Rattle.load_metric.proofs.Blocks.{block_at, blocks_left, no_blocks_left}
+use Rattle.load_metric.proofs.Levels.{from_within_present, pass_below, pass_from}
 use Rattle.load_metric.proofs.load.level_below.Goals as goal
-use Rattle.load_metric.proofs.load.level_below.Goals.{else-kws-i, then-kws-i}
-
-pub loop-i-init : goal.loop-i-init
-loop-i-init c = omega arith
-
-pub offset_bounds-hours-i : goal.offset_bounds-hours-i
-offset_bounds-hours-i c = omega arith
-
-pub bounds-hours-i : goal.bounds-hours-i
-bounds-hours-i c = omega arith
-
-pub offset_bounds-kws-i : goal.offset_bounds-kws-i
-offset_bounds-kws-i c = omega arith
-
-pub bounds-kws-i : goal.bounds-kws-i
-bounds-kws-i c = omega arith
-
-pub offset_bounds-kws-i-then-kws-i : goal.offset_bounds-kws-i-then-kws-i
-offset_bounds-kws-i-then-kws-i c = omega arith
-
-pub bounds-kws-i-then-kws-i : goal.bounds-kws-i-then-kws-i
-bounds-kws-i-then-kws-i c = omega arith
-
-pub max-kw-requires : goal.max-kw-requires
-max-kw-requires c = omega arith
+use Rattle.load_metric.proofs.load.level_below.Goals.{then-b-cap, else-b-cap}
 
 pub overflow_add-above : goal.overflow_add-above
 overflow_add-above c =
-    let i = c.loop-i.i in
-    let hs = c.args.hours.now in
-    let ks = c.args.kws.now in
-    let step = left_from c.args.cap hs ks i c.requires.paired c.loop-i-test.true c.if-kws-i.false in
-    omega (arith, step.1, from_within_present c.args.cap (loads_of hs ks), c.requires.fits)
+    let bs = c.args.blocks.now in
+    let kept = rw (blocks_left bs c.loop-b.b-index c.loop-b-test.true) at c.loop-b.invariant.1 in
+    let step = pass_from c.args.cap (block_at bs c.loop-b.b-index) (drop (c.loop-b.b-index + 1) bs) c.if-b-cap.false in
+    omega (arith, step.1, kept, from_within_present c.args.cap bs, c.requires)
 
-pub overflow_add-i : goal.overflow_add-i
-overflow_add-i c = omega arith
-
-pub loop-i-smaller : goal.loop-i-smaller
-loop-i-smaller c = omega arith
-
-pub loop-i-preserved : goal.loop-i-preserved
-loop-i-preserved c =
-    let i = c.loop-i.i in
-    let hs = c.args.hours.now in
-    let ks = c.args.kws.now in
-    let turn = c.loop-i-test.true in
-    elim c.if-kws-i.branch [ then-kws-i w ↦ let step = left_below c.args.cap hs ks i c.requires.paired turn w.if-kws-i.true in omega arith | else-kws-i w ↦ let step = left_from c.args.cap hs ks i c.requires.paired turn w.if-kws-i.false in omega arith ]
+pub loop-b-preserved : goal.loop-b-preserved
+loop-b-preserved c =
+    let bs = c.args.blocks.now in
+    let left = blocks_left bs c.loop-b.b-index c.loop-b-test.true in
+    let kw = rw left at c.loop-b.invariant.0 in
+    let hours = rw left at c.loop-b.invariant.1 in
+    let rest = drop (c.loop-b.b-index + 1) bs in
+    elim c.if-b-cap.branch [ then-b-cap w ↦ let step = pass_below c.args.cap (block_at bs c.loop-b.b-index) rest w.if-b-cap.true in omega (arith, step.0, step.1, kw, hours) | else-b-cap w ↦ let step = pass_from c.args.cap (block_at bs c.loop-b.b-index) rest w.if-b-cap.false in omega (arith, step.0, step.1, kw, hours) ]
 
 pub returns : goal.returns
-unfolding level_below
+unfolding level_below highest_below hours_at_least sum_over
 returns c =
-    let inv = c.loop-i.invariant in
-    let none = left_none c.args.cap c.args.hours.now c.args.kws.now c.loop-i.i c.loop-i-test.false in
-    let kw : c.loop-i.kw ≡ highest_below c.args.cap (loads_of c.args.hours.now c.args.kws.now) = omega arith in
-    let above : c.loop-i.above ≡ hours_at_least c.args.cap (loads_of c.args.hours.now c.args.kws.now) = omega arith in
-    rw (kw, above)
+    let left = no_blocks_left c.args.blocks.now c.loop-b.b-index c.loop-b-test.false in
+    let kw = rw left at c.loop-b.invariant.0 in
+    let hours = rw left at c.loop-b.invariant.1 in
+    let same_kw : c.loop-b.kw ≡ highest_below c.args.cap c.args.blocks.now = omega arith in
+    let same_hours : c.loop-b.above ≡ hours_at_least c.args.cap c.args.blocks.now = omega arith in
+    rw (same_kw, same_hours)

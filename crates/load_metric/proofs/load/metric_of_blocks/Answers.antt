@@ -1,33 +1,26 @@
--- `load_metric::load::metric_of_blocks` meets its contract. The loop's invariant: the kW is a block's and within the exceedance, and the level is the step down from it.
-use Rattle.std.proofs.Common.{◌≡◌, ◌-◌, ◌≤◌, min, List, sym, ap, ◌∙◌, arith}
-use Rattle.load_metric.specs.Load.{Block}
-use Rattle.load_metric.specs.Levels.{loads_of, hours_at_least, Countable}
+-- `load_metric::load::metric_of_blocks` meets its contract. Assumes nothing.
+use Rattle.std.proofs.Common.{◌≡◌, ◌-◌, ◌≤◌, min, sym, ap, ◌∙◌, arith}
+use Rattle.load_metric.specs.Levels.{hours_at_least, Countable}
 use Rattle.load_metric.proofs.Found.{level_kw, most_above, level_above, step_down, step_adds, metric_found, stand_highest}
 use Rattle.load_metric.proofs.load.metric_of_blocks.Goals as goal
 use Rattle.load_metric.proofs.load.metric_of_blocks.Goals.{At-loop-below, Start}
 
-abbrev blocks : At-loop-below → List Block
-blocks c = loads_of c.args.hours.now c.args.kws.now
+above_is : (c : At-loop-below) → c.loop-below.below.above ≡ hours_at_least c.loop-below.kw c.args.blocks.now
+above_is c = level_above c.loop-below.kw c.args.blocks.now c.loop-below.invariant.1
 
-above_is : (c : At-loop-below) → c.loop-below.below.above ≡ hours_at_least c.loop-below.kw (blocks c)
-above_is c = level_above c.loop-below.kw (blocks c) c.loop-below.invariant.1
-
-most_is : (c : At-loop-below) → c.min-most_above.result ≡ most_above c.args.exceedance_hours (blocks c)
+most_is : (c : At-loop-below) → c.min-most_above.result ≡ most_above c.args.exceedance_hours c.args.blocks.now
 most_is c =
     c.min-most_above.ensures
     ∙ ap (min c.args.exceedance_hours) (c.saturating_sub.ensures ∙ ap (λ p. p - 1) (sym c.requires.covered))
 
-countable : (c : Start) → Countable c.args.hours.now c.args.kws.now
-countable c = record { paired = c.requires.paired; fits = omega (arith, c.requires.covered, c.ranges.present.fits) }
+countable : (c : Start) → Countable c.args.blocks.now
+countable c = omega (arith, c.requires.covered, c.ranges.present.fits)
 
 pub level_below-below-requires : goal.level_below-below-requires
 level_below-below-requires c = countable (goal.at.level_below-below-requires c).Start
 
 pub loop-below-init : goal.loop-below-init
-loop-below-init c =
-    let hs = c.args.hours.now in
-    let paired = c.requires.paired in
-    (rw c.highest-kw.ensures (stand_highest c.args.exceedance_hours hs hs c.args.kws.now paired paired (omega (arith, c.requires.some))), c.level_below-below.ensures)
+loop-below-init c = (rw c.highest-kw.ensures (stand_highest c.args.exceedance_hours c.args.blocks.now c.requires.some), c.level_below-below.ensures)
 
 pub level_below-below-requires-in-loop-below : goal.level_below-below-requires-in-loop-below
 level_below-below-requires-in-loop-below c = countable (goal.at.level_below-below-requires-in-loop-below c).Start
@@ -35,7 +28,7 @@ level_below-below-requires-in-loop-below c = countable (goal.at.level_below-belo
 pub loop-below-smaller : goal.loop-below-smaller
 loop-below-smaller c =
     let at = (goal.at.loop-below-smaller c).At-loop-below in
-    let bs = blocks at in
+    let bs = c.args.blocks.now in
     let allowed : hours_at_least c.loop-below.kw bs ≤ most_above c.args.exceedance_hours bs = omega (arith, above_is at, most_is at, c.loop-below-test.true) in
     let adds = step_adds c.args.exceedance_hours bs c.requires.each_has_hours c.loop-below.kw c.loop-below.invariant.0 allowed in
     let next = ap (λ v. hours_at_least v bs) (level_kw c.loop-below.kw bs c.loop-below.invariant.1) in
@@ -45,7 +38,7 @@ loop-below-smaller c =
 pub loop-below-preserved : goal.loop-below-preserved
 loop-below-preserved c =
     let at = (goal.at.loop-below-preserved c).At-loop-below in
-    let bs = blocks at in
+    let bs = c.args.blocks.now in
     let allowed : hours_at_least c.loop-below.kw bs ≤ most_above c.args.exceedance_hours bs = omega (arith, above_is at, most_is at, c.loop-below-test.true) in
     let down = step_down c.args.exceedance_hours bs c.requires.each_has_hours c.loop-below.kw c.loop-below.invariant.0 allowed in
     (rw (level_kw c.loop-below.kw bs c.loop-below.invariant.1) down, c.level_below-below-in-loop-below.ensures)
@@ -53,4 +46,4 @@ loop-below-preserved c =
 pub returns : goal.returns
 returns c =
     let at = (goal.at.returns c).At-loop-below in
-    sym (metric_found c.args.exceedance_hours (blocks at) c.requires.each_has_hours c.loop-below.kw c.loop-below.invariant.0 (omega (arith, above_is at, most_is at, c.loop-below-test.false)))
+    sym (metric_found c.args.exceedance_hours c.args.blocks.now c.requires.each_has_hours c.loop-below.kw c.loop-below.invariant.0 (omega (arith, above_is at, most_is at, c.loop-below-test.false)))

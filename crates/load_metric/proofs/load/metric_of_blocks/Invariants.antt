@@ -1,12 +1,12 @@
--- `load_metric::load::metric_of_blocks` meets its contract. The loop's invariant: the kW is a block's and within the exceedance, and the level is the step down from
+-- The kW is a block's and within the exceedance, and the level is the step down from it.
 use Prim.Native.Nat.{◌+◌, ◌-◌}
 use mathlib.Core.Path.{◌≡◌}
-use Rattle.load_metric.specs.Levels.{loads_of, level_below}
+use Rattle.load_metric.specs.Levels.{level_below}
 use Rattle.load_metric.proofs.Found.{Standing}
 use Rattle.load_metric.proofs.load.metric_of_blocks.Given as goal
 
 abbrev pub invariant-loop-below : goal.invariant-loop-below
-invariant-loop-below l = Standing l.exceedance_hours (loads_of l.hours l.kws) l.kw × (l.below ≡ level_below l.kw (loads_of l.hours l.kws))
+invariant-loop-below l = Standing l.exceedance_hours l.blocks l.kw × (l.below ≡ level_below l.kw l.blocks)
 
 abbrev pub decreases-loop-below : goal.decreases-loop-below
 decreases-loop-below l = l.most_above + 1 - l.below.above
