@@ -6,7 +6,7 @@ ghost use Rattle.counted_lines.specs.BookLines.{pairs_of, set_line_of, book_list
 
 use lines::lines::next_row;
 use lines::rows::{BROKEN_SET_LINE, HOLDER_LINE, PATH_LINE, Row, SET_LINE, SINK_LINE};
-use tariff::settings::{Settings, present_settings, settings_of};
+use tariff::settings::Settings;
 use tariff::sizes::MAX_PLACES;
 
 // Lines of at most two fields: whether there are as many as counted, all of one kind, how many bytes they take, and the fields of the first 16.
@@ -96,14 +96,14 @@ fn read_set_line(rest: &[u8]) -> SetLine
     let row = next.row;
     let fields = row.fields;
     if row.kind == SET_LINE {
-        let settings = settings_of(fields);
+        let settings = Settings::from(fields);
         return SetLine {
             readable: true,
             consumed: next.consumed,
             settings,
         };
     }
-    let settings = present_settings();
+    let settings = Settings::present();
     if row.kind == BROKEN_SET_LINE {
         return SetLine {
             readable: false,

@@ -1,7 +1,7 @@
 -- Groups: a head and the lines that it counts, and the request that they make (01, Script and host).
 use Rattle.std.specs.Prelude.{ℕ, zero, suc, Bool, cond, ◌&&◌, List, [], ◌∷◌, map, length, take, drop, eqb}
 use Rattle.netting.specs.declared.netting.ClassLine.{ClassLine}
-use Rattle.load_metric.specs.Load.{Block}
+use Rattle.load_metric.specs.declared.block.Block.{Block}
 use Rattle.ledger.specs.Opening.{Opening}
 use Rattle.ledger.specs.Call.{load, carry, prior, verify, migrate, open_tier, nominate, award, close_tier, limit_of, held_on, net_on}
 use Rattle.ledger.specs.Season.{Request, call, query}

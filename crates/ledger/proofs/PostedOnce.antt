@@ -8,7 +8,8 @@ use lib.Dec.{eqb}
 use borrow.Author.Tests.{eqb-true}
 use Rattle.tariff.specs.Sum.{when_true}
 use Rattle.netting.specs.declared.netting.ClassLine.{ClassLine}
-use Rattle.load_metric.specs.Load.{Block, load_posted}
+use Rattle.load_metric.specs.declared.block.Block.{Block}
+use Rattle.load_metric.specs.Load.{load_posted}
 use Rattle.tariff.specs.Terms.{has_month}
 use Rattle.tariff.proofs.Sums.{sum_le}
 use Rattle.tariff.proofs.Tests.{and_both}

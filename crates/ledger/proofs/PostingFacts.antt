@@ -7,7 +7,8 @@ use lib.ListN.{length}
 use lib.Dec.{ltb}
 use borrow.Author.Tests.{ltb-false, leb-false}
 use Rattle.tariff.specs.Sum.{any_of}
-use Rattle.load_metric.specs.Load.{Block, blocks_broken, too_many_missing}
+use Rattle.load_metric.specs.declared.block.Block.{Block}
+use Rattle.load_metric.specs.Load.{blocks_broken, too_many_missing}
 use Rattle.tariff.specs.Terms.{first_tier_of}
 use Rattle.source_evidence.specs.Evidence.{highest_right}
 use Rattle.tariff.proofs.Tests.{or_unmet}

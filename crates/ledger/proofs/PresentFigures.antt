@@ -11,7 +11,8 @@ use Rattle.tariff.specs.Eligible.{priority_eligible}
 use Rattle.tariff.specs.Limit.{limit_tier2, limit_tier3, eligible_by_evidence, long_term_of_lse, long_term_eligible, limit_long_term, limit_of_sums}
 use Rattle.tariff.proofs.Limits.{limit_one, limit_two, limit_three, limit_long_term_lem}
 use Rattle.tariff.proofs.PresentFigures.{present_seasonal, present_priority, present_without, present_with, half_load_never_tighter, present_tier_1}
-use Rattle.load_metric.specs.Load.{Block, present_hours, missing_hours, too_many_missing, exceedance_hours, smallest_within, metric}
+use Rattle.load_metric.specs.declared.block.Block.{Block}
+use Rattle.load_metric.specs.Load.{present_hours, missing_hours, too_many_missing, exceedance_hours, smallest_within, metric}
 use Rattle.ledger.specs.PresentFigures.{PresentFigures}
 
 tier_1 : (s : Sums) → limit_of_sums present_settings 1 s ≡ min (2 * (3 * s.load / 4) / 3 - s.carried) (s.prior - s.carried)

@@ -1,6 +1,6 @@
 -- The requests that a book takes: nine calls and three queries (01, Posting, Migration, Tiers; 02, 1/14). Every number is allowed; the causes say which are refused.
 use Rattle.std.specs.Prelude.{ℕ, List}
-use Rattle.load_metric.specs.Load.{Block}
+use Rattle.load_metric.specs.declared.block.Block.{Block}
 use Rattle.netting.specs.declared.netting.ClassLine.{ClassLine}
 
 pub data Call : Type 0 where

@@ -3,7 +3,8 @@
 use Rattle.std.specs.Prelude.{ℕ, ◌+◌, Bool, cond, not, ◌&&◌, ◌||◌, List, [], ◌∷◌, leb, ltb, eqb}
 use Rattle.netting.specs.declared.netting.ClassLine.{ClassLine}
 use Rattle.tariff.specs.Sum.{any_of, any_below}
-use Rattle.load_metric.specs.Load.{Block, blocks_broken, too_many_missing}
+use Rattle.load_metric.specs.declared.block.Block.{Block}
+use Rattle.load_metric.specs.Load.{blocks_broken, too_many_missing}
 use Rattle.tariff.specs.Terms.{term_of, is_long_term_step}
 use Rattle.tariff.specs.Eligible.{eligible_without_evidence}
 use Rattle.netting.specs.Migration.{netted, lost_by}

@@ -1,7 +1,8 @@
 -- The twelve marked cases of document 01: for each what the definitions give, and the answers and figures that 01 marks.
 use Rattle.std.specs.Prelude.{ℕ, zero, suc, List, [], ◌∷◌, ◌++◌, length, replicate}
 use Rattle.netting.specs.declared.netting.ClassLine.{ClassLine}
-use Rattle.load_metric.specs.Load.{Block, metric, load_posted}
+use Rattle.load_metric.specs.declared.block.Block.{Block}
+use Rattle.load_metric.specs.Load.{metric, load_posted}
 use Rattle.tariff.specs.Settings.{present_settings}
 use Rattle.tariff.specs.Eligible.{seasonal_eligible, priority_eligible}
 use Rattle.netting.specs.Migration.{netted}

@@ -5,7 +5,8 @@ use Rattle.tariff.specs.Settings.{present_settings}
 use Rattle.tariff.specs.Eligible.{seasonal_eligible, priority_eligible, eligible_without_evidence, eligible_with_evidence}
 use Rattle.tariff.specs.Limit.{limit_of_sums}
 use Rattle.tariff.specs.Sizes.{long_term_step}
-use Rattle.load_metric.specs.Load.{Block, present_hours, missing_hours, too_many_missing, smallest_within, metric}
+use Rattle.load_metric.specs.declared.block.Block.{Block}
+use Rattle.load_metric.specs.Load.{present_hours, missing_hours, too_many_missing, smallest_within, metric}
 
 pub record PresentFigures : Type 0 where
   pub seasonal : (load : ℕ) → seasonal_eligible present_settings load ≡ 3 * load / 4

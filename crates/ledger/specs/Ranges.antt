@@ -3,7 +3,7 @@ use Rattle.std.specs.Prelude.{ℕ, Bool, not, ◌||◌, List, length, leb, ltb}
 use Rattle.netting.specs.declared.netting.ClassLine.{ClassLine}
 use Rattle.tariff.specs.Sizes.{max_hours, long_term_step, max_class_lines}
 use Rattle.tariff.specs.Sum.{any_of}
-use Rattle.load_metric.specs.Load.{Block}
+use Rattle.load_metric.specs.declared.block.Block.{Block}
 use Rattle.tariff.specs.Ranges.{max_kw, within, kw_out_of_range, term_out_of_range}
 use Rattle.netting.specs.ClassRanges.{class_line_out_of_range}
 use Rattle.ledger.specs.Opening.{Opening}

@@ -9,7 +9,8 @@ use lib.ListN.{length, drop}
 use Rattle.source_evidence.specs.declared.evidence.Entry.{Entry}
 use Rattle.tariff.specs.Sum.{when_true}
 use Rattle.tariff.specs.Sizes.{terms}
-use Rattle.load_metric.specs.Load.{Block, load_posted}
+use Rattle.load_metric.specs.declared.block.Block.{Block}
+use Rattle.load_metric.specs.Load.{load_posted}
 use Rattle.tariff.specs.Ranges.{max_kw}
 use Rattle.load_metric.proofs.Metric.{posted_le}
 use Rattle.ledger.specs.Opening.{Opening}

@@ -8,12 +8,11 @@ ghost use Rattle.slots.specs.Steps.{InFigures};
 ghost use Rattle.nomination_tests.specs.Inputs.{NominationInputs, PathInputs, PathPair, BaseInputs};
 
 use records::kinds::OBAALSE;
-use records::setup::{holder_kind, path_base, path_source, paths, settings};
+use records::setup::{holder_kind, legal_settings, path_base, path_source, paths};
 use slots::calendar::current_tier;
 use slots::cells::read;
 use slots::layout::{AWARDS_SLOT, CARRIED_SLOT, LOAD_SLOT, NOMINATED_SLOT};
 use slots::sums::sum_at_base;
-use tariff::limit::eligible_without_evidence;
 use tariff::sizes::LONG_TERM_STEP;
 use tier_limits::ten_year::has_ten_year;
 
@@ -39,7 +38,7 @@ fn needs_ten_year(o: &[u64], f: &[u64], h: u64, base: u64, kw: u64) -> bool
     let load = read(f, h, base, LOAD_SLOT);
     let nominated = sum_at_base(o, f, h, NOMINATED_SLOT, base);
     let carried = sum_at_base(o, f, h, CARRIED_SLOT, base);
-    eligible_without_evidence(settings(o), load) < nominated + kw + carried
+    legal_settings(o).eligible_without_evidence(load) < nominated + kw + carried
 }
 
 // Whether it is needed at the source of path q: for a nomination on p at that of p itself, and of each path at its base that the holder has nominated on.

@@ -9,7 +9,6 @@ use records::setup::{
     holder_kind, holders, path_sink, path_source, paths, settings, sink_base, sink_kind, sinks,
     sources,
 };
-use tariff::settings::settings_legal;
 use tariff::sizes::{MAX_HOLDERS, MAX_PLACES};
 
 // At most 8 holders, 16 sources, 16 sinks and 16 paths.
@@ -145,5 +144,5 @@ pub fn is_legal(o: &[u64]) -> bool
         return false;
     }
     let lines = holders_legal(o) & sinks_legal(o) & paths_legal(o) & paths_differ(o);
-    lines & settings_legal(settings(o))
+    lines & settings(o).is_legal()
 }

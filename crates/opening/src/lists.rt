@@ -11,8 +11,8 @@ use records::setup::{
     BASES_AT, HOLDER_KINDS_AT, OPENING_COUNT, PATH_SINKS_AT, PATH_SOURCES_AT, SETTINGS_AT,
     SINK_KINDS_AT, SINK_PARENTS_AT, base_by_sink,
 };
-use tariff::settings::{Settings, present_settings, settings_numbers};
-use tariff::sizes::MAX_PLACES;
+use tariff::settings::Settings;
+use tariff::sizes::{MAX_PLACES, SETTING_COUNT};
 
 // A list copied into an array: 0 past the list's end, and what finds no room is left out.
 fn copy_into(to: &mut [u64], from: &[u64])
@@ -57,7 +57,7 @@ pub fn keep_settings(o: &mut [u64], settings: Settings)
     requires { length o.old ≡ opening_count }
     ensures { o.new ≡ take settings_at o.old ++ (settings_numbers settings ++ drop bases_at o.old) }
 {
-    let numbers = settings_numbers(settings);
+    let numbers: [u64; SETTING_COUNT] = settings.into();
     copy_into(&mut o[SETTINGS_AT..BASES_AT], &numbers);
 }
 
@@ -67,7 +67,7 @@ pub fn keep_nothing(o: &mut [u64])
     ensures { o.new ≡ opening_array empty_opening }
 {
     clear(o);
-    keep_settings(o, present_settings());
+    keep_settings(o, Settings::present());
 }
 
 // The base of each path of the opening that an array keeps.

@@ -1,8 +1,8 @@
 // What a book was opened with, kept in an array (01, The book; 02, 3/14): the four counts, then what stands on the line of each holder, sink and path, and
 // the settings.
-ghost use Rattle.std.specs.Prelude.{◌<◌, ◌≡◌, drop};
+ghost use Rattle.std.specs.Prelude.{◌<◌, ◌≡◌, true, drop};
 ghost use Rattle.tariff.specs.Sizes.{max_places, setting_count};
-ghost use Rattle.tariff.specs.Settings.{fraction_at};
+ghost use Rattle.tariff.specs.Settings.{fraction_at, settings_legal};
 ghost use Rattle.ledger.specs.Opening.{holder_kind, sink_kind, base, path_source, path_sink, path_base};
 ghost use Rattle.ledger.specs.Ranges.{unknown_holder, unknown_source, unknown_sink, unknown_path};
 ghost use Rattle.ledger.specs.Causes.{kind_ineligible, is_sub_lap};
@@ -10,6 +10,7 @@ ghost use Rattle.records.specs.Opening.{settings_at, opening_of, KeepsBases};
 
 use crate::kinds::{LSE, SCHEDULING_POINT, SUB_LAP};
 use crate::lists::{list_entry, number_at};
+use tariff::legal_settings::LegalSettings;
 use tariff::settings::{Fraction, Settings};
 use tariff::sizes::{MAX_HOLDERS, MAX_PLACES};
 
@@ -150,6 +151,16 @@ pub fn settings(o: &[u64]) -> Settings
         missing: fraction_at(o, 6),
         without_evidence: fraction_at(o, 8),
         with_evidence: fraction_at(o, 10),
+    }
+}
+
+// The same, of an opening that is legal.
+pub fn legal_settings(o: &[u64]) -> LegalSettings
+    requires { settings_legal (opening_of o).settings ≡ true }
+    ensures { result.settings ≡ (opening_of o.entry).settings }
+{
+    LegalSettings {
+        settings: settings(o),
     }
 }
 

@@ -6,7 +6,6 @@ ghost use Rattle.slots.specs.Coverage.{coverage, covered_kw, is_covered};
 
 use crate::cells::read;
 use source_evidence::evidence::{Entry, counts_for, entry_kw};
-use tariff::limit::saturating_sub;
 
 // One more than the entry's kW where it counts for the term, else 0, so that evidence of 0 kW can be told from none.
 pub fn coverage(e: Entry, term: u64) -> u64
@@ -23,7 +22,7 @@ pub fn covered_kw(f: &[u64], h: u64, s: u64, slot: u64) -> u64
     requires { HasCell figure_slots h s slot × (length f.now ≡ figure_count) }
     ensures { result ≡ covered_kw (read_at figure_slots 0 f.now h s slot) }
 {
-    saturating_sub(read(f, h, s, slot), 1)
+    read(f, h, s, slot).saturating_sub(1)
 }
 
 // Whether it keeps any.

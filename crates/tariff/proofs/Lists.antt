@@ -9,6 +9,7 @@ use native.Mathlib.Omega.{arith}
 use lib.ListN.{length, get_or, set, length-append, get_or-append}
 use borrow.Author.Tests.{lt-ltb, le-ltb}
 use lib.Seq.{get_or-append-add, ext_get_or, get_or-set_same, get_or-set_other}
+use Rattle.std.specs.List.{list_any}
 use Rattle.tariff.specs.Sum.{sum_to, any_below, sum_over, any_of, tabulate}
 use Rattle.tariff.specs.Placed.{placed}
 use Rattle.tariff.proofs.Sums.{below_suc}
@@ -87,3 +88,9 @@ placed_in most xs k v l = sym (ap (λ t. cond t (set xs k v) xs) (lt-ltb k most 
 pub placed_out : (most : ℕ) (xs : List ℕ) (k v : ℕ) → most ≤ k → xs ≡ placed most xs k v
 unfolding placed
 placed_out most xs k v l = sym (ap (λ t. cond t (set xs k v) xs) (le-ltb k most l))
+
+-- whether some line passes a test, as std has it
+pub any_is : {A : Type 0} (test : A → Bool) (xs : List A) → any_of xs test ≡ list_any test xs
+unfolding any_of
+any_is test [] = refl
+any_is test (x ∷ xs) = ap (λ b. test x || b) (any_is test xs)

@@ -15,12 +15,12 @@ use records::kinds::OBAALSE;
 use records::numbers::{NOT_AT_THIS_TIME, NOT_IN_BOOK};
 use records::refusals::refuse;
 use records::setup::{
-    holder_kind, path_base, paths, settings, sink_base, unknown_holder, unknown_sink,
+    holder_kind, legal_settings, path_base, paths, sink_base, unknown_holder, unknown_sink,
 };
 use slots::calendar::current_tier;
 use slots::cells::read;
 use slots::layout::{AWARDS_SLOT, CARRIED_SLOT, LOAD_SLOT, PRIOR_ALLOCATED_SLOT};
-use tariff::limit::{Sums, saturating_sub, tier_rule};
+use tariff::limit::{Sums, tier_rule};
 use tariff::terms::carried_month;
 
 // The sums of a limit that run over paths.
@@ -90,7 +90,7 @@ fn limit_sums(o: &[u64], f: &[u64], tier: u64, h: u64, base: u64) -> Sums
     let rule = tier_rule(tier);
     let term = rule.term;
     let month = carried_month(term);
-    let last = saturating_sub(tier, 1);
+    let last = tier.saturating_sub(1);
     let load = read(f, h, base, LOAD_SLOT + term);
     let carried = CARRIED_SLOT + (month - 1);
     let sums = sum_paths(o, f, h, base, carried, AWARDS_SLOT + last);
@@ -115,7 +115,7 @@ pub fn tier_limit(o: &[u64], f: &[u64], tier: u64, h: u64, base: u64) -> u64
     ensures { InFigures o.now f.now (λ O L. result ≡ tier_limit O L tier h base) }
 {
     let sums = limit_sums(o, f, tier, h, base);
-    tariff::limit::limit_of_sums(settings(o), tier, sums)
+    legal_settings(o).limit_of_sums(tier, sums)
 }
 
 // The first cause that a limit query meets, 0 for none.

@@ -1,4 +1,5 @@
 -- `nomination_tests::long_term_step::needs_ten_year` meets its contract: an OBAALSE needs it, another holder above what the step gives of its load without it. Assumes nothing.
+use mathlib.Core.Path.{refl}
 use native.Mathlib.Omega.{arith}
 use Rattle.slots.proofs.Reachable.{settings_known}
 use Rattle.slots.proofs.Figures.{summable}
@@ -19,8 +20,8 @@ sum_at_base-nominated-requires c = let k = c.requires in summable _ _ _ _ k.figu
 pub sum_at_base-carried-requires : goal.sum_at_base-carried-requires
 sum_at_base-carried-requires c = let k = c.requires in summable _ _ _ _ k.figures.reachable _ _ k.holder (omega arith)
 
-pub eligible_without_evidence-requires : goal.eligible_without_evidence-requires
-eligible_without_evidence-requires c = let k = c.requires in settings_known _ _ _ _ k.figures.reachable c.settings.ensures
+pub legal_settings-requires : goal.legal_settings-requires
+legal_settings-requires c = let k = c.requires in settings_known _ _ _ _ k.figures.reachable refl
 
 pub overflow_add-result : goal.overflow_add-result
 overflow_add-result c = let k = c.requires in record { fits = base_room _ _ _ _ k.figures.reachable _ k.holder _ _ _ k.high c.sum_at_base-nominated.ensures }
@@ -37,4 +38,4 @@ overflow_add-result-2 c =
 pub returns : goal.returns
 returns c m x r =
     let k = c.requires in
-    above_without _ _ m x r _ _ _ _ _ _ _ _ _ k.holder k.place c.holder_kind.ensures c.if-holder_kind-eq-OBAALSE.false c.read-load.ensures c.sum_at_base-nominated.ensures c.sum_at_base-carried.ensures c.settings.ensures c.eligible_without_evidence.ensures
+    above_without _ _ m x r _ _ _ _ _ _ _ _ _ k.holder k.place c.holder_kind.ensures c.if-holder_kind-eq-OBAALSE.false c.read-load.ensures c.sum_at_base-nominated.ensures c.sum_at_base-carried.ensures c.legal_settings.ensures c.eligible_without_evidence.ensures

@@ -10,5 +10,5 @@ returns-then-not-counts_fit c = sym (unfit_counts _ (sym c.counts_fit.ensures �
 
 pub returns : goal.returns
 returns c =
-    (λ i. c.holders_legal.ensures i && c.sinks_legal.ensures i && c.paths_legal.ensures i && c.paths_differ.ensures i && (c.settings_legal.ensures ∙ ap settings_legal c.settings.ensures) i)
+    (λ i. c.holders_legal.ensures i && c.sinks_legal.ensures i && c.paths_legal.ensures i && c.paths_differ.ensures i && (c.is_legal.ensures ∙ ap settings_legal c.settings.ensures) i)
     ∙ legal_by_lines c.args.o.now c.requires (sym c.counts_fit.ensures ∙ c.if-not-counts_fit.false)

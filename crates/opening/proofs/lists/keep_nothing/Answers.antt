@@ -13,5 +13,5 @@ pub returns : goal.returns
 returns c =
     let z = c.clear.new.numbers in
     c.keep_settings.ensures
-    ∙ ap (λ s. take settings_at z ++ (settings_numbers s ++ drop bases_at z)) c.present_settings.ensures
+    ∙ ap (λ s. take settings_at z ++ (settings_numbers s ++ drop bases_at z)) c.present.ensures
     ∙ empty_kept z (c.clear.ensures ∙ ap (λ n. tabulate n (λ k. 0)) (search rules))

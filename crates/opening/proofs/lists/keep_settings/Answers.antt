@@ -10,6 +10,6 @@ use Rattle.opening.proofs.lists.keep_settings.Goals as goal
 pub returns : goal.returns
 returns c =
     let o = c.args.o.now in
-    let found = c.settings_numbers-numbers.ensures in
-    settings_stored o c.settings_numbers-numbers.result _ (search rules) (ap length found ∙ numbers_many _) c.copy_into.ensures
+    let found = c.into-numbers.ensures in
+    settings_stored o c.into-numbers.result _ (search rules) (ap length found ∙ numbers_many _) c.copy_into.ensures
     ∙ ap (λ numbers. take settings_at o ++ (numbers ++ drop bases_at o)) found
