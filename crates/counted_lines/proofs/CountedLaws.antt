@@ -3,10 +3,10 @@ use Prim.Native.Nat.{ℕ, zero, suc, ◌+◌, ◌-◌, ◌≤◌, ◌<◌, zero-
 use mathlib.Core.Path.{◌≡◌, refl, sym, ap, ◌∙◌, subst}
 use native.Mathlib.Nat.{le_trans, le_of_eq}
 use mathlib.Core.Bool.{Bool, true, false, ◌&&◌}
-use mathlib.Core.List.{List, [], ◌∷◌, ◌++◌}
+use mathlib.Core.List.{List, [], ◌∷◌, ◌++◌, map, map-append}
 use native.Mathlib.Numerals.{add-one}
 use native.Mathlib.Omega.{arith}
-use lib.ListN.{length, take, drop, length-take, length-drop, drop_of_length-le}
+use lib.ListN.{length, take, drop, set, length-map, length-take, length-drop, drop_of_length-le}
 use lib.Seq.{drop-drop, length-take-le, take_all}
 use lib.Dec.{eqb}
 use borrow.Author.Tests.{eq-eqb, ne_eqb}
@@ -17,10 +17,10 @@ use Rattle.lines.specs.declared.lines.NextRow.{NextRow}
 use Rattle.lines.specs.Text.{lines_of}
 use Rattle.lines.specs.Rows.{rows_of, all_of_kind, counted}
 use Rattle.lines.specs.Reading.{first_bytes, next_row}
-use Rattle.counted_lines.specs.Counted.{bytes_of_lines, rows_counted, counted_of, kept_fields, column_length, columns_put, buffer_with}
+use Rattle.counted_lines.specs.Counted.{bytes_of_lines, rows_counted, counted_of, with_lines}
 use Rattle.counted_lines.proofs.RowSteps.{first_row_lem, consumed_within}
-use Rattle.counted_lines.proofs.BufferLaws.{row_kept, buffer_long}
-use Rattle.counted_lines.proofs.KeptFields.{take_more, drop_more, in_list, kinds_more}
+use Rattle.counted_lines.proofs.KeptLines.{one_kept}
+use Rattle.counted_lines.proofs.RowsMore.{take_more, drop_more, in_list, kinds_more}
 
 -- one line more takes the bytes of the line that comes next
 bytes_more : (k : ℕ) (s : List ℕ) → bytes_of_lines (suc k) s ≡ bytes_of_lines k s + (next_row (drop (bytes_of_lines k s) s)).consumed
@@ -79,11 +79,6 @@ module _ (s : List ℕ) (kind count k consumed : ℕ) (complete : Bool) (f : SoF
     row_below : k < length (rows_of s)
     row_below = in_list k (rows_of s) next (rows_of (drop (next_row rest).consumed rest)) here
 
-    -- a line that is counted finds room in columns that have it for all of these
-    pub line_fits : (n : ℕ) → length (rows_counted count s) ≤ n → k < count → k < n
-    unfolding rows_counted
-    line_fits n fits l = let all = length-take count (rows_of s) in let below = row_below in omega arith
-
     next-within : consumed + (next_row rest).consumed ≤ length s
     next-within = let u = consumed_within rest in let len = length-drop consumed s in omega arith
 
@@ -113,28 +108,17 @@ module _ (s : List ℕ) (kind count k consumed : ℕ) (complete : Bool) (f : SoF
       pub turn_rows : take (k + 1) (rows_of s) ≡ take k (rows_of s) ++ (x.row ∷ [])
       turn_rows = ap (λ n. take n (rows_of s)) (add-one k) ∙ one_more ∙ ap (λ y. take k (rows_of s) ++ (y.row ∷ [])) (sym e)
 
-      -- its fields are kept after those before it
-      pub turn_kept : (buffer old new : List ℕ) → length (rows_counted count s) ≤ column_length buffer → k < count → old ≡ buffer_with (take k (rows_of s)) buffer → new ≡ columns_put kept_fields 0 (column_length buffer) k x.row old → new ≡ buffer_with (take (k + 1) (rows_of s)) buffer
-      turn_kept buffer old new fits l kept stored =
-          let many = length-take-le k (rows_of s) f.in_rows in
-          let below = line_fits (column_length buffer) fits l in
+      -- its line is kept after those before it
+      pub turn_kept : {T : Type 0} (of : Row → T) (array old new : List T) (line : T) → line ≡ of x.row → old ≡ with_lines (map of (take k (rows_of s))) array → new ≡ set old k line → new ≡ with_lines (map of (take (k + 1) (rows_of s))) array
+      turn_kept of array old new line is kept stored =
+          let many = length-map (take k (rows_of s)) of ∙ length-take-le k (rows_of s) f.in_rows in
           stored
-          ∙ (λ i. columns_put kept_fields 0 (column_length buffer) (sym many i) x.row (kept i))
-          ∙ row_kept (take k (rows_of s)) x.row buffer (omega arith)
-          ∙ ap (λ rows. buffer_with rows buffer) (sym turn_rows)
+          ∙ (λ i. set (kept i) (sym many i) (is i))
+          ∙ one_kept (map of (take k (rows_of s))) (of x.row) array
+          ∙ ap (λ ls. with_lines ls array) (sym (ap (map of) turn_rows ∙ map-append of (take k (rows_of s)) (x.row ∷ [])))
 
       pub turn_within : consumed + x.consumed ≤ length s
       turn_within = le_trans (le_of_eq (ap (λ y. consumed + y.consumed) e)) next-within
-
-  -- the buffer keeps its length
-  pub buffer_length : (buffer old : List ℕ) → length (rows_counted count s) ≤ column_length buffer → old ≡ buffer_with (take k (rows_of s)) buffer → length old ≡ length buffer
-  unfolding rows_counted
-  buffer_length buffer old fits kept =
-      let all = length-take count (rows_of s) in
-      let some = length-take-le k (rows_of s) f.in_rows in
-      let up = f.up_to in
-      let below = f.in_rows in
-      ap length kept ∙ buffer_long (take k (rows_of s)) buffer (omega arith)
 
   -- where the bytes run out the lines that are left are all there are
   module _ (none : length s ≤ consumed) (short : k < count) where
@@ -157,9 +141,6 @@ module _ (s : List ℕ) (kind count k consumed : ℕ) (complete : Bool) (f : SoF
         let all = ap length (take_all count (rows_of s) (omega arith)) in
         λ i. record { complete = sym (and_left_false (all_of_kind kind (take count (rows_of s))) (ne_eqb (length (take count (rows_of s))) count (λ e. omega (arith, e)))) i; consumed = (f.bytes ∙ bytes_all k count s (let same = f.bytes in omega arith) (omega arith)) i }
 
-    pub buffer_all : (buffer old : List ℕ) → old ≡ buffer_with (take k (rows_of s)) buffer → old ≡ buffer_with (rows_counted count s) buffer
-    buffer_all buffer old e = e ∙ ap (λ rows. buffer_with rows buffer) rows_cut
-
   -- where all are read
   module _ (done : count ≤ k) where
     at_count : k ≡ count
@@ -175,6 +156,3 @@ module _ (s : List ℕ) (kind count k consumed : ℕ) (complete : Bool) (f : SoF
     pub rows_read : take k (rows_of s) ≡ rows_counted count s
     unfolding rows_counted
     rows_read = ap (λ n. take n (rows_of s)) at_count
-
-    pub buffer_read : (buffer old : List ℕ) → old ≡ buffer_with (take k (rows_of s)) buffer → old ≡ buffer_with (rows_counted count s) buffer
-    buffer_read buffer old e = e ∙ ap (λ rows. buffer_with rows buffer) rows_read

@@ -1,7 +1,7 @@
 pub mod RowSteps
 pub mod LineBytes
-pub mod KeptFields
-pub mod BufferLaws
+pub mod RowsMore
+pub mod KeptLines
 pub mod CountedLaws
 pub mod PairLaws
 pub mod SetLaws

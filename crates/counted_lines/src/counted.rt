@@ -1,9 +1,51 @@
-// The lines that a head counts, kept in one buffer: a column to each of the first five fields of a line (01, Script and host).
-ghost use Rattle.std.specs.Prelude.{◌≡◌, ◌*◌, ◌≤◌, ◌<◌, length};
-ghost use Rattle.counted_lines.specs.Counted.{rows_counted, counted_of, kept_fields, column_length, columns_put, column_of, buffer_with};
+// The lines that a head counts, kept in one array (01, Script and host).
+ghost use Rattle.std.specs.Prelude.{◌≡◌, map, slice_set};
+ghost use Rattle.lines.specs.declared.rows.Row.{Row};
+ghost use Rattle.counted_lines.specs.Counted.{rows_counted, counted_of, block_of, class_line_of, with_lines};
 
 use lines::lines::next_row;
 use lines::rows::Row;
+use load_metric::block::Block;
+use netting::netting::ClassLine;
+
+// A line that some head counts, as the head's call takes it.
+pub trait CountedLine: Copy {
+    // What the fields of a row say.
+    ghost line_of: { Row → Self };
+
+    fn from_row(row: Row) -> Self
+        ensures { result ≡ line_of row };
+}
+
+impl CountedLine for Block {
+    ghost line_of = { block_of };
+
+    #[tactic(auto, unfolding(crate::specs::Counted::block_of, lines::specs::Rows::field))]
+    fn from_row(row: Row) -> Block {
+        let n = row.fields;
+        Block {
+            first: n[0],
+            hours: n[1],
+            kw: n[2],
+        }
+    }
+}
+
+impl CountedLine for ClassLine {
+    ghost line_of = { class_line_of };
+
+    #[tactic(auto, unfolding(crate::specs::Counted::class_line_of, lines::specs::Rows::field))]
+    fn from_row(row: Row) -> ClassLine {
+        let n = row.fields;
+        ClassLine {
+            from: n[0],
+            to: n[1],
+            class: n[2],
+            customers: n[3],
+            watts: n[4],
+        }
+    }
+}
 
 // Whether there are as many lines as counted, all of one kind, and how many bytes they take.
 #[derive(Clone, Copy)]
@@ -12,45 +54,28 @@ pub struct CountedLines {
     pub consumed: usize,
 }
 
-// How many fields of a line are kept.
-pub const KEPT_FIELDS: usize = 5;
-
-// Stores the fields of line k, each in its column.
-fn keep_row(buffer: &mut [u64], column: usize, k: usize, row: Row)
-    requires buffer { kept_fields * column ≤ length buffer.old }
-    requires line { k < column }
-    ensures { buffer.new ≡ columns_put kept_fields 0 column k row buffer.old }
+// Keeps line k, where the array has a place for it.
+fn keep<T: Copy>(kept: &mut [T], k: usize, line: T)
+    ensures { kept.new ≡ slice_set kept.old k line }
 {
-    let fields = row.fields;
-    buffer[k] = fields[0];
-    buffer[column + k] = fields[1];
-    buffer[2 * column + k] = fields[2];
-    buffer[3 * column + k] = fields[3];
-    buffer[4 * column + k] = fields[4];
+    if k < kept.len() {
+        kept[k] = line;
+    }
 }
 
-// A column of the buffer, as far as lines are kept in it.
-pub fn column(buffer: &[u64], j: usize, count: usize) -> &[u64]
-    requires column { j < kept_fields }
-    requires lines { count ≤ column_length buffer.now }
-    ensures { result.now ≡ column_of j count buffer.now }
-{
-    let from = j * (buffer.len() / KEPT_FIELDS);
-    let end = from + count;
-    &buffer[from..end]
-}
-
-// Reads as many lines as are counted, or all that are left, and keeps the first five fields of each.
-pub fn read_counted(rest: &[u8], kind: u64, count: u64, buffer: &mut [u64]) -> CountedLines
-    requires buffer { length (rows_counted count rest.now) ≤ column_length buffer.old }
+// Reads as many lines as are counted, or all that are left, and keeps as many as find room.
+pub fn read_counted<T: CountedLine>(
+    rest: &[u8],
+    kind: u64,
+    count: u64,
+    kept: &mut [T],
+) -> CountedLines
     ensures counted { result ≡ counted_of kind count rest.now }
-    ensures kept { buffer.new ≡ buffer_with (rows_counted count rest.now) buffer.old }
+    ensures kept { kept.new ≡ with_lines (map T.line_of (rows_counted count rest.now)) kept.old }
 {
-    let column = buffer.len() / KEPT_FIELDS;
     let mut complete = true;
     let mut consumed = 0;
-    let mut k = 0;
-    while (k as u64) < count {
+    for k in 0..count {
         if rest.len() <= consumed {
             return CountedLines {
                 complete: false,
@@ -58,11 +83,9 @@ pub fn read_counted(rest: &[u8], kind: u64, count: u64, buffer: &mut [u64]) -> C
             };
         }
         let next = next_row(&rest[consumed..]);
-        let row = next.row;
-        complete = complete & (row.kind == kind);
-        keep_row(buffer, column, k, row);
+        complete &= next.row.kind == kind;
+        keep(kept, k as usize, T::from_row(next.row));
         consumed += next.consumed;
-        k += 1;
     }
     CountedLines { complete, consumed }
 }

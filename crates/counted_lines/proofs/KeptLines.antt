@@ -1,0 +1,40 @@
+-- Lines kept in the front of an array. Assumes nothing.
+use Prim.Native.Nat.{ℕ, ◌≤◌}
+use mathlib.Core.Path.{◌≡◌, refl, ap, ◌∙◌}
+use mathlib.Core.List.{List, [], ◌∷◌, ◌++◌}
+use native.Mathlib.Omega.{arith}
+use lib.ListN.{length, take, drop, set, length-append, length-take, length-drop}
+use lib.Seq.{take_all, take-append-le}
+use Rattle.counted_lines.specs.Counted.{with_lines}
+
+module _ {T : Type 0} where
+  -- before any line is read the array is as it was
+  pub none_kept : (array : List T) → array ≡ with_lines [] array
+  unfolding with_lines
+  none_kept [] = refl
+  none_kept (x ∷ array) = refl
+
+  -- a line more is put after those that are there, and where there is no room nothing is
+  pub one_kept : (lines : List T) (line : T) (array : List T) → set (with_lines lines array) (length lines) line ≡ with_lines (lines ++ (line ∷ [])) array
+  unfolding with_lines
+  one_kept [] line [] = refl
+  one_kept [] line (x ∷ []) = refl
+  one_kept [] line (x ∷ y ∷ array) = refl
+  one_kept (a ∷ lines) line [] = refl
+  one_kept (a ∷ lines) line (x ∷ array) = ap (λ t. a ∷ t) (one_kept lines line array)
+
+  pub kept_long : (lines array : List T) → length (with_lines lines array) ≡ length array
+  unfolding with_lines
+  kept_long lines array =
+      let all = length-append (take (length array) lines) (drop (length lines) array) in
+      let front = length-take (length array) lines in
+      let back = length-drop (length lines) array in
+      omega arith
+
+  -- where there is room for all lines they stand in front
+  pub all_kept : (lines array : List T) → length lines ≤ length array → take (length lines) (with_lines lines array) ≡ lines
+  unfolding with_lines
+  all_kept lines array fits =
+      ap (λ front. take (length lines) (front ++ drop (length lines) array)) (take_all (length array) lines fits)
+      ∙ take-append-le (length lines) lines (drop (length lines) array) (omega arith)
+      ∙ take_all (length lines) lines (omega arith)
