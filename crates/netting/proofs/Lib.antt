@@ -5,3 +5,4 @@ pub mod Pairs
 pub mod FitLines
 pub mod NettedLines
 pub mod ShareCells
+pub mod FromFn

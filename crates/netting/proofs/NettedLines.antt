@@ -1,21 +1,21 @@
 -- From the fit lines to the netting that the definition gives. Assumes nothing.
-use Prim.Native.Nat.{ℕ, ◌-◌, ◌*◌, ◌/◌, ◌%◌, ◌≤◌, ◌<◌}
+use Prim.Native.Nat.{ℕ, ◌-◌, ◌*◌, ◌/◌, ◌≤◌, ◌<◌}
 use mathlib.Core.Path.{◌≡◌, sym, ap, ◌∙◌}
 use mathlib.Core.Bool.{true, false, cond, not, ◌&&◌, ◌||◌}
 use mathlib.Core.List.{List}
-use lib.ListN.{length, replicate, length-replicate, get_or-replicate}
+use lib.ListN.{length}
 use lib.Dec.{leb, ltb, eqb}
 use borrow.Author.Tests.{leb-true, leb-false, ltb-false, not-true}
 use Rattle.netting.specs.declared.netting.ClassLine.{ClassLine}
-use Rattle.netting.specs.declared.netting.Netting.{Netting}
+use Rattle.std.specs.Prelude.{Some, None}
 use Rattle.tariff.specs.Sum.{when_true, any_of}
 use Rattle.netting.specs.Migration.{watts_one_way, netted}
 use Rattle.tariff.specs.Ranges.{within}
 use Rattle.netting.specs.ClassRanges.{class_line_out_of_range, class_fields_out_of_range}
 use Rattle.netting.specs.Netting.{same_counts, pair_at, pair_cells, SummableLines, class_line_at, class_lines_of, unfit_line, lines_fit, watts_to, netting_of}
 use Rattle.tariff.proofs.Tests.{or_unmet, and_both, none_below}
-use Rattle.tariff.proofs.Lists.{sum_tabulate, list_is}
-use Rattle.netting.proofs.FitLines.{unfit_at, any_unfit, length_tests, same_lengths_lem}
+use Rattle.tariff.proofs.Lists.{sum_tabulate}
+use Rattle.netting.proofs.FitLines.{unfit_at, any_line, length_tests, same_lengths_lem}
 use Rattle.netting.proofs.Pairs.{HoldsWatts, same_cells}
 
 -- what is known of a line that is not unfit
@@ -37,7 +37,7 @@ module _ (froms tos classes customers watts : List ℕ) where
       let counted = and_both (leb (length froms) 64) (same_counts froms tos classes customers watts) both.0 in
       let same = same_lengths_lem froms tos classes customers watts counted.1 in
       let none : (k : ℕ) → k < length froms → unfit_at froms tos classes customers watts k ≡ false =
-      none_below (length froms) (unfit_at froms tos classes customers watts) (sym (any_unfit froms tos classes customers watts) ∙ not-true (any_of (class_lines_of froms tos classes customers watts) unfit_line) both.1) in
+      none_below (length froms) (unfit_at froms tos classes customers watts) (sym (any_line froms tos classes customers watts unfit_line) ∙ not-true (any_of (class_lines_of froms tos classes customers watts) unfit_line) both.1) in
       record {
         few = leb-true (length froms) 64 counted.0;
         of_tos = same.of_tos;
@@ -52,17 +52,15 @@ module _ (froms tos classes customers watts : List ℕ) where
   unfolding watts_one_way watts_to class_lines_of
   one_way i j = sum_tabulate (length froms) (class_line_at froms tos classes customers watts) (λ l. when_true (eqb l.from i && eqb l.to j) (l.customers * l.watts))
 
-  pub netting_fit : (cells m : List ℕ) → lines_fit froms tos classes customers watts ≡ true → HoldsWatts froms tos customers watts (length froms) cells → m ≡ pair_cells (λ i j. (pair_at cells i j - pair_at cells j i) / 1000) → ◌≡◌ {A = Netting} (record { fit = true; m = m }) (netting_of froms tos classes customers watts)
+  pub netting_fit : (cells m : List ℕ) → lines_fit froms tos classes customers watts ≡ true → HoldsWatts froms tos customers watts (length froms) cells → m ≡ pair_cells (λ i j. (pair_at cells i j - pair_at cells j i) / 1000) → Some m ≡ netting_of froms tos classes customers watts
   unfolding netting_of netted
   netting_fit cells m e holds q =
-      λ t. record { fit = sym e t; m = (q ∙ same_cells (λ i j. (pair_at cells i j - pair_at cells j i) / 1000) (λ i j. cond (lines_fit froms tos classes customers watts) (netted (class_lines_of froms tos classes customers watts) i j) 0) cell) t }
+      ap Some (q ∙ same_cells (λ i j. (pair_at cells i j - pair_at cells j i) / 1000) (netted (class_lines_of froms tos classes customers watts)) cell)
+      ∙ sym (ap (λ b. cond b (Some (pair_cells (netted (class_lines_of froms tos classes customers watts)))) None) e)
     where
-      cell : (i j : ℕ) → i < 8 → j < 8 → (pair_at cells i j - pair_at cells j i) / 1000 ≡ cond (lines_fit froms tos classes customers watts) (netted (class_lines_of froms tos classes customers watts) i j) 0
-      cell i j li lj =
-          (λ t. ((holds i j li lj ∙ sym (one_way i j)) t - (holds j i lj li ∙ sym (one_way j i)) t) / 1000)
-          ∙ sym (ap (λ b. cond b (netted (class_lines_of froms tos classes customers watts) i j) 0) e)
+      cell : (i j : ℕ) → i < 8 → j < 8 → (pair_at cells i j - pair_at cells j i) / 1000 ≡ netted (class_lines_of froms tos classes customers watts) i j
+      cell i j li lj = λ t. ((holds i j li lj ∙ sym (one_way i j)) t - (holds j i lj li ∙ sym (one_way j i)) t) / 1000
 
-  pub netting_unfit : lines_fit froms tos classes customers watts ≡ false → ◌≡◌ {A = Netting} (record { fit = false; m = replicate 64 0 }) (netting_of froms tos classes customers watts)
-  unfolding netting_of pair_cells
-  netting_unfit e =
-      λ t. record { fit = sym e t; m = list_is 64 (λ k. cond (lines_fit froms tos classes customers watts) (netted (class_lines_of froms tos classes customers watts) (k / 8) (k % 8)) 0) (replicate 64 0) (length-replicate {A = ℕ} 64 0) (λ k l. get_or-replicate 64 k 0 0 l ∙ sym (ap (λ b. cond b (netted (class_lines_of froms tos classes customers watts) (k / 8) (k % 8)) 0) e)) t }
+  pub netting_unfit : lines_fit froms tos classes customers watts ≡ false → None ≡ netting_of froms tos classes customers watts
+  unfolding netting_of
+  netting_unfit e = sym (ap (λ b. cond b (Some (pair_cells (netted (class_lines_of froms tos classes customers watts)))) None) e)

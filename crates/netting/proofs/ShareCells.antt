@@ -1,22 +1,18 @@
 -- The shares of a column, cell by cell, and the transfer of a column, holder by holder. Assumes nothing.
-use Prim.Native.Nat.{ℕ, ◌+◌, ◌-◌, ◌*◌, ◌/◌, ◌%◌, ◌^◌, ◌≤◌, ◌<◌, zero-le}
-use mathlib.Core.Path.{◌≡◌, sym, ap, ◌∙◌, subst}
-use mathlib.Core.Bool.{Bool, true, false, cond}
+use Prim.Native.Nat.{ℕ, ◌+◌, ◌-◌, ◌*◌, ◌/◌, ◌%◌, ◌^◌, ◌≤◌, ◌<◌}
+use mathlib.Core.Path.{◌≡◌, refl, sym, ap, ◌∙◌, subst}
+use mathlib.Core.Bool.{cond}
 use mathlib.Core.List.{List}
-use mathlib.Core.Logic.{◌⊎◌, inl, inr}
 use native.Mathlib.Nat.{div-zero, mul-zero, zero-div, le_trans, le_of_eq, lt_of_le_of_lt}
 use native.Mathlib.Omega.{arith}
-use lib.ListN.{length, get_or, set}
-use lib.Seq.{get_or-set_same, get_or-set_other}
-use lib.Dec.{ltb, eqb}
-use borrow.Author.Tests.{ltb-true, ltb-false, eqb-true, eqb-false, lt-ltb, le-ltb}
+use lib.ListN.{get_or}
+use borrow.Author.Tests.{lt-ltb, le-ltb}
 use Rattle.tariff.specs.Sum.{sum_to, tabulate}
 use Rattle.netting.specs.Migration.{share, shares, transferred}
-use Rattle.netting.specs.Netting.{pair_at, holder_at, pair_cells, column_cells, ProductsFit, PartsFit, share_cells, transferred_cells}
-use Rattle.tariff.proofs.Sums.{sum_le, term_le_sum}
+use Rattle.netting.specs.Netting.{pair_at, holder_at, pair_cells, column_cells, ProductsFit, PartsFit, share_cells, transferred_entry, transferred_cells}
+use Rattle.tariff.proofs.Sums.{sum_ext, sum_le, term_le_sum}
 use Rattle.tariff.proofs.Lists.{length_tabulate, at_tabulate, list_is}
 use Rattle.netting.proofs.Pairs.{cell_of_pair}
-use Rattle.tariff.proofs.Tests.{decided}
 use Rattle.netting.proofs.Transfers.{transfer_sum}
 
 -- of no load nothing goes
@@ -42,44 +38,28 @@ pub product_fits : (column m : List ℕ) → ProductsFit column m → (k : ℕ) 
 unfolding holder_at
 product_fits column m fits k l = subst (λ x. get_or column (k / 8) 0 * x < 2 ^ 64) (cell_of_pair m k) (fits (k / 8) (k % 8) (omega arith) (omega arith))
 
+-- where the parts stand that a holder gives, and those that it gets
+pub given_sum : (parts : List ℕ) (holder n : ℕ) → sum_to n (λ j. get_or parts (holder * 8 + j * 1) 0) ≡ sum_to n (λ j. pair_at parts holder j)
+unfolding pair_at
+given_sum parts holder n = sum_ext n (λ j l. ap (λ k. get_or parts k 0) (let e : holder * 8 + j * 1 ≡ holder * 8 + j = omega arith in e))
+
+pub gained_sum : (parts : List ℕ) (holder n : ℕ) → sum_to n (λ j. get_or parts (holder + j * 8) 0) ≡ sum_to n (λ j. pair_at parts j holder)
+unfolding pair_at
+gained_sum parts holder n = sum_ext n (λ j l. ap (λ k. get_or parts k 0) (let e : holder + j * 8 ≡ j * 8 + holder = omega arith in e))
+
 module _ (n : ℕ) (column parts : List ℕ) where
-  -- the column of which the first i entries are transferred
-  abbrev pub transferred_to : ℕ → ℕ → ℕ
-  transferred_to i q = cond (ltb q i) (transferred n (pair_at parts) (holder_at column) q) (holder_at column q)
-
-  abbrev pub TransferredTo : ℕ → List ℕ → Type 0
-  TransferredTo i next = (q : ℕ) → q < 8 → get_or next q 0 ≡ transferred_to i q
-
-  pub none_transferred : TransferredTo 0 column
-  unfolding holder_at
-  none_transferred q l = sym (ap (λ b. cond b (transferred n (pair_at parts) (holder_at column) q) (holder_at column q)) (le-ltb q 0 zero-le))
-
-  pub one_more_transferred : (i : ℕ) (next : List ℕ) (v : ℕ) → i < length next → v ≡ transferred n (pair_at parts) (holder_at column) i → TransferredTo i next → TransferredTo (i + 1) (set next i v)
-  one_more_transferred i next v l e old q b = go (decided (eqb q i))
-    where
-      keep : (t u : Bool) → t ≡ u → cond t (transferred n (pair_at parts) (holder_at column) q) (holder_at column q) ≡ cond u (transferred n (pair_at parts) (holder_at column) q) (holder_at column q)
-      keep t u s = ap (λ b. cond b (transferred n (pair_at parts) (holder_at column) q) (holder_at column q)) s
-
-      same-side : (q ≡ i → ⊥) → ltb q i ≡ ltb q (i + 1)
-      same-side ne = side (decided (ltb q i))
-        where
-          side : (ltb q i ≡ true) ⊎ (ltb q i ≡ false) → ltb q i ≡ ltb q (i + 1)
-          side (inl t) = t ∙ sym (lt-ltb q (i + 1) (let h = ltb-true q i t in omega arith))
-          side (inr t) = t ∙ sym (le-ltb q (i + 1) (let h = ltb-false q i t in omega (arith, ne)))
-
-      go : (eqb q i ≡ true) ⊎ (eqb q i ≡ false) → get_or (set next i v) q 0 ≡ transferred_to (i + 1) q
-      go (inl t) =
-          let s = eqb-true q i t in
-          ap (λ k. get_or (set next i v) k 0) s
-          ∙ get_or-set_same next i v 0 l
-          ∙ e
-          ∙ ap (transferred n (pair_at parts) (holder_at column)) (sym s)
-          ∙ sym (keep (ltb q (i + 1)) true (lt-ltb q (i + 1) (omega arith)))
-      go (inr t) = let ne = eqb-false q i t in get_or-set_other next i q v 0 ne ∙ old q b ∙ keep (ltb q i) (ltb q (i + 1)) (same-side ne)
-
-  pub all_transferred : (i : ℕ) (next : List ℕ) → length next ≡ 8 → i ≤ n → n ≤ i → TransferredTo i next → next ≡ transferred_cells n column parts
+  -- the entries are those of the column
+  pub all_entries : tabulate 8 (transferred_entry n column parts) ≡ transferred_cells n column parts
   unfolding transferred_cells column_cells
-  all_transferred i next len below above old = list_is 8 (transferred_to n) next len (λ q l. old q l ∙ ap (λ k. transferred_to k q) (let e : i ≡ n = omega arith in e))
+  all_entries = refl
+
+  -- the two cases of an entry
+  pub entry_past : (i : ℕ) → n ≤ i → get_or column i 0 ≡ transferred_entry n column parts i
+  unfolding holder_at
+  entry_past i l = sym (ap (λ b. cond b (transferred n (pair_at parts) (holder_at column) i) (holder_at column i)) (le-ltb i n l))
+
+  pub entry_moved : (i : ℕ) → i < n → transferred n (pair_at parts) (holder_at column) i ≡ transferred_entry n column parts i
+  entry_moved i l = sym (ap (λ b. cond b (transferred n (pair_at parts) (holder_at column) i) (holder_at column i)) (lt-ltb i n l))
 
   module _ (fits : PartsFit n column parts) where
     -- nothing that the transfer forms passes 64 bits

@@ -2,3 +2,4 @@
 pub mod Migration
 pub mod ClassRanges
 pub mod Netting
+pub mod Columns

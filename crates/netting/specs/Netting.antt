@@ -1,7 +1,6 @@
 -- Class lines and pairs of holders as code has them: a list of numbers for each field, and 64 cells for the pairs of eight holders.
-use Rattle.std.specs.Prelude.{ℕ, ◌+◌, ◌*◌, ◌/◌, ◌%◌, ◌^◌, ◌≤◌, ◌<◌, ◌≡◌, Bool, cond, not, ◌&&◌, ◌||◌, List, length, get_or, leb, ltb, eqb}
+use Rattle.std.specs.Prelude.{ℕ, ◌+◌, ◌*◌, ◌/◌, ◌%◌, ◌^◌, ◌≤◌, ◌<◌, ◌≡◌, Bool, cond, not, ◌&&◌, ◌||◌, List, Option, Some, None, length, get_or, leb, ltb, eqb}
 use Rattle.netting.specs.declared.netting.ClassLine.{ClassLine}
-use Rattle.netting.specs.declared.netting.Netting.{Netting}
 use Rattle.tariff.specs.Sizes.{max_holders, holder_pairs, max_class_lines, max_customers, max_watts}
 use Rattle.tariff.specs.Sum.{when_true, sum_to, any_of, tabulate}
 use Rattle.netting.specs.Migration.{netted, shares, transferred}
@@ -66,11 +65,10 @@ pub record SummableLines (froms tos customers watts : List ℕ) : Type 0 where
 unfoldable pub watts_to : List ℕ → List ℕ → List ℕ → List ℕ → ℕ → ℕ → ℕ → ℕ
 watts_to froms tos customers watts n i j = sum_to n (λ k. when_true (eqb (get_or froms k 0) i && eqb (get_or tos k 0) j) (get_or customers k 0 * get_or watts k 0))
 
--- the m of each pair, or 0 for every pair where the lines are unfit
-unfoldable pub netting_of : List ℕ → List ℕ → List ℕ → List ℕ → List ℕ → Netting
+-- the m of each pair, or nothing where the lines are unfit
+unfoldable pub netting_of : List ℕ → List ℕ → List ℕ → List ℕ → List ℕ → Option (List ℕ)
 netting_of froms tos classes customers watts =
-    let fit = lines_fit froms tos classes customers watts in
-    record { fit = fit; m = pair_cells (λ i j. cond fit (netted (class_lines_of froms tos classes customers watts) i j) 0) }
+    cond (lines_fit froms tos classes customers watts) (Some (pair_cells (netted (class_lines_of froms tos classes customers watts)))) None
 
 -- the bounds of every reachable ledger that a share rests on: each product of a record and an m fits 64 bits
 abbrev pub ProductsFit : List ℕ → List ℕ → Type 0
@@ -86,6 +84,9 @@ pub record PartsFit (n : ℕ) (column parts : List ℕ) : Type 0 where
 unfoldable pub share_cells : List ℕ → List ℕ → List ℕ → List ℕ
 share_cells column m load = pair_cells (shares (pair_at m) (holder_at load) (holder_at column))
 
--- the column after the parts were transferred, for the first n holders
+-- what a holder has after the parts were transferred between the first n holders, and the column of it
+abbrev pub transferred_entry : ℕ → List ℕ → List ℕ → ℕ → ℕ
+transferred_entry n column parts i = cond (ltb i n) (transferred n (pair_at parts) (holder_at column) i) (holder_at column i)
+
 unfoldable pub transferred_cells : ℕ → List ℕ → List ℕ → List ℕ
-transferred_cells n column parts = column_cells (λ i. cond (ltb i n) (transferred n (pair_at parts) (holder_at column) i) (holder_at column i))
+transferred_cells n column parts = column_cells (transferred_entry n column parts)

@@ -1,11 +1,10 @@
 // Class lines, and their netting by pair of holders (01, Migration).
-ghost use Rattle.std.specs.Prelude.{◌≡◌, not, ℕ, ◌+◌, ◌-◌, ◌*◌, ◌/◌, ◌<◌, ◌≤◌, length};
+ghost use Rattle.std.specs.Prelude.{◌≡◌, Bool, ℕ, ◌+◌, ◌-◌, ◌*◌, ◌/◌, ◌<◌, ◌≤◌, length};
 ghost use Rattle.tariff.specs.Sizes.{max_holders, max_customers, max_watts, watts_per_kw};
 ghost use Rattle.tariff.specs.Sum.{any_of};
 ghost use Rattle.netting.specs.ClassRanges.{class_fields_out_of_range};
-ghost use Rattle.netting.specs.Netting.{SameLengths, same_counts, SummableLines, pair_at, pair_cells, netting_of, class_lines_of, unfit_line, lines_fit, watts_to};
+ghost use Rattle.netting.specs.Netting.{pair_at, pair_cells, unfit_line};
 
-use tariff::limit::saturating_sub;
 use tariff::sizes::{
     HOLDER_PAIRS, LAST_CLASS, MAX_CLASS_LINES, MAX_CUSTOMERS, MAX_HOLDERS, MAX_WATTS, WATTS_PER_KW,
 };
@@ -20,66 +19,22 @@ pub struct ClassLine {
     pub watts: u64,
 }
 
-// Whether class lines are fit to be netted, and the kW from holder i to holder j at i * 8 + j: all 0 where they are not.
+// Class lines whose fields stand in five slices: line k has the k-th number of each.
 #[derive(Clone, Copy)]
-pub struct Netting {
-    pub fit: bool,
-    pub m: [u64; HOLDER_PAIRS],
+pub struct ClassColumns<'a> {
+    pub froms: &'a [u64],
+    pub tos: &'a [u64],
+    pub classes: &'a [u64],
+    pub customers: &'a [u64],
+    pub watts: &'a [u64],
 }
 
 // A line with a field outside its range: class 1 to 8, customers and average watts up to 9,999,999.
+#[tactic(auto, unfolding(crate::specs::ClassRanges::class_fields_out_of_range, tariff::specs::Ranges::within))]
 pub fn class_fields_out_of_range(class: u64, customers: u64, watts: u64) -> bool
     ensures { result ≡ class_fields_out_of_range class customers watts }
 {
-    !((1 <= class) & (class <= LAST_CLASS)) | (MAX_CUSTOMERS < customers) | (MAX_WATTS < watts)
-}
-
-// A line that can be netted: holders below 8, and every field in its range.
-fn line_fits(from: u64, to: u64, class: u64, customers: u64, watts: u64) -> bool
-    ensures { result ≡ not (unfit_line (record { from = from; to = to; class = class; customers = customers; watts = watts })) }
-{
-    let holders = (from < MAX_HOLDERS as u64) & (to < MAX_HOLDERS as u64);
-    holders & !class_fields_out_of_range(class, customers, watts)
-}
-
-// Whether every line can be netted.
-fn all_fit(froms: &[u64], tos: &[u64], classes: &[u64], customers: &[u64], watts: &[u64]) -> bool
-    requires { SameLengths froms.now tos.now classes.now customers.now watts.now }
-    ensures { result ≡ not (any_of (class_lines_of froms.now tos.now classes.now customers.now watts.now) unfit_line) }
-{
-    let mut k = 0;
-    while k < froms.len() {
-        if !line_fits(froms[k], tos[k], classes[k], customers[k], watts[k]) {
-            return false;
-        }
-        k += 1;
-    }
-    true
-}
-
-// Whether each slice has as many numbers as the first.
-pub fn same_counts(
-    froms: &[u64],
-    tos: &[u64],
-    classes: &[u64],
-    customers: &[u64],
-    watts: &[u64],
-) -> bool
-    ensures { result ≡ same_counts froms.now tos.now classes.now customers.now watts.now }
-{
-    let n = froms.len();
-    (tos.len() == n) & (classes.len() == n) & (customers.len() == n) & (watts.len() == n)
-}
-
-// Whether the lines can be netted: at most 64, as many numbers of each field, each line fit.
-fn lines_fit(froms: &[u64], tos: &[u64], classes: &[u64], customers: &[u64], watts: &[u64]) -> bool
-    ensures { result ≡ lines_fit froms.now tos.now classes.now customers.now watts.now }
-{
-    let counted = same_counts(froms, tos, classes, customers, watts);
-    if (froms.len() <= MAX_CLASS_LINES) & counted {
-        return all_fit(froms, tos, classes, customers, watts);
-    }
-    false
+    !(1..=LAST_CLASS).contains(&class) || MAX_CUSTOMERS < customers || MAX_WATTS < watts
 }
 
 // The watts of a line: customers × average watts.
@@ -90,58 +45,103 @@ fn line_watts(customers: u64, watts: u64) -> u64
     customers * watts
 }
 
-// The watts of the lines, summed one way for each pair of holders.
-fn watts_of_pairs(
-    froms: &[u64],
-    tos: &[u64],
-    customers: &[u64],
-    watts: &[u64],
-) -> [u64; HOLDER_PAIRS]
-    requires { SummableLines froms.now tos.now customers.now watts.now }
-    ensures { (i j : ℕ) → i < max_holders → j < max_holders → pair_at result i j ≡ watts_to froms.now tos.now customers.now watts.now (length froms.now) i j }
-{
-    let mut cells = [0u64; HOLDER_PAIRS];
-    let mut k = 0;
-    while k < froms.len() {
-        let line = line_watts(customers[k], watts[k]);
-        let pair = (froms[k] * MAX_HOLDERS as u64 + tos[k]) as usize;
-        cells[pair] = cells[pair] + line;
-        k += 1;
-    }
-    cells
-}
-
 // The m of each pair: what the way there has more than the way back, in kW rounded down.
 fn netted_pairs(watts: [u64; HOLDER_PAIRS]) -> [u64; HOLDER_PAIRS]
     ensures { result ≡ pair_cells (λ i j. (pair_at watts i j - pair_at watts j i) / watts_per_kw) }
 {
-    let mut m = [0u64; HOLDER_PAIRS];
-    let mut k = 0;
-    while k < HOLDER_PAIRS {
+    std::array::from_fn(|k| {
         let back = k % MAX_HOLDERS * MAX_HOLDERS + k / MAX_HOLDERS;
-        m[k] = saturating_sub(watts[k], watts[back]) / WATTS_PER_KW;
-        k += 1;
-    }
-    m
+        watts[k].saturating_sub(watts[back]) / WATTS_PER_KW
+    })
 }
 
-// The m of each pair of eight holders, from class lines whose fields stand in five slices. Lines that are unfit reach no sum.
-pub fn net_lines(
-    froms: &[u64],
-    tos: &[u64],
-    classes: &[u64],
-    customers: &[u64],
-    watts: &[u64],
-) -> Netting
-    ensures { result ≡ netting_of froms.now tos.now classes.now customers.now watts.now }
-{
-    if lines_fit(froms, tos, classes, customers, watts) {
-        let pairs = watts_of_pairs(froms, tos, customers, watts);
-        let m = netted_pairs(pairs);
-        return Netting { fit: true, m };
+impl ClassLine {
+    // A line that must not reach the sums: a holder past the eighth, or a field outside its range.
+    #[tactic(auto, unfolding(crate::specs::Netting::unfit_line, crate::specs::ClassRanges::class_line_out_of_range))]
+    fn is_unfit(self) -> bool
+        ensures { result ≡ unfit_line self }
+    {
+        MAX_HOLDERS as u64 <= self.from
+            || MAX_HOLDERS as u64 <= self.to
+            || class_fields_out_of_range(self.class, self.customers, self.watts)
     }
-    Netting {
-        fit: false,
-        m: [0u64; HOLDER_PAIRS],
+}
+
+impl<'a> ClassColumns<'a> {
+    ghost use Rattle.netting.specs.declared.netting.ClassLine.{ClassLine};
+    ghost use Rattle.netting.specs.Columns.{SameLengthsIn, SummableIn, lines_in, line_in, same_counts_in, fit_in, netting_in, watts_in};
+
+    // Whether each slice has as many numbers as the first.
+    #[tactic(auto, unfolding(crate::specs::Netting::same_counts))]
+    pub fn same_counts(self) -> bool
+        ensures { result ≡ same_counts_in self.entry }
+    {
+        let n = self.froms.len();
+        self.tos.len() == n
+            && self.classes.len() == n
+            && self.customers.len() == n
+            && self.watts.len() == n
+    }
+
+    // Line k.
+    pub fn line(self, k: usize) -> ClassLine
+        requires { SameLengthsIn self × (k < length self.froms.now) }
+        ensures { result ≡ line_in self.entry k }
+    {
+        ClassLine {
+            from: self.froms[k],
+            to: self.tos[k],
+            class: self.classes[k],
+            customers: self.customers[k],
+            watts: self.watts[k],
+        }
+    }
+
+    // Whether some line passes a test.
+    pub fn any<F: Fn(ClassLine) -> bool>(self, test: F) -> bool
+        requires same { SameLengthsIn self }
+        requires callable { F.IsAlwaysCallable test }
+        ensures { (passes : ClassLine → Bool) → ((line : ClassLine) (r : Bool) → F.post test line r → r ≡ passes line) → result ≡ any_of (lines_in self.entry) passes }
+    {
+        for k in 0..self.froms.len() {
+            if test(self.line(k)) {
+                return true;
+            }
+        }
+        false
+    }
+
+    // Whether the lines can be netted: at most 64, as many numbers of each field, no line unfit.
+    #[tactic(auto, using(crate::proofs::FitLines::same_lengths_lem), unfolding(crate::specs::Netting::lines_fit))]
+    fn fit(self) -> bool
+        ensures { result ≡ fit_in self.entry }
+    {
+        self.froms.len() <= MAX_CLASS_LINES
+            && self.same_counts()
+            && !self.any(|line| line.is_unfit())
+    }
+
+    // The watts of the lines, summed one way for each pair of holders.
+    fn watts_of_pairs(self) -> [u64; HOLDER_PAIRS]
+        requires { SummableIn self }
+        ensures { (i j : ℕ) → i < max_holders → j < max_holders → pair_at result i j ≡ watts_in self.entry (length self.entry.froms.now) i j }
+    {
+        let mut cells = [0u64; HOLDER_PAIRS];
+        for k in 0..self.froms.len() {
+            let line = line_watts(self.customers[k], self.watts[k]);
+            let pair = (self.froms[k] * MAX_HOLDERS as u64 + self.tos[k]) as usize;
+            cells[pair] += line;
+        }
+        cells
+    }
+
+    // The m of each pair of eight holders, or nothing where the lines are unfit: such lines reach no sum.
+    pub fn net(self) -> Option<[u64; HOLDER_PAIRS]>
+        ensures { result ≡ netting_in self.entry }
+    {
+        if !self.fit() {
+            return None;
+        }
+        Some(netted_pairs(self.watts_of_pairs()))
     }
 }

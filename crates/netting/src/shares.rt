@@ -1,9 +1,9 @@
 // The shares of records that a migration moves, and the columns after they have moved (01, Migration).
-ghost use Rattle.std.specs.Prelude.{◌≡◌, ◌*◌, ◌^◌, ◌<◌, ◌≤◌, length};
+ghost use Rattle.std.specs.Prelude.{◌≡◌, ℕ, ◌+◌, ◌*◌, ◌^◌, ◌<◌, ◌≤◌, length, slice_index};
 ghost use Rattle.tariff.specs.Sizes.{max_holders, holder_pairs};
 ghost use Rattle.tariff.specs.Sum.{sum_to};
 ghost use Rattle.netting.specs.Migration.{share};
-ghost use Rattle.netting.specs.Netting.{pair_at, ProductsFit, PartsFit, share_cells, transferred_cells};
+ghost use Rattle.netting.specs.Netting.{pair_at, ProductsFit, PartsFit, share_cells, transferred_entry, transferred_cells};
 
 use tariff::sizes::{HOLDER_PAIRS, MAX_HOLDERS};
 
@@ -12,10 +12,7 @@ fn share_of(v: u64, m: u64, load: u64) -> u64
     requires { v * m < 2 ^ 64 }
     ensures { result ≡ share v m load }
 {
-    if m == 0 {
-        return 0;
-    }
-    if load == 0 {
+    if m == 0 || load == 0 {
         return 0;
     }
     v * m / load
@@ -30,14 +27,22 @@ pub fn shares_of(
     requires { ProductsFit column m }
     ensures { result ≡ share_cells column m load }
 {
-    let mut parts = [0u64; HOLDER_PAIRS];
-    let mut k = 0;
-    while k < HOLDER_PAIRS {
+    std::array::from_fn(|k| {
         let loser = k / MAX_HOLDERS;
-        parts[k] = share_of(column[loser], m[k], load[loser]);
-        k += 1;
+        share_of(column[loser], m[k], load[loser])
+    })
+}
+
+// The sum of n parts, from the first on and so many places apart.
+fn sum_of_parts(parts: &[u64], first: usize, apart: usize, n: usize) -> u64
+    requires { ((j : ℕ) → j < n → first + j * apart < length parts.now) × (sum_to n (λ j. slice_index parts.now (first + j * apart)) < 2 ^ 64) }
+    ensures { result ≡ sum_to n (λ j. slice_index parts.now (first + j * apart)) }
+{
+    let mut sum = 0;
+    for j in 0..n {
+        sum += parts[first + j * apart];
     }
-    parts
+    sum
 }
 
 // What one holder gives to the first n.
@@ -45,13 +50,7 @@ pub fn given_by(parts: &[u64], holder: usize, n: usize) -> u64
     requires { (length parts.now ≡ holder_pairs) × (holder < max_holders) × (n ≤ max_holders) × (sum_to n (λ j. pair_at parts.now holder j) < 2 ^ 64) }
     ensures { result ≡ sum_to n (λ j. pair_at parts.now holder j) }
 {
-    let mut sum = 0;
-    let mut j = 0;
-    while j < n {
-        sum += parts[holder * MAX_HOLDERS + j];
-        j += 1;
-    }
-    sum
+    sum_of_parts(parts, holder * MAX_HOLDERS, 1, n)
 }
 
 // What one holder gets from the first n.
@@ -59,13 +58,18 @@ fn gained_by(parts: &[u64], holder: usize, n: usize) -> u64
     requires { (length parts.now ≡ holder_pairs) × (holder < max_holders) × (n ≤ max_holders) × (sum_to n (λ j. pair_at parts.now j holder) < 2 ^ 64) }
     ensures { result ≡ sum_to n (λ j. pair_at parts.now j holder) }
 {
-    let mut sum = 0;
-    let mut j = 0;
-    while j < n {
-        sum += parts[j * MAX_HOLDERS + holder];
-        j += 1;
+    sum_of_parts(parts, holder, MAX_HOLDERS, n)
+}
+
+// What a holder has after the parts were transferred between the first n: one past them has what it had.
+fn entry_after(column: &[u64; MAX_HOLDERS], parts: &[u64], n: usize, i: usize) -> u64
+    requires { (length parts.now ≡ holder_pairs) × PartsFit n column.now parts.now × (i < max_holders) }
+    ensures { result ≡ transferred_entry n column.now parts.now i }
+{
+    if n <= i {
+        return column[i];
     }
-    sum
+    column[i] - given_by(parts, i, n) + gained_by(parts, i, n)
 }
 
 // The column after the parts were transferred between the first n holders.
@@ -73,12 +77,5 @@ pub fn transferred_column(column: [u64; MAX_HOLDERS], parts: &[u64], n: usize) -
     requires { (length parts.now ≡ holder_pairs) × PartsFit n column parts.now }
     ensures { result ≡ transferred_cells n column parts.now }
 {
-    let mut next = column;
-    let mut i = 0;
-    while i < n {
-        let kept = column[i] - given_by(parts, i, n);
-        next[i] = kept + gained_by(parts, i, n);
-        i += 1;
-    }
-    next
+    std::array::from_fn(|i| entry_after(&column, parts, n, i))
 }

@@ -1,21 +1,11 @@
--- `netting::shares::shares_of` meets its contract: the cells passed so far hold their shares. Assumes nothing.
-use native.Mathlib.Nat.{not-suc-le-zero}
-use native.Mathlib.Omega.{arith}
-use lib.ListN.{length-set}
-use mathlib.Core.Path.{refl, ◌∙◌}
-use Prim.Native.Nat.{zero-le}
+-- `netting::shares::shares_of` meets its contract: each cell holds its share. Assumes nothing.
+use Rattle.std.proofs.Common.{◌∙◌, rules}
 use Rattle.netting.proofs.ShareCells.{share_cell, share_cells_lem, product_fits}
-use Rattle.tariff.proofs.Lists.{filled_more, filled_all}
+use Rattle.netting.proofs.FromFn.{made_list, made_callable}
 use Rattle.netting.proofs.shares.shares_of.Goals as goal
 
-pub loop-k-init : goal.loop-k-init
-loop-k-init c = (zero-le, refl, λ q l. absurd (not-suc-le-zero l))
-
-pub share_of-requires : goal.share_of-requires
-share_of-requires c = product_fits _ _ c.requires c.loop-k.k c.loop-k-test.true
-
-pub loop-k-preserved : goal.loop-k-preserved
-loop-k-preserved c = let a = c.args in let inv = c.loop-k.invariant in let here = c.loop-k-test.true in (omega arith, simp length-set inv.1, filled_more (share_cell a.column a.m a.load) c.loop-k.k c.loop-k.parts _ (omega arith) c.share_of.ensures inv.2)
+pub from_fn-requires : goal.from_fn-requires
+from_fn-requires c = (search rules, made_callable 64 _ (λ k q r. search rules) (λ k l. let fits = product_fits _ _ c.requires k l in search rules))
 
 pub returns : goal.returns
-returns c = let a = c.args in let inv = c.loop-k.invariant in filled_all (share_cell a.column a.m a.load) 64 _ _ inv.1 c.loop-k-test.false inv.2 ∙ share_cells_lem a.column a.m a.load
+returns c = let a = c.args in made_list _ _ (share_cell a.column a.m a.load) (λ k y q called. search rules) 64 _ c.from_fn.ensures.items ∙ share_cells_lem a.column a.m a.load
