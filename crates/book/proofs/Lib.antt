@@ -6,4 +6,3 @@ pub mod SeasonAnswers
 pub mod SeasonTheorem
 pub mod UnchangedFigures
 pub mod NextBooks
-pub mod ClassLineLaws

@@ -5,4 +5,3 @@ pub mod Reachable
 pub mod Opened
 pub mod SeasonTheorem
 pub mod UnchangedFigures
-pub mod ClassLines

@@ -1,6 +1,7 @@
 -- What a call returns: the ledger's answer, and the book of the ledger's next step.
 use Rattle.std.specs.Prelude.{ℕ, Bool, cond, List}
 use Rattle.load_metric.specs.Metering.{blocks_of, same_lengths}
+use Rattle.netting.specs.declared.netting.ClassColumns.{ClassColumns}
 use Rattle.netting.specs.Netting.{class_lines_of, same_counts}
 use Rattle.ledger.specs.Call.{Call, Query, load, migrate}
 use Rattle.ledger.specs.Numbers.{unreadable}
@@ -43,3 +44,6 @@ unfoldable pub outcome_of_lines : Book → ℕ → ℕ → List ℕ → List ℕ
 outcome_of_lines b term sink froms tos classes customers watts =
     cond (same_counts froms tos classes customers watts) (outcome_of b (migrate term sink (class_lines_of froms tos classes customers watts)))
     (refused_with b unreadable)
+
+abbrev pub outcome_of_columns : Book → ℕ → ℕ → ClassColumns → Outcome
+outcome_of_columns b term sink c = outcome_of_lines b term sink c.froms.now c.tos.now c.classes.now c.customers.now c.watts.now

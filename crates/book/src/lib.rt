@@ -2,7 +2,6 @@
 #![tactic(auto)]
 
 pub mod book;
-pub mod class_lines;
 pub mod opened;
 pub mod posting_calls;
 pub mod queries;

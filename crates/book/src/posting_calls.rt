@@ -1,12 +1,14 @@
 // The calls that post (01, Posting), and migration (01, Migration): the book's arrays are lent to the call, and the next book is made of them.
 ghost use Rattle.std.specs.Prelude.{◌≡◌};
-ghost use Rattle.ledger.specs.Call.{carry, prior, verify};
-ghost use Rattle.book.specs.Outcomes.{outcome_of, outcome_of_blocks, outcome_of_lines};
+ghost use Rattle.ledger.specs.Call.{carry, migrate, prior, verify};
+ghost use Rattle.book.specs.Outcomes.{outcome_of, outcome_of_blocks, outcome_of_columns};
 ghost use Rattle.book.specs.Reachable.{Reachable};
 
 use crate::book::{Book, Outcome, with_figures, with_postings};
 use load::load::load;
+use migrate::class_lines::migrate_lines;
 use migrate::migrate::migrate;
+use netting::netting::{ClassColumns, ClassLine};
 use postings::carry::carry;
 use postings::prior::prior;
 use verify::verify::verify_and_file;
@@ -117,32 +119,24 @@ impl Book {
     }
 
     // Moves loads, rights and last year's allocations with the customers of class lines, whose fields stand in five slices.
-    pub fn migrate(
-        self,
-        term: u64,
-        sink: u64,
-        froms: &[u64],
-        tos: &[u64],
-        classes: &[u64],
-        customers: &[u64],
-        watts: &[u64],
-    ) -> Outcome
+    pub fn migrate(self, term: u64, sink: u64, columns: ClassColumns) -> Outcome
         requires { Reachable self }
-        ensures { result ≡ outcome_of_lines self term sink froms.now tos.now classes.now customers.now watts.now }
+        ensures { result ≡ outcome_of_columns self term sink columns.entry }
     {
         let opening = self.opening;
         let mut figures = self.figures;
-        let answer = migrate(
-            &opening,
-            &mut figures,
-            term,
-            sink,
-            froms,
-            tos,
-            classes,
-            customers,
-            watts,
-        );
+        let answer = migrate(&opening, &mut figures, term, sink, columns);
+        with_figures(self, answer, figures)
+    }
+
+    // Moves loads, rights and last year's allocations with the customers of the class lines lent.
+    pub fn migrate_lines(self, term: u64, sink: u64, lines: &[ClassLine]) -> Outcome
+        requires { Reachable self }
+        ensures { result ≡ outcome_of self (migrate term sink lines.now) }
+    {
+        let opening = self.opening;
+        let mut figures = self.figures;
+        let answer = migrate_lines(&opening, &mut figures, term, sink, lines);
         with_figures(self, answer, figures)
     }
 }

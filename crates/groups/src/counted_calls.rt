@@ -13,6 +13,7 @@ use lines::rows::{BLOCK_LINE, CLASS_LINE, Row};
 use lines::text::MAX_LINES;
 use load::load::load;
 use migrate::migrate::migrate;
+use netting::netting::ClassColumns;
 use records::answers::Answer;
 use records::numbers::UNREADABLE;
 
@@ -85,7 +86,14 @@ fn migrate_in_buffer(
     let classes = column(buffer, 2, k);
     let customers = column(buffer, 3, k);
     let watts = column(buffer, 4, k);
-    let answer = migrate(o, f, n[0], n[1], froms, tos, classes, customers, watts);
+    let columns = ClassColumns {
+        froms,
+        tos,
+        classes,
+        customers,
+        watts,
+    };
+    let answer = migrate(o, f, n[0], n[1], columns);
     GroupOutcome { answer, consumed }
 }
 

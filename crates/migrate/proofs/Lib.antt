@@ -5,3 +5,4 @@ pub mod SlotTests
 pub mod CoveredLaws
 pub mod MigratedFigures
 pub mod MigrateSteps
+pub mod TakenApart

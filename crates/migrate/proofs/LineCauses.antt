@@ -6,7 +6,9 @@ use mathlib.Core.List.{List, [], ◌∷◌}
 use mathlib.Core.Logic.{◌⊎◌, inl, inr}
 use native.Mathlib.Nat.{le_trans, le_of_eq, le_refl, le-suc, div-le_self}
 use native.Mathlib.Omega.{arith}
-use lib.ListN.{length}
+use lib.ListN.{length, replicate, get_or-replicate}
+use Rattle.std.specs.Prelude.{Some, None}
+use Rattle.std.specs.Option.{unwrap_or}
 use lib.Dec.{leb, ltb}
 use borrow.Author.Tests.{leb-true, leb-false, le-leb, lt-leb, ltb-false, not-true}
 use Rattle.tariff.specs.Sizes.{last_term, terms, max_class_lines}
@@ -16,22 +18,22 @@ use Rattle.tariff.specs.Sum.{sum_to, any_below, any_of}
 use Rattle.tariff.specs.Ranges.{term_out_of_range}
 use Rattle.netting.specs.ClassRanges.{class_line_out_of_range}
 use Rattle.netting.specs.Migration.{netted, lost_by, watts_one_way}
-use Rattle.netting.specs.Netting.{same_counts, pair_at, holder_at, class_line_at, class_lines_of, unfit_line, lines_fit, netting_of, SameLengths}
+use Rattle.netting.specs.Netting.{same_counts, pair_at, pair_cells, holder_at, class_line_at, class_lines_of, unfit_line, lines_fit, netting_of, SameLengths}
 use Rattle.tariff.proofs.Sums.{sum_ext, sum_bound}
 use Rattle.tariff.proofs.Tests.{or_unmet, and_both, and_join, decided}
-use Rattle.tariff.proofs.Lists.{length_tabulate, any_tabulate}
-use Rattle.netting.proofs.Pairs.{pair_of_cells}
+use Rattle.tariff.proofs.Lists.{length_tabulate}
+use Rattle.netting.proofs.Pairs.{pair_of_cells, cell_below}
 use Rattle.netting.proofs.FitLines.{counted}
 use Rattle.ledger.specs.Opening.{Opening}
 use Rattle.ledger.specs.Ranges.{unknown_holder, unknown_holder_in, migration_out_of_range}
 use Rattle.ledger.specs.Migration.{load_before}
-use Rattle.ledger.specs.Causes.{line_not_between_lses, loss_exceeds_load}
+use Rattle.ledger.specs.Causes.{loss_exceeds_load}
 use Rattle.ledger.proofs.SumBounds.{watts_fit}
 use Rattle.transfers.specs.declared.transfers.Transfer.{Transfer}
 use Rattle.records.specs.Opening.{opening_in}
 use Rattle.slots.specs.Layout.{load_slot, ledger_in}
 use Rattle.slots.proofs.Figures.{from_zero}
-use Rattle.migrate.specs.Lines.{unknown_at, out_of_range_at, not_between_lses_at, transfer_of}
+use Rattle.migrate.specs.Lines.{transfer_of}
 use Rattle.transfers.proofs.ColumnLaws.{column_holder}
 
 -- tests that agree below n
@@ -58,22 +60,6 @@ module _ (froms tos classes customers watts : List ℕ) where
   unfolding class_lines_of
   line_count = length_tabulate (length froms) (class_line_at froms tos classes customers watts)
 
-  pub unknown_cause : (o : Opening) → any_below (length froms) (unknown_at o froms tos) ≡ unknown_holder_in o lines
-  unfolding unknown_holder_in class_lines_of unknown_at
-  unknown_cause o = sym (any_tabulate (length froms) (class_line_at froms tos classes customers watts) (λ l. unknown_holder o l.from || unknown_holder o l.to))
-
-  pub between_cause : (o : Opening) → any_below (length froms) (not_between_lses_at o froms tos) ≡ any_of lines (line_not_between_lses o)
-  unfolding line_not_between_lses class_lines_of not_between_lses_at
-  between_cause o = sym (any_tabulate (length froms) (class_line_at froms tos classes customers watts) (line_not_between_lses o))
-
-  range-of-lines : length classes ≡ length froms → any_below (length classes) (out_of_range_at classes customers watts) ≡ any_of lines class_line_out_of_range
-  unfolding class_line_out_of_range class_lines_of out_of_range_at
-  range-of-lines e = ap (λ n. any_below n (out_of_range_at classes customers watts)) e ∙ sym (any_tabulate (length froms) (class_line_at froms tos classes customers watts) class_line_out_of_range)
-
-  pub range_cause : (term : ℕ) (in_term lines-out-of-range : Bool) → length classes ≡ length froms → in_term ≡ term_out_of_range term → lines-out-of-range ≡ any_below (length classes) (out_of_range_at classes customers watts) → ((in_term || ltb max_class_lines (length froms)) || lines-out-of-range) ≡ migration_out_of_range term lines
-  unfolding migration_out_of_range
-  range_cause term in_term lines-out-of-range e a b = λ i. (a i || ltb max_class_lines (sym line_count i)) || (b ∙ range-of-lines e) i
-
   -- a migration in range has at most 64 lines, none wrong, and a term that there is
   pub in_range : (term : ℕ) → migration_out_of_range term lines ≡ false → (length froms ≤ max_class_lines) × (any_of lines class_line_out_of_range ≡ false)
   unfolding migration_out_of_range
@@ -98,26 +84,30 @@ module _ (froms tos classes customers watts : List ℕ) where
           let q : leb 8 l.to ≡ false = lt-leb 8 l.to (omega arith) in
           λ i. (p i || q i) || b i
 
-  -- the m of fit lines, and of any
-  pub m_of_lines : (i j : ℕ) → i < 8 → j < 8 → lines_fit froms tos classes customers watts ≡ true → pair_at (netting_of froms tos classes customers watts).m i j ≡ netted lines i j
-  unfolding netting_of
-  m_of_lines i j li lj e =
-      pair_of_cells (λ i j. cond (lines_fit froms tos classes customers watts) (netted lines i j) 0) i j li lj
-      ∙ ap (λ b. cond b (netted lines i j) 0) e
+  -- the m of each pair, 0 where the lines are unfit
+  abbrev ms : List ℕ
+  ms = unwrap_or (netting_of froms tos classes customers watts) (replicate 64 0)
 
-  m-bound : (i j : ℕ) → i < 8 → j < 8 → pair_at (netting_of froms tos classes customers watts).m i j ≤ 64 * (9999999 * 9999999)
-  unfolding netting_of lines_fit netted unfit_line
-  m-bound i j li lj = le_trans (le_of_eq (pair_of_cells (λ i j. cond (lines_fit froms tos classes customers watts) (netted lines i j) 0) i j li lj)) (go (decided (lines_fit froms tos classes customers watts)))
+  ms_if : Bool → List ℕ
+  ms_if fit = unwrap_or (cond fit (Some (pair_cells (netted lines))) None) (replicate 64 0)
+
+  pub m_of_lines : (i j : ℕ) → i < 8 → j < 8 → lines_fit froms tos classes customers watts ≡ true → pair_at ms i j ≡ netted lines i j
+  unfolding netting_of ms_if
+  m_of_lines i j li lj e = ap (λ b. pair_at (ms_if b) i j) e ∙ pair_of_cells (netted lines) i j li lj
+
+  m-bound : (i j : ℕ) → i < 8 → j < 8 → pair_at ms i j ≤ 64 * (9999999 * 9999999)
+  unfolding netting_of lines_fit netted unfit_line ms_if pair_at
+  m-bound i j li lj = go (decided (lines_fit froms tos classes customers watts))
     where
-      go : (lines_fit froms tos classes customers watts ≡ true) ⊎ (lines_fit froms tos classes customers watts ≡ false) → cond (lines_fit froms tos classes customers watts) (netted lines i j) 0 ≤ 64 * (9999999 * 9999999)
+      go : (lines_fit froms tos classes customers watts ≡ true) ⊎ (lines_fit froms tos classes customers watts ≡ false) → pair_at ms i j ≤ 64 * (9999999 * 9999999)
       go (inl e) =
           let both = and_both (leb (length froms) max_class_lines && same_counts froms tos classes customers watts) (not (any_of lines unfit_line)) e in
           let short = leb-true (length froms) max_class_lines (and_both (leb (length froms) max_class_lines) (same_counts froms tos classes customers watts) both.0).0 in
           let none = not-true (any_of lines unfit_line) both.1 in
           let right = any_none lines unfit_line unfit_line class_line_out_of_range (λ l a b. (or_unmet (leb 8 l.from || leb 8 l.to) (class_line_out_of_range l) a).1) none none in
           let all = watts_fit lines i j (le_trans (le_of_eq line_count) short) right in
-          le_trans (le_of_eq (ap (λ b. cond b (netted lines i j) 0) e)) (le_trans (div-le_self (watts_one_way lines i j - watts_one_way lines j i) 1000) (omega arith))
-      go (inr e) = le_trans (le_of_eq (ap (λ b. cond b (netted lines i j) 0) e)) zero-le
+          le_trans (le_of_eq (m_of_lines i j li lj e)) (le_trans (div-le_self (watts_one_way lines i j - watts_one_way lines j i) 1000) (omega arith))
+      go (inr e) = le_trans (le_of_eq (ap (λ b. pair_at (ms_if b) i j) e ∙ get_or-replicate 64 (i * 8 + j) 0 0 (cell_below i j li lj))) zero-le
 
   module _ (o f : List ℕ) (term sink : ℕ) (x : Transfer) (is : x ≡ transfer_of o f term sink froms tos classes customers watts) (few : (opening_in o).holders ≤ 8) where
     -- what the code sums fits

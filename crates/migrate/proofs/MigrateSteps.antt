@@ -1,6 +1,6 @@
 -- The refusal of a migration, and its outcome, from the results of the code's steps. Assumes nothing.
 use Prim.Native.Nat.{ℕ, ◌+◌, ◌^◌, ◌≤◌, ◌<◌}
-use mathlib.Core.Path.{◌≡◌, refl, sym, ap, ap₂, ◌∙◌, subst}
+use mathlib.Core.Path.{◌≡◌, refl, sym, ap, ◌∙◌, subst}
 use mathlib.Core.Bool.{Bool, true, false, cond, not, ◌&&◌, ◌||◌}
 use mathlib.Core.List.{List, [], ◌∷◌}
 use native.Mathlib.Nat.{le_trans}
@@ -24,7 +24,7 @@ use Rattle.ledger.specs.Ranges.{unknown_sink, unknown_holder_in, migration_out_o
 use Rattle.ledger.specs.Calendar.{tier_is_open, before_tier, migration_in_time}
 use Rattle.ledger.specs.Numbers.{unreadable, not_in_book, out_of_range, not_at_this_time, not_between_lses, loss_above_load, cause, first_met}
 use Rattle.ledger.specs.Call.{migrate}
-use Rattle.ledger.specs.Causes.{migrate_causes, call_causes, refusal, loss_exceeds_load}
+use Rattle.ledger.specs.Causes.{line_not_between_lses, migrate_causes, call_causes, refusal, loss_exceeds_load}
 use Rattle.ledger.specs.Effects.{effect}
 use Rattle.ledger.specs.Migration.{migrated, loads_after, rights_after, priors_after}
 use Rattle.ledger.proofs.Unmet.{unmet}
@@ -41,8 +41,8 @@ use Rattle.slots.proofs.StepLaws.{accepted_test, steps_accepted, steps_refused}
 use Rattle.transfers.specs.declared.transfers.Transfer.{Transfer}
 use Rattle.transfers.specs.Columns.{HasColumn, column_at, ColumnTransfer}
 use Rattle.transfers.specs.Transfers.{load_column, share_column, moves_at, column_where, load_at, LossesWithinLoads, RightsFit}
-use Rattle.migrate.specs.Lines.{early_causes, unknown_at, out_of_range_at, not_between_lses_at, transfer_of}
-use Rattle.migrate.proofs.LineCauses.{unknown_cause, between_cause, range_cause, in_range, lines_fit_lem, losses_fit, loss_cause}
+use Rattle.migrate.specs.Lines.{early_causes, transfer_of}
+use Rattle.migrate.proofs.LineCauses.{in_range, lines_fit_lem, losses_fit, loss_cause}
 use Rattle.migrate.proofs.CoveredLaws.{covered, rights_fit}
 use Rattle.migrate.proofs.MigratedFigures.{figures_migrated}
 
@@ -60,13 +60,13 @@ module _ (o f : List ℕ) (term sink : ℕ) (froms tos classes customers watts :
   x = transfer_of o f term sink froms tos classes customers watts
 
   -- the tests that come before netting
-  pub early_cause : (no_such_sink unknown out_of_range_by_term line_out_of_range in_time apart : Bool) (last current r2 r3 r4 r8 : ℕ) → length classes ≡ length froms → no_such_sink ≡ unknown_sink O sink → unknown ≡ any_below (length froms) (unknown_at O froms tos) → out_of_range_by_term ≡ term_out_of_range term → line_out_of_range ≡ any_below (length classes) (out_of_range_at classes customers watts) → last ≡ last_closed_in f → current ≡ current_tier_in f → in_time ≡ ((not (not (eqb current 0)) && ltb last (first_tier_of term)) && (eqb term 0 || leb last_season_tier last)) → apart ≡ any_below (length froms) (not_between_lses_at O froms tos) → r2 ≡ cond (no_such_sink || unknown) not_in_book r3 → r3 ≡ cond ((out_of_range_by_term || ltb max_class_lines (length froms)) || line_out_of_range) out_of_range r4 → r4 ≡ cond (not in_time) not_at_this_time r8 → r8 ≡ cond apart not_between_lses 0 → r2 ≡ first_met (take early_causes (migrate_causes O L term sink lines))
+  pub early_cause : (unknown range in_time apart : Bool) (last current r2 r3 r4 r8 : ℕ) → unknown ≡ (unknown_sink O sink || unknown_holder_in O lines) → range ≡ migration_out_of_range term lines → last ≡ last_closed_in f → current ≡ current_tier_in f → in_time ≡ ((not (not (eqb current 0)) && ltb last (first_tier_of term)) && (eqb term 0 || leb last_season_tier last)) → apart ≡ any_of lines (line_not_between_lses O) → r2 ≡ cond unknown not_in_book r3 → r3 ≡ cond range out_of_range r4 → r4 ≡ cond (not in_time) not_at_this_time r8 → r8 ≡ cond apart not_between_lses 0 → r2 ≡ first_met (take early_causes (migrate_causes O L term sink lines))
   unfolding migrate_causes migration_in_time before_tier tier_is_open ledger_in
-  early_cause no_such_sink unknown out_of_range_by_term line_out_of_range in_time apart last current r2 r3 r4 r8 counted of_sink of_unknown of_term of_range of_last of_current of_time of_apart e2 e3 e4 e8 =
-      link not_in_book _ _ _ e2 (ap₂ (λ a b. a || b) of_sink (of_unknown ∙ unknown_cause froms tos classes customers watts O))
-      (link out_of_range _ _ _ e3 (range_cause froms tos classes customers watts term out_of_range_by_term line_out_of_range counted of_term of_range)
+  early_cause unknown range in_time apart last current r2 r3 r4 r8 of_unknown of_range of_last of_current of_time of_apart e2 e3 e4 e8 =
+      link not_in_book _ _ _ e2 of_unknown
+      (link out_of_range _ _ _ e3 of_range
       (link not_at_this_time _ _ _ e4 (ap not (of_time ∙ (λ i. (not (not (eqb (of_current i) 0)) && ltb (of_last i) (first_tier_of term)) && (eqb term 0 || leb last_season_tier (of_last i)))))
-      (link not_between_lses _ _ _ e8 (of_apart ∙ between_cause froms tos classes customers watts O) no_more)))
+      (link not_between_lses _ _ _ e8 of_apart no_more)))
 
   -- an early cause that is met is the first of all
   early-found : (number : ℕ) → number ≡ first_met (take early_causes (migrate_causes O L term sink lines)) → (number ≡ 0 → ⊥) → number ≡ refusal O L (migrate term sink lines)

@@ -1,2 +1,3 @@
 -- Class lines in slices.
 pub mod Lines
+pub mod ClassLines

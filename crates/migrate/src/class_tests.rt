@@ -1,72 +1,51 @@
-// Tests on the lines of a migration, whose fields stand in slices (01, Refusals by cause; causes 2, 3 and 8).
-ghost use Rattle.std.specs.Prelude.{◌≡◌, ◌||◌, length, eqb};
-ghost use Rattle.tariff.specs.Sum.{any_below};
+// Tests on the lines of a migration (01, Refusals by cause; causes 2, 3 and 8).
+ghost use Rattle.std.specs.Prelude.{◌≡◌, ◌||◌, eqb};
+ghost use Rattle.tariff.specs.Sum.{any_of};
+ghost use Rattle.netting.specs.ClassRanges.{class_line_out_of_range};
+ghost use Rattle.netting.specs.Columns.{SameLengthsIn, lines_in};
 ghost use Rattle.ledger.specs.Opening.{obaalse, holder_kind};
-ghost use Rattle.ledger.specs.Ranges.{unknown_holder};
+ghost use Rattle.ledger.specs.Ranges.{unknown_holder, unknown_holder_in};
+ghost use Rattle.ledger.specs.Causes.{line_not_between_lses};
 ghost use Rattle.records.specs.Opening.{opening_of};
-ghost use Rattle.migrate.specs.Lines.{unknown_at, out_of_range_at, not_between_lses_at};
 
-use netting::netting::class_fields_out_of_range;
+use netting::netting::{ClassColumns, class_fields_out_of_range};
 use records::kinds::OBAALSE;
 use records::setup::{holder_kind, unknown_holder};
 
 // A line that names a holder who is not in the book.
-fn names_unknown(o: &[u64], from: u64, to: u64) -> bool
+pub fn names_unknown(o: &[u64], from: u64, to: u64) -> bool
     ensures { result ≡ (unknown_holder (opening_of o.entry) from || unknown_holder (opening_of o.entry) to) }
 {
-    unknown_holder(o, from) | unknown_holder(o, to)
+    unknown_holder(o, from) || unknown_holder(o, to)
 }
 
 // Whether some line names a holder who is not in the book.
-pub fn any_unknown(o: &[u64], froms: &[u64], tos: &[u64]) -> bool
-    requires { length tos.now ≡ length froms.now }
-    ensures { result ≡ any_below (length froms.now) (unknown_at (opening_of o.entry) froms.now tos.now) }
+pub fn any_unknown(o: &[u64], columns: ClassColumns) -> bool
+    requires { SameLengthsIn columns }
+    ensures { result ≡ unknown_holder_in (opening_of o.entry) (lines_in columns.entry) }
 {
-    let mut k = 0;
-    while k < froms.len() {
-        if names_unknown(o, froms[k], tos[k]) {
-            return true;
-        }
-        k += 1;
-    }
-    false
+    columns.any(|line| names_unknown(o, line.from, line.to))
 }
 
 // Whether some line has a field outside its range.
-pub fn any_out_of_range(classes: &[u64], customers: &[u64], watts: &[u64]) -> bool
-    requires { (length customers.now ≡ length classes.now) × (length watts.now ≡ length classes.now) }
-    ensures { result ≡ any_below (length classes.now) (out_of_range_at classes.now customers.now watts.now) }
+pub fn any_out_of_range(columns: ClassColumns) -> bool
+    requires { SameLengthsIn columns }
+    ensures { result ≡ any_of (lines_in columns.entry) class_line_out_of_range }
 {
-    let mut k = 0;
-    while k < classes.len() {
-        if class_fields_out_of_range(classes[k], customers[k], watts[k]) {
-            return true;
-        }
-        k += 1;
-    }
-    false
+    columns.any(|line| class_fields_out_of_range(line.class, line.customers, line.watts))
 }
 
 // A line from a holder to itself, or one that names an OBAALSE.
 fn not_between_lses(o: &[u64], from: u64, to: u64) -> bool
     ensures { result ≡ (eqb from to || eqb (holder_kind (opening_of o.entry) from) obaalse || eqb (holder_kind (opening_of o.entry) to) obaalse) }
 {
-    let from_kind = holder_kind(o, from);
-    let to_kind = holder_kind(o, to);
-    (from == to) | (from_kind == OBAALSE) | (to_kind == OBAALSE)
+    from == to || holder_kind(o, from) == OBAALSE || holder_kind(o, to) == OBAALSE
 }
 
 // Whether some line is not between two different LSEs.
-pub fn any_not_between_lses(o: &[u64], froms: &[u64], tos: &[u64]) -> bool
-    requires { length tos.now ≡ length froms.now }
-    ensures { result ≡ any_below (length froms.now) (not_between_lses_at (opening_of o.entry) froms.now tos.now) }
+pub fn any_not_between_lses(o: &[u64], columns: ClassColumns) -> bool
+    requires { SameLengthsIn columns }
+    ensures { result ≡ any_of (lines_in columns.entry) (line_not_between_lses (opening_of o.entry)) }
 {
-    let mut k = 0;
-    while k < froms.len() {
-        if not_between_lses(o, froms[k], tos[k]) {
-            return true;
-        }
-        k += 1;
-    }
-    false
+    columns.any(|line| not_between_lses(o, line.from, line.to))
 }

@@ -11,7 +11,7 @@
 //   transfer,V0,..,V7       the column after it
 #![tactic(auto)]
 
-ghost use Rattle.std.specs.Prelude.{◌<◌};
+ghost use Rattle.std.specs.Prelude.{ℕ, ◌<◌};
 
 mod class_lines;
 mod evidence;
@@ -29,63 +29,33 @@ mod write;
 
 use std::io;
 
-// What the rows of a table are run through.
-#[derive(Clone, Copy)]
-enum Table {
-    Load,
-    Eligible,
-    Limit,
-    Evidence,
-    Netting,
-    Transfer,
-}
-
-// The line or lines of a row. A table has fewer than 65,536 rows, so that no place in it wraps.
-fn write_row(rt: &impl Print, group: Table, row: usize) -> io::Result<()>
-    requires { row < 65536 }
+// The line or lines of each row of a table.
+fn write_rows<W: Fn(usize) -> io::Result<()>>(count: usize, write_row: W) -> io::Result<()>
+    requires { (row : ℕ) → row < count → W.pre write_row row }
 {
-    match group {
-        Table::Load => loads::write_row(rt, row),
-        Table::Eligible => limits::write_eligible(rt, row),
-        Table::Limit => limits::write_row(rt, row),
-        Table::Evidence => evidence::write_row(rt, row),
-        Table::Netting => netted::write_row(rt, row),
-        Table::Transfer => transfers::write_row(rt, row),
-    }
-}
-
-fn write_rows(rt: &impl Print, group: Table, count: usize) -> io::Result<()>
-    requires { count < 65536 }
-{
-    let mut row: usize = 0;
-    while row < count {
-        write_row(rt, group, row)?;
-        row += 1;
+    for row in 0..count {
+        write_row(row)?;
     }
     Ok(())
 }
 
 fn main(rt: HostRuntime) -> io::Result<()> {
-    write_rows(&rt, Table::Load, load_rows::ROWS.len() / loads::WIDTH)?;
-    write_rows(
-        &rt,
-        Table::Eligible,
-        limit_rows::LOADS.len() / limits::LOAD_WIDTH,
-    )?;
-    write_rows(&rt, Table::Limit, limit_rows::ROWS.len() / limits::WIDTH)?;
-    write_rows(
-        &rt,
-        Table::Evidence,
-        evidence_rows::ROWS.len() / evidence::WIDTH,
-    )?;
-    write_rows(
-        &rt,
-        Table::Netting,
-        netting_rows::ROWS.len() / netted::WIDTH,
-    )?;
-    write_rows(
-        &rt,
-        Table::Transfer,
-        transfer_rows::ROWS.len() / transfers::WIDTH,
-    )
+    write_rows(load_rows::ROWS.len() / loads::WIDTH, |row| {
+        loads::write_row(&rt, row)
+    })?;
+    write_rows(limit_rows::LOADS.len() / limits::LOAD_WIDTH, |row| {
+        limits::write_eligible(&rt, row)
+    })?;
+    write_rows(limit_rows::ROWS.len() / limits::WIDTH, |row| {
+        limits::write_row(&rt, row)
+    })?;
+    write_rows(evidence_rows::ROWS.len() / evidence::WIDTH, |row| {
+        evidence::write_row(&rt, row)
+    })?;
+    write_rows(netting_rows::ROWS.len() / netted::WIDTH, |row| {
+        netted::write_row(&rt, row)
+    })?;
+    write_rows(transfer_rows::ROWS.len() / transfers::WIDTH, |row| {
+        transfers::write_row(&rt, row)
+    })
 }

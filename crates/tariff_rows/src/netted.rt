@@ -3,25 +3,26 @@ ghost use Rattle.std.specs.Prelude.{◌<◌};
 
 use crate::rows::{at, part};
 use crate::{class_lines, netting_rows, write};
-use netting::netting::{Netting, net_lines};
+use netting::netting::ClassColumns;
 use std::io;
 
 // How many numbers a row has.
 pub const WIDTH: usize = 2;
 
 // The netting of the class lines from a start on.
-pub fn netted(start: u64, count: u64) -> Netting {
-    net_lines(
-        part(&class_lines::FROMS, start, count),
-        part(&class_lines::TOS, start, count),
-        part(&class_lines::CLASSES, start, count),
-        part(&class_lines::CUSTOMERS, start, count),
-        part(&class_lines::WATTS, start, count),
-    )
+pub fn netted(start: u64, count: u64) -> Option<[u64; 64]> {
+    let columns = ClassColumns {
+        froms: part(&class_lines::FROMS, start, count),
+        tos: part(&class_lines::TOS, start, count),
+        classes: part(&class_lines::CLASSES, start, count),
+        customers: part(&class_lines::CUSTOMERS, start, count),
+        watts: part(&class_lines::WATTS, start, count),
+    };
+    columns.net()
 }
 
 // The netting of a row.
-fn row_netted(row: usize) -> Netting
+fn row_netted(row: usize) -> Option<[u64; 64]>
     requires { row < 65536 }
 {
     let rows = &netting_rows::ROWS;
@@ -40,10 +41,8 @@ fn write_pair(rt: &impl Print, pair: u64, m: u64) -> io::Result<()> {
 }
 
 fn write_pairs(rt: &impl Print, m: &[u64; 64]) -> io::Result<()> {
-    let mut pair: usize = 0;
-    while pair < 64 {
-        write_pair(rt, pair as u64, m[pair])?;
-        pair += 1;
+    for (pair, kw) in m.iter().enumerate() {
+        write_pair(rt, pair as u64, *kw)?;
     }
     Ok(())
 }
@@ -52,13 +51,10 @@ fn write_pairs(rt: &impl Print, m: &[u64; 64]) -> io::Result<()> {
 pub fn write_row(rt: &impl Print, row: usize) -> io::Result<()>
     requires { row < 65536 }
 {
-    let netting = row_netted(row);
     write::word(rt, "netting")?;
-    if netting.fit {
-        let m = netting.m;
-        write_pairs(rt, &m)?;
-    } else {
-        write::word(rt, ",no")?;
+    match row_netted(row) {
+        Some(m) => write_pairs(rt, &m)?,
+        None => write::word(rt, ",no")?,
     }
     write::end(rt)
 }

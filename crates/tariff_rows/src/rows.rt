@@ -11,23 +11,18 @@ use tariff::sizes::SETTING_COUNT;
 pub fn at(table: &[u64], place: usize) -> u64
     ensures { result ≡ get_or table.now place 0 }
 {
-    if place < table.len() { table[place] } else { 0 }
+    table.get(place).copied().unwrap_or(0)
 }
 
 // The numbers from a start on.
+#[tactic(auto, unfolding(crate::specs::Tables::part_of))]
 pub fn part(table: &[u64], start: u64, count: u64) -> &[u64]
     ensures { result.now ≡ part_of table.now start count }
 {
-    let from = start as usize;
-    let n = count as usize;
-    if table.len() < from {
-        return &table[..0];
+    match table.get(start as usize..) {
+        Some(rest) if count as usize <= rest.len() => &rest[..count as usize],
+        _ => &[],
     }
-    if table.len() - from < n {
-        return &table[..0];
-    }
-    let end = from + n;
-    &table[from..end]
 }
 
 // The settings whose twelve numbers stand from a place on.
@@ -35,11 +30,5 @@ pub fn settings_at(table: &[u64], place: u64) -> Settings
     ensures { result ≡ settings_of (part_of table.now place setting_count) }
 {
     let pairs = part(table, place, SETTING_COUNT as u64);
-    let mut numbers = [0u64; SETTING_COUNT];
-    let mut k = 0;
-    while k < SETTING_COUNT {
-        numbers[k] = at(pairs, k);
-        k += 1;
-    }
-    settings_of(numbers)
+    settings_of(std::array::from_fn(|k| at(pairs, k)))
 }

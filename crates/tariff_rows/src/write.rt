@@ -24,10 +24,8 @@ pub fn end(rt: &impl Print) -> io::Result<()> {
 
 // Fields that are numbers, each with its comma.
 pub fn fields(rt: &impl Print, numbers: &[u64]) -> io::Result<()> {
-    let mut k = 0;
-    while k < numbers.len() {
-        field(rt, numbers[k])?;
-        k += 1;
+    for number in numbers {
+        field(rt, *number)?;
     }
     Ok(())
 }

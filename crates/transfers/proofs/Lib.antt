@@ -1,5 +1,4 @@
 pub mod ColumnLaws
-pub mod EmptyLaws
 pub mod ShareLaws
 pub mod WhereLaws
 pub mod MovingLaws

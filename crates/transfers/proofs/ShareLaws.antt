@@ -1,18 +1,20 @@
 -- What a migration makes of a column, in the array and in the ledger's terms; and that nothing on the way passes 64 bits. Assumes nothing.
 use Prim.Native.Nat.{ℕ, ◌+◌, ◌-◌, ◌*◌, ◌/◌, ◌^◌, ◌≤◌, ◌<◌}
 use mathlib.Core.Path.{◌≡◌, refl, sym, ap, ◌∙◌}
-use mathlib.Core.Bool.{Bool, true, false, cond, ◌&&◌}
+use mathlib.Core.Bool.{true, false, cond, ◌&&◌}
 use mathlib.Core.List.{List}
 use mathlib.Core.Logic.{◌⊎◌, inl, inr}
 use native.Mathlib.Nat.{le_trans, le_of_eq, lt_of_le_of_lt, mul-zero, zero-mul, zero-div}
 use native.Mathlib.Omega.{arith}
+use lib.ListN.{length, get_or}
+use Rattle.std.specs.Prelude.{EachIndex}
 use lib.Dec.{ltb, eqb}
 use borrow.Author.Tests.{ltb-true, ltb-false, eqb-true}
-use Rattle.tariff.specs.Sum.{sum_to, all_below}
+use Rattle.tariff.specs.Sum.{sum_to}
 use Rattle.tariff.specs.Ranges.{max_kw}
 use Rattle.netting.specs.Migration.{share, shares, transferred, lost_by}
 use Rattle.netting.specs.Netting.{pair_at, holder_at, column_cells, ProductsFit, PartsFit, share_cells, transferred_cells}
-use Rattle.tariff.proofs.Tests.{and_both, all_below_lem, decided}
+use Rattle.tariff.proofs.Tests.{and_both, decided}
 use Rattle.tariff.proofs.Sums.{sum_ext, sum_zero, term_le_sum}
 use Rattle.netting.proofs.Transfers.{shares_fit}
 use Rattle.tariff.proofs.Lists.{at_tabulate}
@@ -172,6 +174,7 @@ column_left f p slot x there ok none g rest s =
     go h q z l (inr t) = sym (ap (λ u. cond u (share_column x (λ i. g i q z) h) (g h q z)) t)
 
 -- a column that was read and found empty
-pub empty_column : (f : List ℕ) (p slot : ℕ) (column : List ℕ) (empty : Bool) → column ≡ column_at f p slot → empty ≡ all_below 8 (λ i. eqb (holder_at column i) 0) → empty ≡ true → (i : ℕ) → i < 8 → in_column f p slot i ≡ 0
-empty_column f p slot column empty read is none i l =
-    sym (column_holder f p slot i l) ∙ ap (λ c. holder_at c i) (sym read) ∙ eqb-true (holder_at column i) 0 (all_below_lem 8 (λ i. eqb (holder_at column i) 0) (sym is ∙ none) i l)
+pub empty_column : (f : List ℕ) (p slot : ℕ) (column : List ℕ) → column ≡ column_at f p slot → length column ≡ 8 → EachIndex column (λ h. get_or column h 0 ≡ 0) → (i : ℕ) → i < 8 → in_column f p slot i ≡ 0
+unfolding holder_at
+empty_column f p slot column read long none i l =
+    sym (column_holder f p slot i l) ∙ ap (λ xs. get_or xs i 0) (sym read) ∙ none i (omega arith)

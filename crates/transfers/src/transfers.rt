@@ -1,8 +1,6 @@
 // What a migration does to a book's figures, column by column (01, Migration).
-ghost use Rattle.std.specs.Prelude.{◌≡◌, ◌&&◌, ◌+◌, ◌≤◌, eqb};
+ghost use Rattle.std.specs.Prelude.{◌≡◌, ◌↔◌, ◌&&◌, ◌+◌, ◌≤◌, eqb, IsTrue, EachIndex, slice_index};
 ghost use Rattle.tariff.specs.Sizes.{max_holders, last_term};
-ghost use Rattle.tariff.specs.Sum.{all_below};
-ghost use Rattle.netting.specs.Netting.{holder_at};
 ghost use Rattle.records.specs.Opening.{opening_of};
 ghost use Rattle.slots.specs.Layout.{load_slot};
 ghost use Rattle.transfers.specs.Columns.{HasColumn, in_column, column_at, column_stored, ColumnTransfer};
@@ -28,13 +26,7 @@ pub fn column_at(f: &[u64], p: u64, slot: u64) -> [u64; MAX_HOLDERS]
     requires { HasColumn f.now p slot }
     ensures { result ≡ column_at f.now p slot }
 {
-    let mut column = [0u64; MAX_HOLDERS];
-    let mut h = 0;
-    while h < MAX_HOLDERS {
-        column[h] = read(f, h as u64, p, slot);
-        h += 1;
-    }
-    column
+    std::array::from_fn(|h| read(f, h as u64, p, slot))
 }
 
 // A column stored in a slot at a place.
@@ -42,25 +34,16 @@ fn store_column(f: &mut [u64], p: u64, slot: u64, column: [u64; MAX_HOLDERS])
     requires { HasColumn f.old p slot }
     ensures { f.new ≡ column_stored f.old p slot column max_holders }
 {
-    let mut h = 0;
-    while h < MAX_HOLDERS {
+    for h in 0..MAX_HOLDERS {
         store(f, h as u64, p, slot, column[h]);
-        h += 1;
     }
 }
 
 // Whether a column holds nothing.
 fn is_empty(column: [u64; MAX_HOLDERS]) -> bool
-    ensures { result ≡ all_below max_holders (λ i. eqb (holder_at column i) 0) }
+    ensures { IsTrue result ↔ EachIndex column (λ h. slice_index column h ≡ 0) }
 {
-    let mut h = 0;
-    while h < MAX_HOLDERS {
-        if column[h] != 0 {
-            return false;
-        }
-        h += 1;
-    }
-    true
+    column.iter().all(|&v| v == 0)
 }
 
 // Transfers the shares of one column of records. A column that holds nothing is left as it is.
@@ -72,22 +55,22 @@ fn transfer_column(f: &mut [u64], p: u64, slot: u64, x: Transfer)
     if is_empty(column) {
         return;
     }
-    let m = x.m;
-    let load = x.load;
-    let parts = shares_of(column, m, load);
+    let parts = shares_of(column, x.m, x.load);
     let next = transferred_column(column, &parts, x.holders as usize);
     store_column(f, p, slot, next);
 }
 
 // Whether a migration moves a slot of a path.
+#[tactic(auto, unfolding(crate::specs::Transfers::slot_moves))]
 fn slot_moves(term: u64, slot: u64) -> bool
     requires { term ≤ last_term }
     ensures { result ≡ slot_moves term slot }
 {
     if term == 0 {
-        return (PRIOR_ALLOCATED_SLOT <= slot) & (slot < AWARDED_SLOT);
+        (PRIOR_ALLOCATED_SLOT..AWARDED_SLOT).contains(&slot)
+    } else {
+        slot == CARRIED_SLOT + term - 1 || slot == AWARDED_SLOT + term - 1
     }
-    (slot == CARRIED_SLOT + term - 1) | (slot == AWARDED_SLOT + term - 1)
 }
 
 // Transfers the shares of one slot of a path, if it is one that moves.
@@ -109,10 +92,8 @@ fn transfer_path(f: &mut [u64], o: &[u64], term: u64, sink: u64, p: u64, x: Tran
     if path_base(o, p) != sink {
         return;
     }
-    let mut slot = PRIOR_ALLOCATED_SLOT;
-    while slot < NOMINATED_SLOT {
+    for slot in PRIOR_ALLOCATED_SLOT..NOMINATED_SLOT {
         transfer_slot(f, term, p, slot, x);
-        slot += 1;
     }
 }
 
@@ -121,10 +102,8 @@ pub fn transfer_rights(f: &mut [u64], o: &[u64], term: u64, sink: u64, x: Transf
     requires { RightsFit o.now f.old term sink x }
     ensures { ColumnTransfer (column_where (moves_at (opening_of o.entry) term sink) (share_column x)) f.old f.new }
 {
-    let mut p: u64 = 0;
-    while p < MAX_PLACES as u64 {
+    for p in 0..MAX_PLACES as u64 {
         transfer_path(f, o, term, sink, p, x);
-        p += 1;
     }
 }
 
@@ -133,8 +112,6 @@ pub fn transfer_load(f: &mut [u64], term: u64, sink: u64, x: Transfer)
     requires { HasColumn f.old sink (load_slot + term) × LossesWithinLoads x × (x.load ≡ column_at f.old sink (load_slot + term)) }
     ensures { ColumnTransfer (column_where (load_at term sink) (load_column x)) f.old f.new }
 {
-    let load = x.load;
-    let m = x.m;
-    let next = transferred_column(load, &m, x.holders as usize);
+    let next = transferred_column(x.load, &x.m, x.holders as usize);
     store_column(f, sink, LOAD_SLOT + term, next);
 }

@@ -1,6 +1,4 @@
 -- `migrate::migrate::loss_exceeds_load` meets its contract: no holder passed so far gives more than its load. Assumes nothing.
-use Prim.Native.Nat.{◌-◌, zero-le}
-use mathlib.Core.Bool.{false}
 use mathlib.Core.Path.{refl}
 use native.Mathlib.Omega.{arith}
 use Rattle.tariff.specs.Sum.{any_below}
@@ -13,18 +11,18 @@ use Rattle.migrate.proofs.migrate.loss_exceeds_load.Goals as goal
 
 pub loop-i-init : goal.loop-i-init
 unfolding any_below
-loop-i-init c = (zero-le, refl)
+loop-i-init c = refl
 
 pub given_by-lost-requires : goal.given_by-lost-requires
 given_by-lost-requires c = let pre = c.requires in (search rules, omega (arith, pre.0), pre.0, pre.1 c.loop-i.i (omega (arith, pre.0)))
 
-pub returns-then-load-i : goal.returns-then-load-i
+pub returns-then-x-i : goal.returns-then-x-i
 unfolding holder_at
-returns-then-load-i c = found _ _ _ c.loop-i-test.true (loss_above _ _ _ c.given_by-lost.ensures c.if-load-i.true)
+returns-then-x-i c = found _ _ _ c.loop-i-test.true (loss_above _ _ _ c.given_by-lost.ensures c.if-x-i.true)
 
 pub loop-i-preserved : goal.loop-i-preserved
 unfolding holder_at
-loop-i-preserved c = (search rules, none_more _ _ c.loop-i.invariant.1 (loss_within _ _ _ c.given_by-lost.ensures c.if-load-i.false))
+loop-i-preserved c = none_more _ _ c.loop-i.invariant (loss_within _ _ _ c.given_by-lost.ensures c.if-x-i.false)
 
 pub returns : goal.returns
-returns c = not_found _ _ _ c.loop-i.invariant.0 c.loop-i-test.false c.loop-i.invariant.1
+returns c = not_found _ _ _ c.loop-i.auto.i-end c.loop-i-test.false c.loop-i.invariant

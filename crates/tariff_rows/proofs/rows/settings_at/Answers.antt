@@ -1,28 +1,16 @@
--- `tariff_rows::rows::settings_at` meets its contract: the numbers passed so far are those of the table from the place on. Assumes nothing.
-use Prim.Native.Nat.{◌<◌}
-use mathlib.Core.Path.{ap, ◌∙◌}
-use native.Mathlib.Nat.{not-suc-le-zero}
-use native.Mathlib.Omega.{arith}
-use lib.ListN.{length, length-set}
+-- `tariff_rows::rows::settings_at` meets its contract: the numbers are those of the table from the place on. Assumes nothing.
+use Rattle.std.proofs.Common.{◌≡◌, List, ℕ, get_or, ap, ◌∙◌, rules}
+use Rattle.tariff.specs.Sum.{tabulate}
 use Rattle.tariff.specs.Settings.{settings_of}
-use Rattle.tariff.proofs.Lists.{filled_more}
+use Rattle.tariff.proofs.Lists.{at_tabulate}
 use Rattle.tariff.proofs.SettingsLaws.{settings_ext}
-use borrow.Author.Rules.{rules}
+use Rattle.netting.proofs.FromFn.{made_list}
 use Rattle.tariff_rows.proofs.rows.settings_at.Goals as goal
-
-pub loop-k-init : goal.loop-k-init
-loop-k-init c = (search rules, search rules, λ q l. absurd (not-suc-le-zero l))
-
-pub loop-k-preserved : goal.loop-k-preserved
-loop-k-preserved c =
-    let old = c.loop-k in
-    let room : old.k < length old.numbers = omega (arith, old.invariant.1) in
-    (search rules, length-set old.numbers old.k c.at.result ∙ old.invariant.1, filled_more _ old.k old.numbers c.at.result room c.at.ensures old.invariant.2)
 
 pub returns : goal.returns
 returns c =
-    let done = c.loop-k in
-    let found = c.part-pairs in
+    let pairs : List ℕ = c.part-pairs.result.now in
+    let made = made_list _ _ (λ k. get_or pairs k 0) (λ k y q called. search rules) 12 _ c.from_fn.ensures.items in
     c.settings_of.ensures
-    ∙ settings_ext done.numbers found.result.now (λ k l. done.invariant.2 k (omega (arith, l)))
-    ∙ ap settings_of found.ensures
+    ∙ settings_ext c.from_fn.result pairs (λ k l. ap (λ xs. get_or xs k 0) made ∙ at_tabulate 12 (λ q. get_or pairs q 0) 0 k l)
+    ∙ ap settings_of c.part-pairs.ensures

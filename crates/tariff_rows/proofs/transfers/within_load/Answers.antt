@@ -8,7 +8,7 @@ use borrow.Author.Rules.{rules}
 use Rattle.tariff_rows.proofs.transfers.within_load.Goals as goal
 
 pub loop-holder-init : goal.loop-holder-init
-loop-holder-init c = (search rules, below_none _)
+loop-holder-init c = below_none _
 
 pub given_by-requires : goal.given_by-requires
 given_by-requires c = (search rules, search rules, search rules, c.requires c.loop-holder.holder c.loop-holder-test.true)
@@ -18,7 +18,7 @@ returns-then-given_by-load c = λ e. never e
 
 pub loop-holder-preserved : goal.loop-holder-preserved
 unfolding lost_by holder_at
-loop-holder-preserved c = (search rules, below_more _ _ c.loop-holder.invariant.1 (omega (arith, c.given_by.ensures)))
+loop-holder-preserved c = below_more _ _ c.loop-holder.invariant (omega (arith, c.given_by.ensures))
 
 pub returns : goal.returns
-returns c = λ e i l. c.loop-holder.invariant.1 i (omega (arith, l))
+returns c = λ e i l. c.loop-holder.invariant i (omega (arith, l))

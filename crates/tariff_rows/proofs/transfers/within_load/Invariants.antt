@@ -5,7 +5,4 @@ use Rattle.netting.specs.Netting.{pair_at, holder_at}
 use Rattle.tariff_rows.proofs.transfers.within_load.Given as goal
 
 abbrev pub invariant-loop-holder : goal.invariant-loop-holder
-invariant-loop-holder l = (l.holder ≤ 8) × ((i : ℕ) → i < l.holder → lost_by 8 (pair_at l.m) i ≤ holder_at l.load i)
-
-abbrev pub decreases-loop-holder : goal.decreases-loop-holder
-decreases-loop-holder l = 8 - l.holder
+invariant-loop-holder l = (i : ℕ) → i < l.holder → lost_by 8 (pair_at l.m) i ≤ holder_at l.load i

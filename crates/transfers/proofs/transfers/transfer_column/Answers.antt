@@ -5,7 +5,7 @@ use borrow.Author.Rules.{rules}
 use Rattle.transfers.proofs.transfers.transfer_column.Goals as goal
 
 pub returns-then-is_empty : goal.returns-then-is_empty
-returns-then-is_empty c = column_left _ _ _ _ c.requires.0 c.requires.1 (empty_column _ _ _ _ _ c.column_at-column.ensures c.is_empty.ensures c.if-is_empty.true)
+returns-then-is_empty c = column_left _ _ _ _ c.requires.0 c.requires.1 (empty_column _ _ _ _ c.column_at-column.ensures (search rules) (c.is_empty.ensures.0 c.if-is_empty.true))
 
 pub shares_of-parts-requires : goal.shares_of-parts-requires
 shares_of-parts-requires c = products_fit _ c.requires.1 _ (column_fits _ c.requires.1 _ _ _ _ c.column_at-column.ensures c.requires.2)

@@ -13,21 +13,21 @@ use Rattle.transfers.proofs.transfers.transfer_rights.Goals as goal
 pub loop-p-init : goal.loop-p-init
 loop-p-init c =
     let args = c.args in
-    (zero-le, none_yet (share_column args.x) (moves_at (opening_in args.o.now) args.term args.sink) path_number 0 args.f.now (λ p slot on. zero-le), (c.requires 0 (omega arith)).long)
+    (none_yet (share_column args.x) (moves_at (opening_in args.o.now) args.term args.sink) path_number 0 args.f.now (λ p slot on. zero-le), (c.requires 0 (omega arith)).long)
 
 pub transfer_path-requires : goal.transfer_path-requires
-transfer_path-requires c = next_path_fits _ _ _ _ _ _ _ (c.requires _ c.loop-p-test.true) c.loop-p.invariant.2 c.loop-p.invariant.1
+transfer_path-requires c = next_path_fits _ _ _ _ _ _ _ (c.requires _ c.loop-p-test.true) c.loop-p.invariant.1 c.loop-p.invariant.0
 
 pub loop-p-preserved : goal.loop-p-preserved
 loop-p-preserved c =
     let args = c.args in
     let in-book = c.loop-p-test.true in
-    (omega arith, one_more (share_column args.x) (moves_at (opening_in args.o.now) args.term args.sink) path_number c.loop-p.p _ _ _ c.loop-p.invariant.1 c.transfer_path.ensures, where_long (share_column args.x) _ _ _ c.loop-p.invariant.2 c.transfer_path.ensures)
+    (one_more (share_column args.x) (moves_at (opening_in args.o.now) args.term args.sink) path_number c.loop-p.p _ _ _ c.loop-p.invariant.0 c.transfer_path.ensures, where_long (share_column args.x) _ _ _ c.loop-p.invariant.1 c.transfer_path.ensures)
 
 pub shape_of-f : goal.shape_of-f
-shape_of-f c = c.loop-p.invariant.2 ∙ sym (c.requires 0 (omega arith)).long
+shape_of-f c = c.loop-p.invariant.1 ∙ sym (c.requires 0 (omega arith)).long
 
 pub returns : goal.returns
 returns c =
     let args = c.args in
-    all_moved (share_column args.x) (moves_at (opening_in args.o.now) args.term args.sink) path_number c.loop-p.p _ _ (λ p slot l on. le_trans l c.loop-p-test.false) c.loop-p.invariant.1
+    all_moved (share_column args.x) (moves_at (opening_in args.o.now) args.term args.sink) path_number c.loop-p.p _ _ (λ p slot l on. le_trans l c.loop-p-test.false) c.loop-p.invariant.0

@@ -1,0 +1,89 @@
+// Migrate over a lent slice of class lines (01, Migration): the lines are taken apart, a column of numbers to a field, and the core migrates the columns.
+ghost use Rattle.std.specs.Prelude.{◌≡◌, ◌||◌, get_or};
+ghost use Rattle.ledger.specs.Call.{migrate};
+ghost use Rattle.ledger.specs.Ranges.{unknown_sink, unknown_holder_in};
+ghost use Rattle.records.specs.Opening.{opening_of};
+ghost use Rattle.slots.specs.Steps.{ReachableFigures, FiguresStep};
+ghost use Rattle.migrate.specs.ClassLines.{no_line, taken_apart};
+
+use crate::class_tests::names_unknown;
+use crate::migrate::migrate;
+use netting::netting::{ClassColumns, ClassLine};
+use records::answers::Answer;
+use records::numbers::{NOT_IN_BOOK, OUT_OF_RANGE};
+use records::refusals::refuse;
+use records::setup::unknown_sink;
+use tariff::sizes::MAX_CLASS_LINES;
+
+// The fields of the first 64 lines, a column to a field: past the last line each column holds 0.
+#[derive(Clone, Copy)]
+struct Columns {
+    froms: [u64; MAX_CLASS_LINES],
+    tos: [u64; MAX_CLASS_LINES],
+    classes: [u64; MAX_CLASS_LINES],
+    customers: [u64; MAX_CLASS_LINES],
+    watts: [u64; MAX_CLASS_LINES],
+}
+
+// Line k, or one with 0 in every field past the last.
+fn line_at(lines: &[ClassLine], k: usize) -> ClassLine
+    ensures { result ≡ get_or lines.now k no_line }
+{
+    lines.get(k).copied().unwrap_or(ClassLine {
+        from: 0,
+        to: 0,
+        class: 0,
+        customers: 0,
+        watts: 0,
+    })
+}
+
+fn taken_apart(lines: &[ClassLine]) -> Columns
+    ensures { result ≡ taken_apart lines.now }
+{
+    Columns {
+        froms: std::array::from_fn(|k| line_at(lines, k).from),
+        tos: std::array::from_fn(|k| line_at(lines, k).to),
+        classes: std::array::from_fn(|k| line_at(lines, k).class),
+        customers: std::array::from_fn(|k| line_at(lines, k).customers),
+        watts: std::array::from_fn(|k| line_at(lines, k).watts),
+    }
+}
+
+// Whether some line names a holder who is not in the book.
+fn any_line_unknown(o: &[u64], lines: &[ClassLine]) -> bool
+    ensures { result ≡ unknown_holder_in (opening_of o.entry) lines.now }
+{
+    lines
+        .iter()
+        .any(|line| names_unknown(o, line.from, line.to))
+}
+
+// Whether the sink or a holder of some line is not in the book.
+fn some_unknown(o: &[u64], sink: u64, lines: &[ClassLine]) -> bool
+    ensures { result ≡ (unknown_sink (opening_of o.entry) sink || unknown_holder_in (opening_of o.entry) lines.now) }
+{
+    unknown_sink(o, sink) || any_line_unknown(o, lines)
+}
+
+// Moves loads, rights and last year's allocations with the customers of the class lines lent.
+// More than 64 lines are refused: 2 where the sink or a holder is not in the book, else 3.
+pub fn migrate_lines(o: &[u64], f: &mut [u64], term: u64, sink: u64, lines: &[ClassLine]) -> Answer
+    requires { ReachableFigures o.now f.old }
+    ensures { FiguresStep o.now f.old (migrate term sink lines.now) result f.new }
+{
+    let n = lines.len();
+    if MAX_CLASS_LINES < n {
+        let unknown = some_unknown(o, sink, lines);
+        return Answer::Refused(refuse(NOT_IN_BOOK, unknown, OUT_OF_RANGE));
+    }
+    let all = taken_apart(lines);
+    let columns = ClassColumns {
+        froms: &all.froms[..n],
+        tos: &all.tos[..n],
+        classes: &all.classes[..n],
+        customers: &all.customers[..n],
+        watts: &all.watts[..n],
+    };
+    migrate(o, f, term, sink, columns)
+}
