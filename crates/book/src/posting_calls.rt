@@ -1,6 +1,7 @@
 // The calls that post (01, Posting), and migration (01, Migration): the book's arrays are lent to the call, and the next book is made of them.
 ghost use Rattle.std.specs.Prelude.{◌≡◌};
-ghost use Rattle.ledger.specs.Call.{carry, prior, verify};
+ghost use Rattle.ledger.specs.Call.{carry, prior};
+ghost use Rattle.verify.specs.Decision.{verify_of};
 ghost use Rattle.book.specs.Outcomes.{outcome_of, outcome_of_blocks, outcome_of_lines};
 ghost use Rattle.book.specs.Reachable.{Reachable};
 
@@ -9,6 +10,7 @@ use load::load::load;
 use migrate::migrate::migrate;
 use postings::carry::carry;
 use postings::prior::prior;
+use source_evidence::filing::Filing;
 use verify::verify::verify_and_file;
 
 impl Book {
@@ -71,40 +73,23 @@ impl Book {
     }
 
     // Files evidence of a holder for a source; the mark says whether it runs for ten years.
-    pub fn verify(
-        self,
-        h: u64,
-        s: u64,
-        kind: u64,
-        capacity: u64,
-        right: u64,
-        first: u64,
-        last: u64,
-        mark: u64,
-    ) -> Outcome
+    pub fn verify(self, h: u64, s: u64, filing: Filing) -> Outcome
         requires { Reachable self }
-        ensures { result ≡ outcome_of self (verify h s kind capacity right first last mark) }
+        ensures { result ≡ outcome_of self (verify_of h s filing) }
     {
         let opening = self.opening;
         let mut figures = self.figures;
         let mut posted = self.posted;
-        let filed = self.evidence;
-        let outcome = verify_and_file(
+        let mut evidence = self.evidence;
+        let answer = verify_and_file(
             &opening,
             &mut figures,
             &mut posted,
-            filed,
+            &mut evidence,
             h,
             s,
-            kind,
-            capacity,
-            right,
-            first,
-            last,
-            mark,
+            filing,
         );
-        let answer = outcome.answer;
-        let evidence = outcome.evidence;
         Outcome {
             answer,
             book: Book {
