@@ -9,12 +9,10 @@ use native.Mathlib.Omega.{arith}
 use lib.ListN.{length, take, drop}
 use lib.Dec.{eqb}
 use borrow.Author.Tests.{eq-eqb, ne_eqb, eqb-true, eqb-false}
-use Rattle.std.specs.Prelude.{Result, Ok, Err}
+use Rattle.std.specs.Prelude.{Ok, Err}
 use Rattle.source_evidence.specs.declared.evidence.Entry.{Entry}
 use Rattle.source_evidence.specs.declared.filing.Filing.{Filing}
 use Rattle.source_evidence.specs.declared.filing.Filed.{Filed}
-use Rattle.source_evidence.specs.declared.filing.OutOfRange.{OutOfRange}
-use Rattle.source_evidence.specs.declared.kind.EvidenceKind.TheVariants.{Ownership, Contract}
 use Rattle.tariff.specs.Sizes.{terms, ownership, contract, evidence_kinds}
 use Rattle.source_evidence.specs.Evidence.{empty_entry, entry_of, is_ten_year}
 use Rattle.source_evidence.specs.Filing.{is_out_of_range, filed_of, filing_outcome}
@@ -49,28 +47,16 @@ use Rattle.verify.proofs.TermLaws.{terms_stored}
 -- what a decision says: a filing is accepted and files its entry under its kind, or it is refused
 pub decided_ok : (O : Opening) (L : Ledger) (h s : ℕ) (f : Filing) (filed : Filed) → Ok filed ≡ decision O L h s f → (accepted O L (verify_of h s f) ≡ true) × (filed ≡ filed_of f)
 unfolding decision
-decided_ok O L h s f filed e = go (accepted O L (verify_of h s f)) e
-  where
-    go : (t : Bool) → Ok filed ≡ cond t (Ok (filed_of f)) (Err (refusal O L (verify_of h s f))) → (t ≡ true) × (filed ≡ filed_of f)
-    go true e = (refl, cc)
-    go false e = absurd (cc)
+decided_ok O L h s f filed e = (grind arith, grind arith)
 
 pub decided_err : (O : Opening) (L : Ledger) (h s : ℕ) (f : Filing) (number : ℕ) → Err number ≡ decision O L h s f → (number ≡ refusal O L (verify_of h s f)) × (number ≡ 0 → ⊥)
 unfolding decision accepted
-decided_err O L h s f number e = go (decided (eqb (refusal O L (verify_of h s f)) 0)) e
-  where
-    go : (eqb (refusal O L (verify_of h s f)) 0 ≡ true) ⊎ (eqb (refusal O L (verify_of h s f)) 0 ≡ false) → Err number ≡ cond (eqb (refusal O L (verify_of h s f)) 0) (Ok (filed_of f)) (Err (refusal O L (verify_of h s f))) → (number ≡ refusal O L (verify_of h s f)) × (number ≡ 0 → ⊥)
-    go (inl t) e = absurd (cc)
-    go (inr t) e = let same : number ≡ refusal O L (verify_of h s f) = cc in (same, λ z. eqb-false (refusal O L (verify_of h s f)) 0 t (sym same ∙ z))
+decided_err O L h s f number e = (grind arith, λ z. grind arith)
 
 -- the kind that a number in range names has that number
 kind_numbered : (number : ℕ) → 1 ≤ number → number ≤ 2 → number_of (kind_of number) ≡ number
 unfolding kind_of
-kind_numbered number low high = go (decided (eqb number ownership))
-  where
-    go : (eqb number ownership ≡ true) ⊎ (eqb number ownership ≡ false) → number_of (cond (eqb number ownership) Ownership Contract) ≡ number
-    go (inl t) = ap (λ b. number_of (cond b Ownership Contract)) t ∙ sym (eqb-true number ownership t)
-    go (inr t) = ap (λ b. number_of (cond b Ownership Contract)) t ∙ (let other = eqb-false number ownership t in let two : contract ≡ number = omega (arith, other) in two)
+kind_numbered number low high = grind arith
 
 -- what is said of the entry in a place where one was filed, or was not
 of_filed : (say : Entry → ℕ) (here : Bool) (filed old : Entry) → cond here (say filed) (say old) ≡ say (cond here filed old)
@@ -89,17 +75,10 @@ module _ (h s kind : ℕ) (filed : Entry) (old : ℕ → ℕ → ℕ → Entry) 
   unfolding same3
   other-kind ne = sym (ap (λ b. coverage t (cond b filed (old x y k))) (and_right_false (eqb x h && eqb y s) (ne_eqb k kind ne)))
 
-abbrev unfiled : Result Filed OutOfRange
-unfiled = Err (record {})
-
 -- what numbers in range file, under a kind of their number
 filed_numbers : (f : Filing) (filed : Filed) → Ok filed ≡ filing_outcome f → (is_out_of_range f ≡ false) × (filed ≡ filed_of f)
 unfolding filing_outcome
-filed_numbers f filed e = go (decided (is_out_of_range f)) e
-  where
-    go : (is_out_of_range f ≡ true) ⊎ (is_out_of_range f ≡ false) → Ok filed ≡ cond (is_out_of_range f) unfiled (Ok (filed_of f)) → (is_out_of_range f ≡ false) × (filed ≡ filed_of f)
-    go (inl t) e = absurd (cc)
-    go (inr t) e = (t, cc)
+filed_numbers f filed e = (grind arith, grind arith)
 
 -- whether evidence was posted, in the slot of its kind
 pub posted_as : (m : List Bool) (h s : ℕ) (f : Filing) (filed : Filed) → Ok filed ≡ filing_outcome f → look_at posted_slots false m h s (evidence_posted_slot + index_of filed.kind) ≡ is_posted_in m evidence_posted_slot evidence_kinds 1 h s f.kind
