@@ -9,20 +9,14 @@ use crate::book::{Book, Outcome};
 use opening::opening::open;
 use records::setup::OPENING_COUNT;
 use slots::layout::{EVIDENCE_COUNT, FIGURE_COUNT, POSTED_COUNT};
-use source_evidence::evidence::{Entry, Evidence};
+use source_evidence::evidence::Entry;
 use tariff::settings::Settings;
 
 // No evidence filed.
 pub fn no_evidence() -> [Entry; EVIDENCE_COUNT]
     ensures { result ≡ evidence_of empty_ledger }
 {
-    let none = Entry {
-        evidence: Evidence::Empty,
-        first: 0,
-        last: 0,
-        ten_year: false,
-    };
-    [none; EVIDENCE_COUNT]
+    [Entry::EMPTY; EVIDENCE_COUNT]
 }
 
 // Opens a book, for any counts, slices and settings.

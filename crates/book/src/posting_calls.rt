@@ -1,20 +1,23 @@
 // The calls that post (01, Posting), and migration (01, Migration): the book's arrays are lent to the call, and the next book is made of them.
 ghost use Rattle.std.specs.Prelude.{◌≡◌};
-ghost use Rattle.ledger.specs.Call.{carry, migrate, prior, verify};
-ghost use Rattle.book.specs.Outcomes.{outcome_of, outcome_of_blocks, outcome_of_columns};
+ghost use Rattle.ledger.specs.Call.{load, carry, migrate, prior};
+ghost use Rattle.verify.specs.Decision.{verify_of};
+ghost use Rattle.book.specs.Outcomes.{outcome_of, outcome_of_columns};
 ghost use Rattle.book.specs.Reachable.{Reachable};
 
 use crate::book::{Book, Outcome, with_figures, with_postings};
 use load::load::load;
+use load_metric::block::Block;
 use migrate::class_lines::migrate_lines;
 use migrate::migrate::migrate;
 use netting::netting::{ClassColumns, ClassLine};
 use postings::carry::carry;
 use postings::prior::prior;
+use source_evidence::filing::Filing;
 use verify::verify::verify_and_file;
 
 impl Book {
-    // Posts the load of a holder at a sink in a term, whose blocks stand in three slices.
+    // Posts the load of a holder at a sink in a term.
     pub fn load(
         self,
         h: u64,
@@ -22,12 +25,10 @@ impl Book {
         term: u64,
         contract: u64,
         n: u64,
-        firsts: &[u64],
-        hours: &[u64],
-        kws: &[u64],
+        blocks: &[Block],
     ) -> Outcome
         requires { Reachable self }
-        ensures { result ≡ outcome_of_blocks self h s term contract n firsts.now hours.now kws.now }
+        ensures { result ≡ outcome_of self (load h s term contract n blocks.now) }
     {
         let opening = self.opening;
         let mut figures = self.figures;
@@ -41,9 +42,7 @@ impl Book {
             term,
             contract,
             n,
-            firsts,
-            hours,
-            kws,
+            blocks,
         );
         with_postings(self, answer, figures, posted)
     }
@@ -73,40 +72,23 @@ impl Book {
     }
 
     // Files evidence of a holder for a source; the mark says whether it runs for ten years.
-    pub fn verify(
-        self,
-        h: u64,
-        s: u64,
-        kind: u64,
-        capacity: u64,
-        right: u64,
-        first: u64,
-        last: u64,
-        mark: u64,
-    ) -> Outcome
+    pub fn verify(self, h: u64, s: u64, filing: Filing) -> Outcome
         requires { Reachable self }
-        ensures { result ≡ outcome_of self (verify h s kind capacity right first last mark) }
+        ensures { result ≡ outcome_of self (verify_of h s filing) }
     {
         let opening = self.opening;
         let mut figures = self.figures;
         let mut posted = self.posted;
-        let filed = self.evidence;
-        let outcome = verify_and_file(
+        let mut evidence = self.evidence;
+        let answer = verify_and_file(
             &opening,
             &mut figures,
             &mut posted,
-            filed,
+            &mut evidence,
             h,
             s,
-            kind,
-            capacity,
-            right,
-            first,
-            last,
-            mark,
+            filing,
         );
-        let answer = outcome.answer;
-        let evidence = outcome.evidence;
         Outcome {
             answer,
             book: Book {

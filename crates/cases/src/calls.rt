@@ -8,6 +8,7 @@ use crate::write::answer;
 use book::book::{Book, Outcome};
 use book::opened::open_book;
 use netting::netting::ClassLine;
+use source_evidence::filing::Filing;
 use std::io;
 use tariff::settings::present_settings;
 
@@ -91,22 +92,11 @@ pub fn prior(
     write_outcome(rt, b.prior(h, p, allocated, long_term))
 }
 
-pub fn verify(
-    rt: &impl Print,
-    b: Book,
-    h: u64,
-    s: u64,
-    kind: u64,
-    capacity: u64,
-    right: u64,
-    first: u64,
-    last: u64,
-    mark: u64,
-) -> io::Result<Book>
+pub fn verify(rt: &impl Print, b: Book, h: u64, s: u64, filing: Filing) -> io::Result<Book>
     requires { Reachable b }
     ensures { IfOk result Reachable }
 {
-    write_outcome(rt, b.verify(h, s, kind, capacity, right, first, last, mark))
+    write_outcome(rt, b.verify(h, s, filing))
 }
 
 // The first so many of two class lines, lent to the book as one slice.

@@ -9,6 +9,7 @@ use crate::calls::{
 use crate::write::case;
 use book::book::Book;
 use netting::netting::ClassLine;
+use source_evidence::filing::Filing;
 use std::io;
 
 // Load-serving entities at a Default LAP that no path ends at.
@@ -230,7 +231,15 @@ pub fn case_11(rt: &impl Print) -> io::Result<()> {
     let b = with_path(rt, &kinds, 4)?;
     let b = steady_load(rt, b, 0, 0, 1000)?;
     let b = prior(rt, b, 0, 0, 1000, 0)?;
-    let b = verify(rt, b, 0, 0, 1, 1000, 3333, 1, 3, 0)?;
+    let filing = Filing {
+        kind: 1,
+        capacity: 1000,
+        right: 3333,
+        first: 1,
+        last: 3,
+        mark: 0,
+    };
+    let b = verify(rt, b, 0, 0, filing)?;
     let b = open_tier(rt, b, 1)?;
     let b = nominate(rt, b, 0, 0, 334)?;
     let b = nominate(rt, b, 0, 0, 333)?;

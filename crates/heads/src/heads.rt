@@ -21,6 +21,7 @@ use postings::carry::carry;
 use postings::prior::prior;
 use records::answers::Answer;
 use records::numbers::UNREADABLE;
+use source_evidence::filing::Filing;
 use tier_limits::limits::limit;
 use verify::verify::verify;
 
@@ -67,7 +68,15 @@ fn run_verify(o: &[u64], f: &mut [u64], m: &mut [bool], head: Row) -> GroupOutco
     ensures consumed { (rest : List ℕ) → result.consumed ≡ head_bytes head rest }
 {
     let n = head.fields;
-    of_one_line(verify(o, f, m, n[0], n[1], n[2], n[3], n[4], n[5], n[6], n[7]))
+    let filing = Filing {
+        kind: n[2],
+        capacity: n[3],
+        right: n[4],
+        first: n[5],
+        last: n[6],
+        mark: n[7],
+    };
+    of_one_line(verify(o, f, m, n[0], n[1], filing))
 }
 
 // A head with the lines that stand after it. A line that is no head is unreadable by itself.

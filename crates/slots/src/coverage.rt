@@ -5,19 +5,22 @@ ghost use Rattle.slots.specs.Layout.{figure_slots, figure_count};
 ghost use Rattle.slots.specs.Coverage.{coverage, covered_kw, is_covered};
 
 use crate::cells::read;
-use source_evidence::evidence::{Entry, counts_for, entry_kw};
+use source_evidence::evidence::Entry;
 
 // One more than the entry's kW where it counts for the term, else 0, so that evidence of 0 kW can be told from none.
+#[tactic(auto, unfolding(crate::specs::Coverage::coverage, tariff::specs::Sum::when_true))]
 pub fn coverage(e: Entry, term: u64) -> u64
     ensures { result ≡ coverage term e }
 {
-    if !counts_for(e, term) {
-        return 0;
+    if e.counts_for(term) {
+        e.kw(term) + 1
+    } else {
+        0
     }
-    entry_kw(e, term) + 1
 }
 
 // The kW of the evidence that a slot of the figures keeps.
+#[tactic(auto, unfolding(crate::specs::Coverage::covered_kw))]
 pub fn covered_kw(f: &[u64], h: u64, s: u64, slot: u64) -> u64
     requires { HasCell figure_slots h s slot × (length f.now ≡ figure_count) }
     ensures { result ≡ covered_kw (read_at figure_slots 0 f.now h s slot) }
@@ -26,6 +29,7 @@ pub fn covered_kw(f: &[u64], h: u64, s: u64, slot: u64) -> u64
 }
 
 // Whether it keeps any.
+#[tactic(auto, unfolding(crate::specs::Coverage::is_covered))]
 pub fn is_covered(f: &[u64], h: u64, s: u64, slot: u64) -> bool
     requires { HasCell figure_slots h s slot × (length f.now ≡ figure_count) }
     ensures { result ≡ is_covered (read_at figure_slots 0 f.now h s slot) }

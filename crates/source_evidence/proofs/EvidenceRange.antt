@@ -1,16 +1,14 @@
 -- What is known of numbers that are those of an evidence. Assumes nothing.
 use Prim.Native.Nat.{ℕ, ◌≤◌}
-use mathlib.Core.Path.{◌≡◌, sym}
-use mathlib.Core.Bool.{true, false, not, ◌&&◌}
-use lib.Dec.{leb, eqb}
-use borrow.Author.Tests.{leb-true, ltb-false, eq-eqb, ne_eqb, not-false}
+use mathlib.Core.Path.{◌≡◌}
+use mathlib.Core.Bool.{true, false, ◌&&◌}
+use lib.Dec.{leb}
+use borrow.Author.Tests.{leb-true, ltb-false, not-false}
 use Rattle.tariff.specs.Terms.{is_month}
-use Rattle.source_evidence.specs.declared.evidence.Evidence.TheVariants.{Ownership, Contract}
-use Rattle.source_evidence.specs.declared.evidence.Filing.TheVariants.{OutOfRange, Valid}
-use Rattle.source_evidence.specs.Evidence.{evidence_of, entry_of, highest_right}
-use Rattle.source_evidence.specs.Filing.{evidence_out_of_range, filing_of, filing_by}
+use Rattle.source_evidence.specs.Evidence.{highest_right}
+use Rattle.source_evidence.specs.Filing.{evidence_out_of_range}
 use Rattle.tariff.specs.Ranges.{max_kw, within, kw_out_of_range, month_out_of_range}
-use Rattle.tariff.proofs.Tests.{or_unmet, and_both, not_or, not_not, not_ltb}
+use Rattle.tariff.proofs.Tests.{or_unmet, and_both}
 
 pub within_bounds : (low high x : ℕ) → within low high x ≡ true → (low ≤ x) × (x ≤ high)
 unfolding within
@@ -19,11 +17,6 @@ within_bounds low high x e = let both = and_both (leb low x) (leb x high) e in (
 pub is_month_lem : (m : ℕ) → month_out_of_range m ≡ false → (1 ≤ m) × (m ≤ 3)
 unfolding month_out_of_range is_month
 is_month_lem m e = let both = and_both (leb 1 m) (leb m 3) (not-false (leb 1 m && leb m 3) e) in (leb-true 1 m both.0, leb-true m 3 both.1)
-
--- the seven tests, as the code joins them, are those of the definition
-pub all_seven : (kind capacity right first last mark : ℕ) → (within 1 2 kind && within 1 max_kw capacity && within 1 (highest_right kind capacity) right && within 1 3 first && within 1 3 last && leb first last && leb mark 1) ≡ not (evidence_out_of_range kind capacity right first last mark)
-unfolding evidence_out_of_range kw_out_of_range month_out_of_range is_month within
-all_seven kind capacity right first last mark = sym (simp (not_or, not_not, not_ltb))
 
 pub record EvidenceFacts (kind capacity right first last mark : ℕ) : Type 0 where
   pub kinds : (1 ≤ kind) × (kind ≤ 2)
@@ -48,16 +41,3 @@ evidence_facts kind capacity right first last mark e =
       months = ((is_month_lem first first_month.1).0, ltb-false _ _ order.1, (is_month_lem last last_month.1).1);
       marks = ltb-false _ _ marks.1;
     }
-
--- what a filing comes to
-pub filing_out_of_range : (kind capacity right first last mark : ℕ) → evidence_out_of_range kind capacity right first last mark ≡ true → filing_of kind capacity right first last mark ≡ OutOfRange
-unfolding filing_of filing_by
-filing_out_of_range kind capacity right first last mark w = rw w
-
-pub filing_owned : (kind capacity right first last mark : ℕ) → evidence_out_of_range kind capacity right first last mark ≡ false → kind ≡ 1 → filing_of kind capacity right first last mark ≡ Valid (record { evidence = Ownership capacity right; first = first; last = last; ten_year = eqb mark 1 })
-unfolding filing_of entry_of evidence_of filing_by
-filing_owned kind capacity right first last mark w k = rw (w, eq-eqb kind 1 k)
-
-pub filing_contract : (kind capacity right first last mark : ℕ) → evidence_out_of_range kind capacity right first last mark ≡ false → (kind ≡ 1 → ⊥) → filing_of kind capacity right first last mark ≡ Valid (record { evidence = Contract right; first = first; last = last; ten_year = eqb mark 1 })
-unfolding filing_of entry_of evidence_of filing_by
-filing_contract kind capacity right first last mark w k = rw (w, ne_eqb kind 1 k)

@@ -2,3 +2,5 @@
 #![tactic(auto)]
 
 pub mod evidence;
+pub mod filing;
+pub mod kind;

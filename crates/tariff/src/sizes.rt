@@ -1,4 +1,4 @@
-// The sizes of a book, the ranges of its numbers, and the kinds of evidence, by name.
+// The sizes of a book and the ranges of its numbers, by name.
 
 // The most kW that any field can have (01, Posting).
 pub const MAX_KW: u64 = 99_999_999;
@@ -47,12 +47,6 @@ pub const MAX_WATTS: u64 = 9_999_999;
 
 // What summed watts are divided by for kW (01, Migration).
 pub const WATTS_PER_KW: u64 = 1_000;
-
-// The kind of evidence of an owned part of a plant (01, Posting, Verify).
-pub const OWNERSHIP: u64 = 1;
-
-// The kind of evidence of a contract (01, Posting, Verify).
-pub const CONTRACT: u64 = 2;
 
 // How many kinds of evidence there are (01, Posting, Verify).
 pub const EVIDENCE_KINDS: u64 = 2;

@@ -9,53 +9,54 @@ use native.Mathlib.Omega.{arith}
 use lib.ListN.{length, take, drop}
 use lib.Dec.{eqb}
 use borrow.Author.Tests.{eq-eqb, ne_eqb, eqb-true, eqb-false}
+use Rattle.std.specs.Prelude.{Ok, Err}
 use Rattle.source_evidence.specs.declared.evidence.Entry.{Entry}
-use Rattle.source_evidence.specs.declared.evidence.Filing.{Filing}
-use Rattle.source_evidence.specs.declared.evidence.Filing.TheVariants.{OutOfRange, Valid}
+use Rattle.source_evidence.specs.declared.filing.Filing.{Filing}
+use Rattle.source_evidence.specs.declared.filing.Filed.{Filed}
 use Rattle.tariff.specs.Sizes.{terms, ownership, contract, evidence_kinds}
 use Rattle.source_evidence.specs.Evidence.{empty_entry, entry_of, is_ten_year}
-use Rattle.source_evidence.specs.Filing.{evidence_out_of_range, filing_of, filing_by}
+use Rattle.source_evidence.specs.Filing.{is_out_of_range, filed_of, filing_outcome}
+use Rattle.source_evidence.specs.Kind.{number_of, index_of, kind_of}
+use Rattle.verify.specs.Decision.{verify_of, decision}
+use Rattle.source_evidence.proofs.EvidenceRange.{evidence_facts}
 use Rattle.tariff.proofs.Tests.{decided, and_right_false}
 use Rattle.ledger.specs.Opening.{Opening}
 use Rattle.ledger.specs.Ledger.{Ledger, with_evidence}
-use Rattle.ledger.specs.Call.{Call, verify}
-use Rattle.ledger.specs.Causes.{verify_causes, call_causes, refusal}
+use Rattle.ledger.specs.Call.{Call}
+use Rattle.ledger.specs.Causes.{refusal}
 use Rattle.ledger.specs.Effects.{same2, same3, after_verify, effect}
 use Rattle.ledger.specs.Season.{accepted}
 use Rattle.ledger.specs.Season as season
-use Rattle.ledger.specs.Numbers.{out_of_range}
-use Rattle.ledger.proofs.Unmet.{unmet, accepted_zero}
 use Rattle.ledger.proofs.Steps.{step_accepted}
 use Rattle.ledger.proofs.PostingFacts.{VerifyFacts, verify_facts}
 use Rattle.records.specs.declared.answers.Answer.TheVariants.{Done}
 use Rattle.records.specs.Opening.{opening_in}
-use Rattle.slots.specs.Cells.{HasCell, stored_at, Shows}
+use Rattle.slots.specs.Cells.{HasCell, look_at, stored_at, Shows}
 use Rattle.slots.specs.Groups.{SlotGroup, slot_group, slots_of, in_slot}
 use Rattle.slots.specs.Coverage.{coverage}
-use Rattle.slots.specs.Layout.{figure_slots, figure_count, posted_slots, posted_count, evidence_slots, figure_groups, posted_groups, evidence_groups, calendar_of, figures_of, posted_of, evidence_of, ledger_in, ownership_slot, contract_slot, ten_year_slot, flag, evidence_posted_slot}
+use Rattle.slots.specs.Layout.{figure_slots, figure_count, posted_slots, posted_count, evidence_slots, figure_groups, posted_groups, evidence_groups, calendar_of, figures_of, posted_of, evidence_of, is_posted_in, ledger_in, ownership_slot, contract_slot, ten_year_slot, flag, evidence_posted_slot}
 use Rattle.slots.specs.Steps.{Reachable, Steps}
 use Rattle.slots.proofs.CellLaws.{array_shows, shown_is}
+use Rattle.slots.proofs.PostedLaws.{posted_number}
 use Rattle.slots.proofs.StoreLaws.{StoredIn, slot_stored, number_posted}
 use Rattle.slots.proofs.Reachable.{counts, figures_shown, posted_shown, evidence_known, figures_long, posted_long}
-use Rattle.slots.proofs.StepLaws.{accepted_test, steps_accepted}
+use Rattle.slots.proofs.StepLaws.{steps_accepted}
 use Rattle.verify.specs.StoredEntry.{stored_by_term, stored_entry}
 use Rattle.verify.proofs.TermLaws.{terms_stored}
 
--- the entry of a filing, none where the evidence is out of range
-unfoldable pub entry_in : Filing → Entry
-entry_in OutOfRange = empty_entry
-entry_in (Valid e) = e
+-- what a decision says: a filing is accepted and files its entry under its kind, or it is refused
+pub decided_ok : (O : Opening) (L : Ledger) (h s : ℕ) (f : Filing) (filed : Filed) → Ok filed ≡ decision O L h s f → (accepted O L (verify_of h s f) ≡ true) × (filed ≡ filed_of f)
+unfolding decision
+decided_ok O L h s f filed e = (grind arith, grind arith)
 
--- evidence in range is filed
-pub in_range_filed : (kind capacity right first last mark : ℕ) → evidence_out_of_range kind capacity right first last mark ≡ false → filing_of kind capacity right first last mark ≡ Valid (entry_of kind capacity right first last mark)
-unfolding filing_of filing_by
-in_range_filed kind capacity right first last mark e = ap (λ b. filing_by (cond b out_of_range 0) (entry_of kind capacity right first last mark)) e
+pub decided_err : (O : Opening) (L : Ledger) (h s : ℕ) (f : Filing) (number : ℕ) → Err number ≡ decision O L h s f → (number ≡ refusal O L (verify_of h s f)) × (number ≡ 0 → ⊥)
+unfolding decision accepted
+decided_err O L h s f number e = (grind arith, λ z. grind arith)
 
-accepted_in_range : (O : Opening) (L : Ledger) (h s kind capacity right first last mark : ℕ) → accepted O L (verify h s kind capacity right first last mark) ≡ true → evidence_out_of_range kind capacity right first last mark ≡ false
-unfolding call_causes verify_causes
-accepted_in_range O L h s kind capacity right first last mark e =
-    let r2 = unmet 1 _ _ (accepted_zero O L (verify h s kind capacity right first last mark) e) in
-    (unmet 2 _ _ r2.1).0
+-- the kind that a number in range names has that number
+kind_numbered : (number : ℕ) → 1 ≤ number → number ≤ 2 → number_of (kind_of number) ≡ number
+unfolding kind_of
+kind_numbered number low high = grind arith
 
 -- what is said of the entry in a place where one was filed, or was not
 of_filed : (say : Entry → ℕ) (here : Bool) (filed old : Entry) → cond here (say filed) (say old) ≡ say (cond here filed old)
@@ -74,7 +75,22 @@ module _ (h s kind : ℕ) (filed : Entry) (old : ℕ → ℕ → ℕ → Entry) 
   unfolding same3
   other-kind ne = sym (ap (λ b. coverage t (cond b filed (old x y k))) (and_right_false (eqb x h && eqb y s) (ne_eqb k kind ne)))
 
-module _ (o f : List ℕ) (m : List Bool) (x : List Entry) (h s kind capacity right first last mark number : ℕ) (r : Reachable o f m x) (found : number ≡ refusal (opening_in o) (ledger_in f m x) (verify h s kind capacity right first last mark)) (zero : number ≡ 0) where
+-- what numbers in range file, under a kind of their number
+filed_numbers : (f : Filing) (filed : Filed) → Ok filed ≡ filing_outcome f → (is_out_of_range f ≡ false) × (filed ≡ filed_of f)
+unfolding filing_outcome
+filed_numbers f filed e = (grind arith, grind arith)
+
+-- whether evidence was posted, in the slot of its kind
+pub posted_as : (m : List Bool) (h s : ℕ) (f : Filing) (filed : Filed) → Ok filed ≡ filing_outcome f → look_at posted_slots false m h s (evidence_posted_slot + index_of filed.kind) ≡ is_posted_in m evidence_posted_slot evidence_kinds 1 h s f.kind
+unfolding filed_of
+posted_as m h s f filed e =
+    let numbers = filed_numbers f filed e in
+    let range = (evidence_facts f.kind f.capacity f.right f.first f.last f.mark numbers.0).kinds in
+    ap (λ y. look_at posted_slots false m h s (evidence_posted_slot + index_of y.kind)) numbers.1
+    ∙ ap (λ n. look_at posted_slots false m h s (evidence_posted_slot + (n - ownership))) (kind_numbered f.kind range.0 range.1)
+    ∙ posted_number m h s evidence_posted_slot evidence_kinds 1 f.kind (omega arith) range.0 (omega arith)
+
+module _ (o f : List ℕ) (m : List Bool) (x : List Entry) (h s : ℕ) (filing : Filing) (filed_as : Filed) (r : Reachable o f m x) (d : Ok filed_as ≡ decision (opening_in o) (ledger_in f m x) h s filing) where
   abbrev O : Opening
   O = opening_in o
 
@@ -82,23 +98,31 @@ module _ (o f : List ℕ) (m : List Bool) (x : List Entry) (h s kind capacity ri
   L = ledger_in f m x
 
   abbrev call : Call
-  call = verify h s kind capacity right first last mark
+  call = verify_of h s filing
+
+  abbrev kind : ℕ
+  kind = filing.kind
 
   abbrev filed : Entry
-  filed = entry_of kind capacity right first last mark
+  filed = entry_of filing.kind filing.capacity filing.right filing.first filing.last filing.mark
 
   is_accepted : accepted O L call ≡ true
-  is_accepted = accepted_test O L call number found zero
+  is_accepted = (decided_ok O L h s filing filed_as d).0
 
-  pub verify_in_range : evidence_out_of_range kind capacity right first last mark ≡ false
-  verify_in_range = accepted_in_range O L h s kind capacity right first last mark is_accepted
-
-  facts : VerifyFacts O L h s kind capacity right first last mark
-  facts = verify_facts O L h s kind capacity right first last mark is_accepted
+  facts : VerifyFacts O L h s filing.kind filing.capacity filing.right filing.first filing.last filing.mark
+  facts = verify_facts O L h s filing.kind filing.capacity filing.right filing.first filing.last filing.mark is_accepted
 
   -- the kind is 1 or 2
-  pub verify_kinds : (1 ≤ kind) × (kind ≤ 2)
+  verify_kinds : (1 ≤ kind) × (kind ≤ 2)
   verify_kinds = facts.kinds
+
+  slot_is : index_of filed_as.kind ≡ kind - 1
+  unfolding filed_of
+  slot_is = ap (λ y. index_of y.kind) (decided_ok O L h s filing filed_as d).1 ∙ ap (λ n. n - ownership) (kind_numbered kind verify_kinds.0 verify_kinds.1)
+
+  entry_is : filed_as.entry ≡ filed
+  unfolding filed_of
+  entry_is = ap (λ y. y.entry) (decided_ok O L h s filing filed_as d).1
 
   holder : h < 8
   holder = le_trans facts.holder (counts o f m x r).0
@@ -106,15 +130,15 @@ module _ (o f : List ℕ) (m : List Bool) (x : List Entry) (h s kind capacity ri
   source : s < 16
   source = le_trans facts.source (counts o f m x r).1
 
-  -- the slots are there
-  pub verify_entry : (slot : ℕ) → slot < evidence_slots → HasCell evidence_slots h s slot
-  verify_entry slot in_row = record { holder = holder; place = source; in_row = in_row }
+  -- the slots of the kind are there
+  pub decided_cell : HasCell evidence_slots h s (index_of filed_as.kind)
+  decided_cell = record { holder = holder; place = source; in_row = let range = verify_kinds in let is = slot_is in omega arith }
 
-  pub verify_slots : (slot : ℕ) → slot < evidence_slots → HasCell evidence_slots h s slot × (length f ≡ figure_count)
-  verify_slots slot in_row = (verify_entry slot in_row, figures_long o f m x r)
+  pub decided_figures : length f ≡ figure_count
+  decided_figures = figures_long o f m x r
 
-  pub verify_cell : (slot : ℕ) → slot < posted_slots → HasCell posted_slots h s slot × (length m ≡ posted_count)
-  verify_cell slot in_row = (record { holder = holder; place = source; in_row = in_row }, posted_long o f m x r)
+  pub decided_posted : length m ≡ posted_count
+  decided_posted = posted_long o f m x r
 
   abbrev entries : ℕ → ℕ → ℕ → Entry
   entries = L.evidence.entry
@@ -185,12 +209,13 @@ module _ (o f : List ℕ) (m : List Bool) (x : List Entry) (h s kind capacity ri
   same = step_accepted O L call is_accepted
 
   -- the entry is filed, whatever evidence the book has
-  pub verify_filed : (entry : Entry) (x' : List Entry) → entry ≡ filed → x' ≡ stored_at evidence_slots x h s (kind - 1) entry → x' ≡ evidence_of (season.step O L call)
-  verify_filed entry x' is e = entered x' (e ∙ ap (stored_at evidence_slots x h s (kind - 1)) is) ∙ ap evidence_of (sym same)
+  pub decided_filed : (x' : List Entry) → x' ≡ stored_at evidence_slots x h s (index_of filed_as.kind) filed_as.entry → x' ≡ evidence_of (season.step O L call)
+  decided_filed x' e = entered x' (e ∙ (λ i. stored_at evidence_slots x h s (slot_is i) (entry_is i))) ∙ ap evidence_of (sym same)
 
-  pub verify_steps : (entry : Entry) (f' : List ℕ) (m' : List Bool) → entry ≡ filed → f' ≡ stored_entry f h s (kind - 1) entry → m' ≡ stored_at posted_slots m h s (evidence_posted_slot + (kind - 1)) true → Steps O L call Done f' m' (evidence_of (season.step O L call))
-  verify_steps entry f' m' is of_figures of_posted =
-      steps_accepted O L call number found f' m' (evidence_of (season.step O L call)) zero
-      (verified f' (of_figures ∙ ap (stored_entry f h s (kind - 1)) is))
-      (noted m' of_posted)
+  pub decided_steps : (f' : List ℕ) (m' : List Bool) → f' ≡ stored_entry f h s (index_of filed_as.kind) filed_as.entry → m' ≡ stored_at posted_slots m h s (evidence_posted_slot + index_of filed_as.kind) true → Steps O L call Done f' m' (evidence_of (season.step O L call))
+  unfolding accepted
+  decided_steps f' m' of_figures of_posted =
+      steps_accepted O L call (refusal O L call) refl f' m' (evidence_of (season.step O L call)) (eqb-true (refusal O L call) 0 is_accepted)
+      (verified f' (of_figures ∙ (λ i. stored_entry f h s (slot_is i) (entry_is i))))
+      (noted m' (of_posted ∙ (λ i. stored_at posted_slots m h s (evidence_posted_slot + slot_is i) true)))
       (ap evidence_of same)

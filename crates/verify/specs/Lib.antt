@@ -1,2 +1,3 @@
--- What is stored of an entry of evidence.
+-- What a filing comes to in a book, and what is stored of an entry.
+pub mod Decision
 pub mod StoredEntry

@@ -1,5 +1,5 @@
 -- What is stored of an entry: its coverage of terms 0 to 3, in four slots side by side, and whether it is ten-year evidence.
-use Rattle.std.specs.Prelude.{ℕ, ◌+◌, ◌*◌, ◌≤◌, ◌<◌, ◌≡◌, List, length}
+use Rattle.std.specs.Prelude.{ℕ, zero, suc, ◌+◌, ◌*◌, ◌≤◌, ◌<◌, ◌≡◌, List, length}
 use Rattle.source_evidence.specs.declared.evidence.Entry.{Entry}
 use Rattle.tariff.specs.Sizes.{terms}
 use Rattle.source_evidence.specs.Evidence.{is_ten_year}
@@ -7,16 +7,15 @@ use Rattle.slots.specs.Cells.{max_holders, max_places, stored_at}
 use Rattle.slots.specs.Coverage.{coverage}
 use Rattle.slots.specs.Layout.{figure_slots, figure_count, ownership_slot, ten_year_slot, flag}
 
--- figures with an entry's coverage of each term stored in the slots that begin at `from`
+-- figures with an entry's coverage of the terms below n stored in the slots that begin at `from`
+unfoldable pub stored_below : ℕ → List ℕ → (h s from : ℕ) → Entry → List ℕ
+stored_below zero f h s from entry = f
+stored_below (suc term) f h s from entry =
+    stored_at figure_slots (stored_below term f h s from entry) h s (from + term) (coverage term entry)
+
+-- .. and of each term
 unfoldable pub stored_by_term : List ℕ → (h s from : ℕ) → Entry → List ℕ
-stored_by_term f h s from entry =
-    stored_at figure_slots
-    (stored_at figure_slots
-    (stored_at figure_slots
-    (stored_at figure_slots f h s from (coverage 0 entry))
-    h s (from + 1) (coverage 1 entry))
-    h s (from + 2) (coverage 2 entry))
-    h s (from + 3) (coverage 3 entry)
+stored_by_term f h s from entry = stored_below terms f h s from entry
 
 -- figures that have these four slots
 pub record HasTerms (f : List ℕ) (h s from : ℕ) : Type 0 where

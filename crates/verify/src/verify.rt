@@ -1,21 +1,16 @@
 // Verify: evidence for a source (01, Posting, Verify).
-ghost use Rattle.std.specs.Prelude.{◌≡◌, false, length};
-ghost use Rattle.source_evidence.specs.Evidence.{entry_of};
-ghost use Rattle.source_evidence.specs.Filing.{evidence_out_of_range};
-ghost use Rattle.ledger.specs.Call.{verify};
-ghost use Rattle.ledger.specs.Causes.{refusal};
-ghost use Rattle.ledger.specs.Season.{step};
-ghost use Rattle.records.specs.Opening.{opening_of};
+ghost use Rattle.std.specs.Prelude.{◌≡◌, ◌+◌, true, length};
+ghost use Rattle.source_evidence.specs.Kind.{index_of};
 ghost use Rattle.slots.specs.Cells.{HasCell, stored_at};
-ghost use Rattle.slots.specs.Layout.{figure_count, evidence_slots, evidence_of, ledger_in};
+ghost use Rattle.slots.specs.Layout.{figure_count, posted_slots, posted_count, evidence_slots, evidence_posted_slot, ledger_in};
 ghost use Rattle.slots.specs.Steps.{Reachable, ReachablePostings, InPostings, EvidenceStep, Steps};
+ghost use Rattle.records.specs.Opening.{opening_of};
+ghost use Rattle.verify.specs.Decision.{verify_of, decision};
 ghost use Rattle.verify.specs.StoredEntry.{stored_by_term, HasTerms, stored_entry};
 
-use postings::posted_slot::posted_slot;
 use records::answers::Answer;
 use records::calendar::tier_is_open;
 use records::numbers::{NOT_AT_THIS_TIME, NOT_IN_BOOK, OUT_OF_RANGE, POSTED_BEFORE};
-use records::refusals::refuse;
 use records::setup::{unknown_holder, unknown_source};
 use records::sums::when_true;
 use slots::calendar::current_tier;
@@ -24,155 +19,89 @@ use slots::coverage::coverage;
 use slots::layout::{
     COVERAGE_SLOT, EVIDENCE_COUNT, EVIDENCE_POSTED_SLOT, EVIDENCE_SLOTS, TEN_YEAR_SLOT,
 };
-use source_evidence::evidence::{
-    Entry, Evidence, Filing, evidence_in_range, file_evidence, is_ten_year,
-};
-use tariff::sizes::{EVIDENCE_KINDS, OWNERSHIP, TERMS};
+use source_evidence::evidence::Entry;
+use source_evidence::filing::{Filed, Filing};
+use source_evidence::kind::EvidenceKind;
+use tariff::sizes::TERMS;
 
-// An answer beside the book's evidence after it.
-#[derive(Clone, Copy)]
-pub struct VerifyOutcome {
-    pub answer: Answer,
-    pub evidence: [Entry; EVIDENCE_COUNT],
-}
-
-// The first cause that evidence meets, 0 for none.
-fn verify_refusal(
-    o: &[u64],
-    f: &[u64],
-    m: &[bool],
-    h: u64,
-    s: u64,
-    kind: u64,
-    capacity: u64,
-    right: u64,
-    first: u64,
-    last: u64,
-    mark: u64,
-) -> u64
+// What a filing files, or the number of the first cause that it meets.
+#[tactic(auto, unfolding(crate::specs::Decision::decision, ledger::specs::Season::accepted, ledger::specs::Causes::refusal, ledger::specs::Causes::call_causes, ledger::specs::Causes::verify_causes, ledger::specs::Numbers::first_met, ledger::specs::Calendar::tier_is_open, slots::specs::Layout::ledger_in, source_evidence::specs::Filing::filing_outcome))]
+fn decide(o: &[u64], f: &[u64], m: &[bool], h: u64, s: u64, filing: Filing) -> Result<Filed, u64>
     requires { ReachablePostings o.now f.now m.now }
-    ensures { InPostings o.now f.now m.now (λ O L. result ≡ refusal O L (verify h s kind capacity right first last mark)) }
+    ensures { InPostings o.now f.now m.now (λ O L. result ≡ decision O L h s filing) }
 {
-    let unknown = unknown_holder(o, h) | unknown_source(o, s);
-    let range = !evidence_in_range(kind, capacity, right, first, last, mark);
-    let open = tier_is_open(current_tier(f));
-    let posted = is_posted(
-        m,
-        h,
-        s,
-        posted_slot(EVIDENCE_POSTED_SLOT, EVIDENCE_KINDS, OWNERSHIP, kind),
-    );
-    let from_posted = refuse(POSTED_BEFORE, posted, 0);
-    let from_time = refuse(NOT_AT_THIS_TIME, open, from_posted);
-    let from_range = refuse(OUT_OF_RANGE, range, from_time);
-    refuse(NOT_IN_BOOK, unknown, from_range)
-}
-
-// The entry that evidence in range comes to.
-fn entry_in_range(kind: u64, capacity: u64, right: u64, first: u64, last: u64, mark: u64) -> Entry
-    requires { evidence_out_of_range kind capacity right first last mark ≡ false }
-    ensures { result ≡ entry_of kind capacity right first last mark }
-{
-    match file_evidence(kind, capacity, right, first, last, mark) {
-        Filing::Valid(entry) => entry,
-        Filing::OutOfRange => Entry {
-            evidence: Evidence::Empty,
-            first: 0,
-            last: 0,
-            ten_year: false,
-        },
+    if unknown_holder(o, h) || unknown_source(o, s) {
+        return Err(NOT_IN_BOOK);
     }
+    let Ok(filed) = filing.filed() else {
+        return Err(OUT_OF_RANGE);
+    };
+    if tier_is_open(current_tier(f)) {
+        return Err(NOT_AT_THIS_TIME);
+    }
+    if is_posted(m, h, s, EVIDENCE_POSTED_SLOT + filed.kind.index()) {
+        return Err(POSTED_BEFORE);
+    }
+    Ok(filed)
 }
 
 // An entry's coverage of each term, stored at a source in the four slots that begin at `from`.
+#[tactic(auto, unfolding(crate::specs::StoredEntry::stored_below, crate::specs::StoredEntry::stored_by_term))]
 fn store_by_term(f: &mut [u64], h: u64, s: u64, from: u64, entry: Entry)
     requires { HasTerms f.old h s from }
     ensures { f.new ≡ stored_by_term f.old h s from entry }
 {
-    store(f, h, s, from, coverage(entry, 0));
-    store(f, h, s, from + 1, coverage(entry, 1));
-    store(f, h, s, from + 2, coverage(entry, 2));
-    store(f, h, s, from + 3, coverage(entry, 3));
+    for term in 0..TERMS {
+        store(f, h, s, from + term, coverage(entry, term));
+    }
 }
 
-// An entry's coverage of each term and whether it is ten-year evidence, stored at a source in the slots of a kind, 0 for ownership.
-fn store_entry(f: &mut [u64], h: u64, s: u64, slot: u64, entry: Entry)
-    requires { HasCell evidence_slots h s slot × (length f.old ≡ figure_count) }
-    ensures { f.new ≡ stored_entry f.old h s slot entry }
+// An entry's coverage of each term and whether it is ten-year evidence, stored at a source in the slots of a kind.
+#[tactic(auto, unfolding(crate::specs::StoredEntry::stored_entry, slots::specs::Layout::flag))]
+fn store_entry(f: &mut [u64], h: u64, s: u64, kind: EvidenceKind, entry: Entry)
+    requires { HasCell evidence_slots h s (index_of kind) × (length f.old ≡ figure_count) }
+    ensures { f.new ≡ stored_entry f.old h s (index_of kind) entry }
 {
+    let slot = kind.index();
     store_by_term(f, h, s, COVERAGE_SLOT + TERMS * slot, entry);
-    let flag = when_true(is_ten_year(entry), 1);
+    let flag = when_true(entry.is_ten_year(), 1);
     store(f, h, s, TEN_YEAR_SLOT + slot, flag);
 }
 
-// An entry put in the cell of a holder, a source and a slot.
-fn file(
-    old: [Entry; EVIDENCE_COUNT],
-    h: u64,
-    s: u64,
-    slot: u64,
-    entry: Entry,
-) -> [Entry; EVIDENCE_COUNT]
-    requires { HasCell evidence_slots h s slot }
-    ensures { result ≡ stored_at evidence_slots old h s slot entry }
+// What is filed stored by its terms, and noted as posted.
+fn post(f: &mut [u64], m: &mut [bool], h: u64, s: u64, filed: Filed)
+    requires cell { HasCell evidence_slots h s (index_of filed.kind) }
+    requires figures { length f.old ≡ figure_count }
+    requires posted { length m.old ≡ posted_count }
+    ensures figures { f.new ≡ stored_entry f.old h s (index_of filed.kind) filed.entry }
+    ensures posted { m.new ≡ stored_at posted_slots m.old h s (evidence_posted_slot + index_of filed.kind) true }
 {
-    let at = cell(EVIDENCE_SLOTS, h, s, slot);
-    let mut evidence = old;
-    evidence[at] = entry;
-    evidence
+    store_entry(f, h, s, filed.kind, filed.entry);
+    set_posted(m, h, s, EVIDENCE_POSTED_SLOT + filed.kind.index());
+}
+
+// An entry put in the cell of a holder, a source and a kind.
+#[tactic(auto, unfolding(slots::specs::Cells::stored_at))]
+fn file(evidence: &mut [Entry; EVIDENCE_COUNT], h: u64, s: u64, filed: Filed)
+    requires { HasCell evidence_slots h s (index_of filed.kind) }
+    ensures { evidence.new ≡ stored_at evidence_slots evidence.old h s (index_of filed.kind) filed.entry }
+{
+    let at = cell(EVIDENCE_SLOTS, h, s, filed.kind.index());
+    evidence[at] = filed.entry;
 }
 
 // Posts evidence of a holder for a source: its coverage of each term and whether it is ten-year evidence is stored, and it is noted as posted.
-pub fn verify(
-    o: &[u64],
-    f: &mut [u64],
-    m: &mut [bool],
-    h: u64,
-    s: u64,
-    kind: u64,
-    capacity: u64,
-    right: u64,
-    first: u64,
-    last: u64,
-    mark: u64,
-) -> Answer
+pub fn verify(o: &[u64], f: &mut [u64], m: &mut [bool], h: u64, s: u64, filing: Filing) -> Answer
     requires { ReachablePostings o.now f.old m.old }
-    ensures { EvidenceStep o.now f.old m.old (verify h s kind capacity right first last mark) result f.new m.new }
+    ensures { EvidenceStep o.now f.old m.old (verify_of h s filing) result f.new m.new }
 {
-    let number = verify_refusal(o, f, m, h, s, kind, capacity, right, first, last, mark);
-    if number != 0 {
-        return Answer::Refused(number);
+    match decide(o, f, m, h, s, filing) {
+        Ok(filed) => {
+            post(f, m, h, s, filed);
+            Answer::Done
+        }
+        Err(number) => Answer::Refused(number),
     }
-    let entry = entry_in_range(kind, capacity, right, first, last, mark);
-    let slot = kind - 1;
-    store_entry(f, h, s, slot, entry);
-    set_posted(m, h, s, EVIDENCE_POSTED_SLOT + slot);
-    Answer::Done
-}
-
-// The book's evidence with what such a call files, where it is accepted.
-fn with_filed(
-    o: &[u64],
-    f: &[u64],
-    m: &[bool],
-    evidence: [Entry; EVIDENCE_COUNT],
-    h: u64,
-    s: u64,
-    kind: u64,
-    capacity: u64,
-    right: u64,
-    first: u64,
-    last: u64,
-    mark: u64,
-) -> [Entry; EVIDENCE_COUNT]
-    requires { Reachable o.now f.now m.now evidence }
-    ensures { result ≡ evidence_of (step (opening_of o.entry) (ledger_in f.now m.now evidence) (verify h s kind capacity right first last mark)) }
-{
-    if verify_refusal(o, f, m, h, s, kind, capacity, right, first, last, mark) != 0 {
-        return evidence;
-    }
-    let entry = entry_in_range(kind, capacity, right, first, last, mark);
-    file(evidence, h, s, kind - 1, entry)
 }
 
 // Posts evidence and files its entry among the book's.
@@ -180,25 +109,20 @@ pub fn verify_and_file(
     o: &[u64],
     f: &mut [u64],
     m: &mut [bool],
-    evidence: [Entry; EVIDENCE_COUNT],
+    evidence: &mut [Entry; EVIDENCE_COUNT],
     h: u64,
     s: u64,
-    kind: u64,
-    capacity: u64,
-    right: u64,
-    first: u64,
-    last: u64,
-    mark: u64,
-) -> VerifyOutcome
-    requires { Reachable o.now f.old m.old evidence }
-    ensures { Steps (opening_of o.entry) (ledger_in f.old m.old evidence) (verify h s kind capacity right first last mark) result.answer f.new m.new result.evidence }
+    filing: Filing,
+) -> Answer
+    requires { Reachable o.now f.old m.old evidence.old }
+    ensures { Steps (opening_of o.entry) (ledger_in f.old m.old evidence.old) (verify_of h s filing) result f.new m.new evidence.new }
 {
-    let filed = with_filed(
-        o, f, m, evidence, h, s, kind, capacity, right, first, last, mark,
-    );
-    let answer = verify(o, f, m, h, s, kind, capacity, right, first, last, mark);
-    VerifyOutcome {
-        answer,
-        evidence: filed,
+    match decide(o, f, m, h, s, filing) {
+        Ok(filed) => {
+            post(f, m, h, s, filed);
+            file(evidence, h, s, filed);
+            Answer::Done
+        }
+        Err(number) => Answer::Refused(number),
     }
 }

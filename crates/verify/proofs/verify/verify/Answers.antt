@@ -1,26 +1,19 @@
--- `verify::verify::verify` meets its contract: a refusal leaves the arrays, and of accepted evidence the kW by term and the flag are stored, and it is noted. Assumes nothing.
-use native.Mathlib.Omega.{arith}
+-- `verify::verify::verify` meets its contract: a refusal leaves the arrays, and what is filed is stored and noted. Assumes nothing.
 use Rattle.slots.proofs.StepLaws.{steps_refused, beside_next_evidence}
-use Rattle.verify.proofs.VerifyLaws.{verify_in_range, verify_kinds, verify_slots, verify_cell, verify_steps}
+use Rattle.verify.proofs.VerifyLaws.{decided_err, decided_cell, decided_figures, decided_posted, decided_steps}
 use Rattle.verify.proofs.verify.verify.Goals as goal
 
-pub returns-then-number-ne0 : goal.returns-then-number-ne0
-returns-then-number-ne0 c = λ x k. beside_next_evidence _ _ _ _ _ _ _ (steps_refused _ _ _ _ _ _ (c.verify_refusal-number.ensures _ k) k c.if-number-ne0.true)
+pub post-requires : goal.post-requires
+post-requires c =
+    let d = c.in-Ok.ensures _ c.requires.reachable in
+    record {
+      cell = decided_cell _ _ _ _ _ _ _ _ c.requires.reachable d;
+      figures = decided_figures _ _ _ _ _ _ _ _ c.requires.reachable d;
+      posted = decided_posted _ _ _ _ _ _ _ _ c.requires.reachable d;
+    }
 
-pub entry_in_range-entry-requires : goal.entry_in_range-entry-requires
-entry_in_range-entry-requires c = verify_in_range _ _ _ _ _ _ _ _ _ _ _ _ _ c.requires.reachable (c.verify_refusal-number.ensures _ c.requires.reachable) c.if-number-ne0.false
+pub returns-in-Ok : goal.returns-in-Ok
+returns-in-Ok c = λ x r. decided_steps _ _ _ _ _ _ _ _ r (c.in-Ok.ensures x r) _ _ c.post.ensures.figures c.post.ensures.posted
 
-pub overflow_sub-slot : goal.overflow_sub-slot
-overflow_sub-slot c = let range = verify_kinds _ _ _ _ _ _ _ _ _ _ _ _ _ c.requires.reachable (c.verify_refusal-number.ensures _ c.requires.reachable) c.if-number-ne0.false in omega arith
-
-pub store_entry-requires : goal.store_entry-requires
-store_entry-requires c = let range = verify_kinds _ _ _ _ _ _ _ _ _ _ _ _ _ c.requires.reachable (c.verify_refusal-number.ensures _ c.requires.reachable) c.if-number-ne0.false in verify_slots _ _ _ _ _ _ _ _ _ _ _ _ _ c.requires.reachable (c.verify_refusal-number.ensures _ c.requires.reachable) c.if-number-ne0.false _ (omega arith)
-
-pub overflow_add-slot : goal.overflow_add-slot
-overflow_add-slot c = let range = verify_kinds _ _ _ _ _ _ _ _ _ _ _ _ _ c.requires.reachable (c.verify_refusal-number.ensures _ c.requires.reachable) c.if-number-ne0.false in omega arith
-
-pub set_posted-requires : goal.set_posted-requires
-set_posted-requires c = let range = verify_kinds _ _ _ _ _ _ _ _ _ _ _ _ _ c.requires.reachable (c.verify_refusal-number.ensures _ c.requires.reachable) c.if-number-ne0.false in verify_cell _ _ _ _ _ _ _ _ _ _ _ _ _ c.requires.reachable (c.verify_refusal-number.ensures _ c.requires.reachable) c.if-number-ne0.false _ (omega arith)
-
-pub returns : goal.returns
-returns c = λ x k. verify_steps _ _ _ _ _ _ _ _ _ _ _ _ _ k (c.verify_refusal-number.ensures _ k) c.if-number-ne0.false _ _ _ c.entry_in_range-entry.ensures c.store_entry.ensures c.set_posted.ensures
+pub returns-in-Err : goal.returns-in-Err
+returns-in-Err c = λ x r. let refused = decided_err _ _ _ _ _ _ (c.in-Err.ensures x r) in beside_next_evidence _ _ _ _ _ _ _ (steps_refused _ _ _ _ _ _ refused.0 r refused.1)

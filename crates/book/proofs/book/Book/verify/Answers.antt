@@ -1,11 +1,11 @@
--- `book::Book::verify` meets its contract: the next book is made of the arrays that were lent, and of the evidence returned. Assumes nothing.
+-- `book::Book::verify` meets its contract: the next book is made of the arrays that were lent, and of the evidence filed in. Assumes nothing.
 use Rattle.book.specs.Reading.{book_in}
 use Rattle.book.proofs.OutcomeBooks.{outcome_book}
 use Rattle.book.proofs.book.Book.verify.Goals as goal
 
-pub verify_and_file-outcome-requires : goal.verify_and_file-outcome-requires
-verify_and_file-outcome-requires c = c.requires
+pub verify_and_file-answer-requires : goal.verify_and_file-answer-requires
+verify_and_file-answer-requires c = c.requires
 
 pub returns : goal.returns
 unfolding book_in
-returns c = outcome_book _ _ _ _ _ _ _ _ _ c.verify_and_file-outcome.ensures
+returns c = outcome_book _ _ _ _ _ _ _ _ _ c.verify_and_file-answer.ensures
