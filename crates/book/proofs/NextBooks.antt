@@ -3,14 +3,13 @@ use Prim.Native.Nat.{ℕ}
 use mathlib.Core.Path.{◌≡◌, sym, subst}
 use mathlib.Core.Bool.{Bool, true, false, cond}
 use mathlib.Core.List.{List}
-use Rattle.load_metric.specs.Metering.{blocks_of, same_lengths}
 use Rattle.netting.specs.Netting.{class_lines_of, same_counts}
 use Rattle.ledger.specs.Numbers.{unreadable}
 use Rattle.ledger.specs.Opening.{Opening}
-use Rattle.ledger.specs.Call.{Call, load, migrate}
+use Rattle.ledger.specs.Call.{Call, migrate}
 use Rattle.book.specs.declared.book.Book.{Book}
 use Rattle.book.specs.declared.book.Outcome.{Outcome}
-use Rattle.book.specs.Outcomes.{refused_with, outcome_of, outcome_of_blocks, outcome_of_lines}
+use Rattle.book.specs.Outcomes.{refused_with, outcome_of, outcome_of_lines}
 use Rattle.book.specs.Reachable.{Reachable}
 use Rattle.book.specs.Opened.{opening_outcome}
 use Rattle.book.proofs.ReachableSteps.{outcome_reachable}
@@ -32,10 +31,6 @@ module _ (b : Book) (r : Reachable b) where
   unfolding refused_with
   either true c = outcome_reachable b r c
   either false c = r
-
-  pub after_load_lem : (h s term contract n : ℕ) (fs hs ks : List ℕ) (a : Outcome) → a ≡ outcome_of_blocks b h s term contract n fs hs ks → Reachable a.book
-  unfolding outcome_of_blocks
-  after_load_lem h s term contract n fs hs ks a e = beside a (outcome_of_blocks b h s term contract n fs hs ks) e (either (same_lengths fs hs ks) (load h s term contract n (blocks_of fs hs ks)))
 
   pub after_migrate : (term sink : ℕ) (froms tos classes customers watts : List ℕ) (a : Outcome) → a ≡ outcome_of_lines b term sink froms tos classes customers watts → Reachable a.book
   unfolding outcome_of_lines

@@ -1,6 +1,5 @@
 -- What a call returns: the ledger's answer, and the book of the ledger's next step.
 use Rattle.std.specs.Prelude.{ℕ, Bool, cond, List}
-use Rattle.load_metric.specs.Metering.{blocks_of, same_lengths}
 use Rattle.netting.specs.declared.netting.ClassColumns.{ClassColumns}
 use Rattle.netting.specs.Netting.{class_lines_of, same_counts}
 use Rattle.ledger.specs.Call.{Call, Query, load, migrate}
@@ -35,11 +34,7 @@ with_postings b answer figures posted = record { answer = answer; book = book_in
 unfoldable pub with_figures : Book → Answer → List ℕ → Outcome
 with_figures b answer figures = with_postings b answer figures b.posted
 
--- slices of unequal length are no blocks and no class lines: the call is refused as unreadable, and the book stays as it was
-unfoldable pub outcome_of_blocks : Book → ℕ → ℕ → ℕ → ℕ → ℕ → List ℕ → List ℕ → List ℕ → Outcome
-outcome_of_blocks b h s term contract n fs hs ks =
-    cond (same_lengths fs hs ks) (outcome_of b (load h s term contract n (blocks_of fs hs ks))) (refused_with b unreadable)
-
+-- slices of unequal length are no class lines: the call is refused as unreadable, and the book stays as it was
 unfoldable pub outcome_of_lines : Book → ℕ → ℕ → List ℕ → List ℕ → List ℕ → List ℕ → List ℕ → Outcome
 outcome_of_lines b term sink froms tos classes customers watts =
     cond (same_counts froms tos classes customers watts) (outcome_of b (migrate term sink (class_lines_of froms tos classes customers watts)))

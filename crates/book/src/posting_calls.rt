@@ -18,15 +18,7 @@ use verify::verify::verify_and_file;
 
 impl Book {
     // Posts the load of a holder at a sink in a term.
-    pub fn load(
-        self,
-        h: u64,
-        s: u64,
-        term: u64,
-        contract: u64,
-        n: u64,
-        blocks: &[Block],
-    ) -> Outcome
+    pub fn load(self, h: u64, s: u64, term: u64, contract: u64, n: u64, blocks: &[Block]) -> Outcome
         requires { Reachable self }
         ensures { result ≡ outcome_of self (load h s term contract n blocks.now) }
     {

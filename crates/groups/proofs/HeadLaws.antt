@@ -16,7 +16,8 @@ use Rattle.book.specs.Reading.{book_in}
 use Rattle.book.specs.Outcomes.{refused_with, outcome_of, query_answer_in}
 use Rattle.lines.specs.declared.rows.Row.{Row}
 use Rattle.lines.specs.Rows.{load_line, block_line, carry_line, prior_line, verify_line, migrate_line, class_line, open_line, nominate_line, award_line, close_line, limit_line, held_line, net_line, field, counted}
-use Rattle.groups.specs.Groups.{block_of, class_line_of, Group, unreadable_group, request, lookup, when_complete, request_of}
+use Rattle.counted_lines.specs.Counted.{block_of, class_line_of}
+use Rattle.groups.specs.Groups.{Group, unreadable_group, request, lookup, when_complete, request_of}
 use Rattle.groups.specs.Outcome.{outcome_of_group, Answers}
 
 module _ (r : Row) (lines : List Row) where

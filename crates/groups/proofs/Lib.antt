@@ -1,4 +1,3 @@
-pub mod RowLists
 pub mod GroupLaws
 pub mod HeadLaws
 pub mod OutcomeLaws

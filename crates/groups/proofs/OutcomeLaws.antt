@@ -5,12 +5,10 @@ use mathlib.Core.Bool.{Bool, true, false, cond}
 use mathlib.Core.List.{List, map}
 use native.Mathlib.Nat.{add-zero, le_trans, le_of_eq}
 use native.Mathlib.Omega.{arith}
-use lib.ListN.{length, take, drop, replicate, length-take, length-drop, length-replicate}
+use lib.ListN.{length, take, drop, replicate, length-replicate, length-map, length-take, length-drop}
 use lib.Dec.{eqb}
 use borrow.Author.Tests.{eqb-true, eqb-false, ne_eqb}
 use Rattle.tariff.proofs.Tests.{and_both}
-use Rattle.load_metric.specs.Metering.{blocks_of}
-use Rattle.netting.specs.Netting.{class_lines_of}
 use Rattle.ledger.specs.Numbers.{unreadable}
 use Rattle.ledger.specs.Call.{load, migrate}
 use Rattle.ledger.specs.Season.{Request, call}
@@ -18,22 +16,21 @@ use Rattle.book.specs.declared.book.Book.{Book}
 use Rattle.records.specs.declared.answers.Answer.{Answer}
 use Rattle.records.specs.declared.answers.Answer.TheVariants.{Refused}
 use Rattle.book.specs.declared.book.Outcome.{Outcome}
-use Rattle.book.specs.Outcomes.{refused_with, outcome_of, outcome_of_blocks, outcome_of_lines}
+use Rattle.book.specs.Outcomes.{refused_with, outcome_of}
 use Rattle.lines.specs.declared.rows.Row.{Row}
 use Rattle.counted_lines.specs.declared.counted.CountedLines.{CountedLines}
 use Rattle.lines.specs.declared.lines.NextRow.{NextRow}
 use Rattle.lines.specs.Reading.{next_row}
 use Rattle.lines.specs.Rows.{rows_of, load_line, migrate_line, field, counted, all_of_kind}
-use Rattle.counted_lines.specs.Counted.{bytes_of_lines, rows_counted, counted_of, kept_fields, column_length, column_of, buffer_with}
+use Rattle.counted_lines.specs.Counted.{bytes_of_lines, rows_counted, counted_of, with_lines}
 use Rattle.counted_lines.proofs.RowSteps.{consumed_within}
 use Rattle.counted_lines.proofs.LineBytes.{bytes_within, rows_after}
 use Rattle.lines.proofs.FieldLaws.{rest_all}
-use Rattle.counted_lines.proofs.BufferLaws.{same_columns, column_kept}
+use Rattle.counted_lines.proofs.KeptLines.{all_kept}
 use Rattle.groups.specs.declared.outcome.GroupOutcome.{GroupOutcome}
-use Rattle.groups.specs.Groups.{block_of, class_line_of, Group, request, lines_counted, when_complete, request_of}
+use Rattle.groups.specs.Groups.{Group, request, lines_counted, when_complete, request_of}
 use Rattle.groups.specs.Outcome.{of_one_line, head_group, head_bytes, first_group, group_bytes, outcome_of_group, Answers, GroupAnswers}
 use Rattle.groups.proofs.HeadLaws.{by_unreadable}
-use Rattle.groups.proofs.RowLists.{blocks_of_rows, blocks_even, class_lines_of_rows, class_lines_even}
 
 -- counted lines are at most those that are left, and at most as many as are counted
 rows_few : (n : ℕ) (s : List ℕ) → length (rows_counted n s) ≤ length (rows_of s)
@@ -56,17 +53,20 @@ module _ (kind n : ℕ) (s : List ℕ) (x : CountedLines) (read : x ≡ counted_
   unfolding counted_of
   consumed-is = ap (λ y. y.consumed) read
 
-  -- where the lines are complete, each column of the buffer has a field of each of them
-  module _ (all : x.complete ≡ true) (buffer kept : List ℕ) (fits : length rows ≤ column_length buffer) (is : kept ≡ buffer_with rows buffer) where
-    rows-many : length rows ≡ n
+  -- where the lines are complete there are as many as counted, and an array with a place for each has them in its front
+  module _ (all : x.complete ≡ true) where
+    pub rows_many : length rows ≡ n
     unfolding counted
-    rows-many = eqb-true (length rows) n (and_both (eqb (length rows) n) (all_of_kind kind rows) (sym complete-is ∙ all)).0
+    rows_many = eqb-true (length rows) n (and_both (eqb (length rows) n) (all_of_kind kind rows) (sym complete-is ∙ all)).0
 
-    pub count_fits : n ≤ column_length kept
-    count_fits = le_trans (le_of_eq (sym rows-many)) (le_trans fits (le_of_eq (sym (ap column_length is ∙ same_columns rows buffer fits))))
+    pub count_fits : (places : ℕ) → length rows ≤ places → n ≤ places
+    count_fits places = subst (λ k. k ≤ places) rows_many
 
-    pub column_is : (j : ℕ) (part : List ℕ) → j < kept_fields → part ≡ column_of j n kept → part ≡ map (field j) rows
-    column_is j part l e = e ∙ (λ i. column_of j (sym rows-many i) (is i)) ∙ column_kept j rows buffer l fits
+    pub lines_are : {T : Type 0} (of : Row → T) (places : ℕ) (none : T) (kept : List T) → length rows ≤ places → kept ≡ with_lines (map of rows) (replicate places none) → take n kept ≡ map of rows
+    lines_are of places none kept fits is =
+        let many = length-map rows of in
+        let long = length-replicate places none in
+        (λ i. take (sym (many ∙ rows_many) i) (is i)) ∙ all_kept (map of rows) (replicate places none) (omega arith)
 
 -- a head that makes a request if the lines it counts are complete
 module _ (head : Row) (s : List ℕ) (kind n : ℕ) (req : Request) (x : CountedLines) (read : x ≡ counted_of kind n s) (counts : lines_counted head ≡ n) (requests : request_of head (rows_counted n s) ≡ when_complete (counted kind n (rows_counted n s)) req) where
@@ -92,36 +92,12 @@ module _ (head : Row) (s : List ℕ) (n : ℕ) (counts : lines_counted head ≡ 
   pub fits_counted : (most : ℕ) → length (rows_counted (lines_counted head) s) ≤ most → length (rows_counted n s) ≤ most
   fits_counted most = subst (λ k. length (rows_counted k s) ≤ most) counts
 
-  pub kept_counted : (buffer kept : List ℕ) → kept ≡ buffer_with (rows_counted n s) buffer → kept ≡ buffer_with (rows_counted (lines_counted head) s) buffer
-  kept_counted buffer kept e = e ∙ ap (λ k. buffer_with (rows_counted k s) buffer) (sym counts)
+  -- an array that is made for so many lines, or for all that a script has
+  pub few_fit : (size : ℕ) → n ≤ size → length (rows_counted (lines_counted head) s) ≤ size
+  few_fit size few = let most = rows_counted_lem (lines_counted head) s in let same = counts in omega arith
 
-  -- a buffer of zeros that is made for so many lines, or for all that a script has
-  pub few_fit : (size : ℕ) → n ≤ size / kept_fields → length (rows_counted (lines_counted head) s) ≤ column_length (replicate size 0)
-  unfolding column_length
-  few_fit size few = let long = length-replicate {A = ℕ} size 0 in let most = rows_counted_lem (lines_counted head) s in let same = counts in omega arith
-
-  pub all_fit : (size : ℕ) → length (rows_of s) ≤ size / kept_fields → length (rows_counted (lines_counted head) s) ≤ column_length (replicate size 0)
-  unfolding column_length
-  all_fit size few = let long = length-replicate {A = ℕ} size 0 in let most = rows_few (lines_counted head) s in omega arith
-
-module _ (b : Book) (head : Row) (rows : List Row) where
-  -- blocks that stand in slices as they stand in rows
-  pub load_is : (fs hs ks : List ℕ) (a : Outcome) → a ≡ outcome_of_blocks b (field 0 head) (field 1 head) (field 2 head) (field 3 head) (field 4 head) fs hs ks → fs ≡ map (field 0) rows → hs ≡ map (field 1) rows → ks ≡ map (field 2) rows → a ≡ outcome_of_group b (request (call (load (field 0 head) (field 1 head) (field 2 head) (field 3 head) (field 4 head) (map block_of rows))))
-  unfolding outcome_of_group outcome_of_blocks
-  load_is fs hs ks a given f h k =
-      given
-      ∙ (λ i. outcome_of_blocks b (field 0 head) (field 1 head) (field 2 head) (field 3 head) (field 4 head) (f i) (h i) (k i))
-      ∙ ap (λ t. cond t (outcome_of b (load (field 0 head) (field 1 head) (field 2 head) (field 3 head) (field 4 head) (blocks_of (map (field 0) rows) (map (field 1) rows) (map (field 2) rows)))) (refused_with b unreadable)) (blocks_even rows)
-      ∙ ap (λ bs. outcome_of b (load (field 0 head) (field 1 head) (field 2 head) (field 3 head) (field 4 head) bs)) (blocks_of_rows rows)
-
-  -- class lines likewise
-  pub migrate_is : (fs ts cs us ws : List ℕ) (a : Outcome) → a ≡ outcome_of_lines b (field 0 head) (field 1 head) fs ts cs us ws → fs ≡ map (field 0) rows → ts ≡ map (field 1) rows → cs ≡ map (field 2) rows → us ≡ map (field 3) rows → ws ≡ map (field 4) rows → a ≡ outcome_of_group b (request (call (migrate (field 0 head) (field 1 head) (map class_line_of rows))))
-  unfolding outcome_of_group outcome_of_lines
-  migrate_is fs ts cs us ws a given f t c u w =
-      given
-      ∙ (λ i. outcome_of_lines b (field 0 head) (field 1 head) (f i) (t i) (c i) (u i) (w i))
-      ∙ ap (λ v. cond v (outcome_of b (migrate (field 0 head) (field 1 head) (class_lines_of (map (field 0) rows) (map (field 1) rows) (map (field 2) rows) (map (field 3) rows) (map (field 4) rows)))) (refused_with b unreadable)) (class_lines_even rows)
-      ∙ ap (λ ls. outcome_of b (migrate (field 0 head) (field 1 head) ls)) (class_lines_of_rows rows)
+  pub all_fit : (size : ℕ) → length (rows_of s) ≤ size → length (rows_counted (lines_counted head) s) ≤ size
+  all_fit size few = let most = rows_few (lines_counted head) s in omega arith
 
 module _ (head : Row) where
   pub load_counts : head.kind ≡ load_line → lines_counted head ≡ field 5 head

@@ -1,18 +1,11 @@
 -- Groups: a head and the lines that it counts, and the request that they make (01, Script and host).
 use Rattle.std.specs.Prelude.{ℕ, zero, suc, Bool, cond, ◌&&◌, List, [], ◌∷◌, map, length, take, drop, eqb}
-use Rattle.netting.specs.declared.netting.ClassLine.{ClassLine}
-use Rattle.load_metric.specs.declared.block.Block.{Block}
 use Rattle.ledger.specs.Opening.{Opening}
 use Rattle.ledger.specs.Call.{load, carry, prior, verify, migrate, open_tier, nominate, award, close_tier, limit_of, held_on, net_on}
 use Rattle.ledger.specs.Season.{Request, call, query}
 use Rattle.lines.specs.declared.rows.Row.{Row}
+use Rattle.counted_lines.specs.Counted.{block_of, class_line_of}
 use Rattle.lines.specs.Rows.{field, counted, book_line, holder_line, sink_line, path_line, load_line, block_line, carry_line, prior_line, verify_line, migrate_line, class_line, open_line, nominate_line, award_line, close_line, limit_line, held_line, net_line, holder_rows, sink_rows, path_rows, set_readable, settings_of_rows, book_line_count}
-
-unfoldable pub block_of : Row → Block
-block_of r = record { first = field 0 r; hours = field 1 r; kw = field 2 r }
-
-unfoldable pub class_line_of : Row → ClassLine
-class_line_of r = record { from = field 0 r; to = field 1 r; class = field 2 r; customers = field 3 r; watts = field 4 r }
 
 -- a group as it is read: a request, or unreadable where a line of it is unreadable or absent
 pub data Group : Type 0 where

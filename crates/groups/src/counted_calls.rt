@@ -2,98 +2,92 @@
 ghost use Rattle.std.specs.Prelude.{◌≡◌, ◌≤◌, length};
 ghost use Rattle.slots.specs.Steps.{ReachableFigures, ReachablePostings};
 ghost use Rattle.lines.specs.Rows.{rows_of, load_line, migrate_line};
-ghost use Rattle.counted_lines.specs.Counted.{rows_counted, column_length, buffer_with};
+ghost use Rattle.counted_lines.specs.Counted.{rows_counted};
 ghost use Rattle.lines.specs.Text.{max_lines};
 ghost use Rattle.groups.specs.Groups.{lines_counted};
 ghost use Rattle.groups.specs.Outcome.{head_group, head_bytes, FiguresAnswers, PostingsAnswers};
 
 use crate::outcome::GroupOutcome;
-use counted_lines::counted::{KEPT_FIELDS, column, read_counted};
+use counted_lines::counted::read_counted;
 use lines::rows::{BLOCK_LINE, CLASS_LINE, Row};
 use lines::text::MAX_LINES;
 use load::load::load;
-use migrate::migrate::migrate;
-use netting::netting::ClassColumns;
+use load_metric::block::Block;
+use migrate::class_lines::migrate_lines;
+use netting::netting::ClassLine;
 use records::answers::Answer;
 use records::numbers::UNREADABLE;
 
-// Up to so many lines are kept in a small buffer, so that a short group does not pay for room that it does not need.
+// Up to so many lines are kept in a small array, so that a short group does not pay for room that it does not need. A script has no more lines than
+// the large one keeps, MAX_LINES.
 const FEW_LINES: usize = 64;
 
-const SMALL_BUFFER: usize = KEPT_FIELDS * FEW_LINES;
-
-// A script has no more lines than this buffer keeps.
-const LARGE_BUFFER: usize = KEPT_FIELDS * MAX_LINES;
-
-// A load with its block lines, in a buffer that has a place for each of them.
-fn load_in_buffer(
+// A load with its block lines, in an array that has a place for each of them.
+fn load_with_room<const N: usize>(
     o: &[u64],
     f: &mut [u64],
     m: &mut [bool],
     head: Row,
     rest: &[u8],
-    buffer: &mut [u64],
 ) -> GroupOutcome
     requires reachable { ReachablePostings o.now f.old m.old }
     requires load { head.kind ≡ load_line }
-    requires buffer { length (rows_counted (lines_counted head) rest.now) ≤ column_length buffer.old }
+    requires room { length (rows_counted (lines_counted head) rest.now) ≤ N }
+    requires few { N ≤ max_lines }
     ensures answer { PostingsAnswers o.now f.old m.old (head_group head rest.now) result.answer f.new m.new }
     ensures consumed { result.consumed ≡ head_bytes head rest.now }
-    ensures buffer { buffer.new ≡ buffer_with (rows_counted (lines_counted head) rest.now) buffer.old }
 {
     let n = head.fields;
     let count = n[5];
-    let read = read_counted(rest, BLOCK_LINE, count, buffer);
+    let none = Block {
+        first: 0,
+        hours: 0,
+        kw: 0,
+    };
+    let mut blocks = [none; N];
+    let read = read_counted(rest, BLOCK_LINE, count, &mut blocks);
     let consumed = read.consumed;
     if !read.complete {
         let answer = Answer::Refused(UNREADABLE);
         return GroupOutcome { answer, consumed };
     }
-    let k = count as usize;
-    let firsts = column(buffer, 0, k);
-    let lengths = column(buffer, 1, k);
-    let kws = column(buffer, 2, k);
-    let answer = load(o, f, m, n[0], n[1], n[2], n[3], n[4], firsts, lengths, kws);
+    let posted = &blocks[..count as usize];
+    let answer = load(o, f, m, n[0], n[1], n[2], n[3], n[4], posted);
     GroupOutcome { answer, consumed }
 }
 
-// A migrate with its class lines, in a buffer that has a place for each of them.
-fn migrate_in_buffer(
+// A migrate with its class lines, in an array that has a place for each of them.
+fn migrate_with_room<const N: usize>(
     o: &[u64],
     f: &mut [u64],
     head: Row,
     rest: &[u8],
-    buffer: &mut [u64],
 ) -> GroupOutcome
     requires reachable { ReachableFigures o.now f.old }
     requires migrate { head.kind ≡ migrate_line }
-    requires buffer { length (rows_counted (lines_counted head) rest.now) ≤ column_length buffer.old }
+    requires room { length (rows_counted (lines_counted head) rest.now) ≤ N }
+    requires few { N ≤ max_lines }
     ensures answer { FiguresAnswers o.now f.old (head_group head rest.now) result.answer f.new }
     ensures consumed { result.consumed ≡ head_bytes head rest.now }
-    ensures buffer { buffer.new ≡ buffer_with (rows_counted (lines_counted head) rest.now) buffer.old }
 {
     let n = head.fields;
     let count = n[2];
-    let read = read_counted(rest, CLASS_LINE, count, buffer);
+    let none = ClassLine {
+        from: 0,
+        to: 0,
+        class: 0,
+        customers: 0,
+        watts: 0,
+    };
+    let mut lines = [none; N];
+    let read = read_counted(rest, CLASS_LINE, count, &mut lines);
     let consumed = read.consumed;
     if !read.complete {
         let answer = Answer::Refused(UNREADABLE);
         return GroupOutcome { answer, consumed };
     }
-    let k = count as usize;
-    let froms = column(buffer, 0, k);
-    let tos = column(buffer, 1, k);
-    let classes = column(buffer, 2, k);
-    let customers = column(buffer, 3, k);
-    let watts = column(buffer, 4, k);
-    let columns = ClassColumns {
-        froms,
-        tos,
-        classes,
-        customers,
-        watts,
-    };
-    let answer = migrate(o, f, n[0], n[1], columns);
+    let moved = &lines[..count as usize];
+    let answer = migrate_lines(o, f, n[0], n[1], moved);
     GroupOutcome { answer, consumed }
 }
 
@@ -107,11 +101,9 @@ pub fn run_load(o: &[u64], f: &mut [u64], m: &mut [bool], head: Row, rest: &[u8]
 {
     let n = head.fields;
     if n[5] <= FEW_LINES as u64 {
-        let mut buffer = [0u64; SMALL_BUFFER];
-        return load_in_buffer(o, f, m, head, rest, &mut buffer);
+        return load_with_room::<FEW_LINES>(o, f, m, head, rest);
     }
-    let mut buffer = [0u64; LARGE_BUFFER];
-    load_in_buffer(o, f, m, head, rest, &mut buffer)
+    load_with_room::<MAX_LINES>(o, f, m, head, rest)
 }
 
 // A migrate with its class lines.
@@ -124,9 +116,7 @@ pub fn run_migrate(o: &[u64], f: &mut [u64], head: Row, rest: &[u8]) -> GroupOut
 {
     let n = head.fields;
     if n[2] <= FEW_LINES as u64 {
-        let mut buffer = [0u64; SMALL_BUFFER];
-        return migrate_in_buffer(o, f, head, rest, &mut buffer);
+        return migrate_with_room::<FEW_LINES>(o, f, head, rest);
     }
-    let mut buffer = [0u64; LARGE_BUFFER];
-    migrate_in_buffer(o, f, head, rest, &mut buffer)
+    migrate_with_room::<MAX_LINES>(o, f, head, rest)
 }

@@ -86,9 +86,6 @@ PostingsStep o f m c answer f' m' = (x : List Entry) → Reachable o f m x → S
 abbrev pub EvidenceStep : (o f : List ℕ) (m : List Bool) → Call → Answer → List ℕ → List Bool → Type 0
 EvidenceStep o f m c answer f' m' = (x : List Entry) → Reachable o f m x → Steps (opening_in o) (ledger_in f m x) c answer f' m' (evidence_of (season.step (opening_in o) (ledger_in f m x) c))
 
--- the same of calls whose lines stand in slices
+-- the same of a call whose lines stand in slices
 abbrev pub FiguresStepIf : Bool → (o f : List ℕ) → Call → Answer → List ℕ → Type 0
 FiguresStepIf same_lengths o f c answer f' = (m : List Bool) (x : List Entry) → Reachable o f m x → StepsIf same_lengths (opening_in o) (ledger_in f m x) c answer f' m x
-
-abbrev pub PostingsStepIf : Bool → (o f : List ℕ) (m : List Bool) → Call → Answer → List ℕ → List Bool → Type 0
-PostingsStepIf same_lengths o f m c answer f' m' = (x : List Entry) → Reachable o f m x → StepsIf same_lengths (opening_in o) (ledger_in f m x) c answer f' m' x
