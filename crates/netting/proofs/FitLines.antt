@@ -1,16 +1,15 @@
 -- Class lines that are fit to be netted: the tests, and what they show. Assumes nothing.
-use Prim.Native.Nat.{ℕ, ◌≤◌, ◌<◌}
-use mathlib.Core.Path.{◌≡◌, sym, ap, ◌∙◌}
-use mathlib.Core.Bool.{Bool, true, false, not, ◌&&◌}
+use Prim.Native.Nat.{ℕ}
+use mathlib.Core.Path.{◌≡◌}
+use mathlib.Core.Bool.{Bool, true, ◌&&◌}
 use mathlib.Core.List.{List}
-use native.Mathlib.Omega.{arith}
 use lib.ListN.{length}
 use lib.Dec.{leb, eqb}
 use borrow.Author.Tests.{eq-eqb, eqb-true}
 use Rattle.netting.specs.declared.netting.ClassLine.{ClassLine}
 use Rattle.tariff.specs.Sum.{any_below, any_of}
 use Rattle.netting.specs.Netting.{same_counts, SameLengths, class_line_at, class_lines_of, unfit_line}
-use Rattle.tariff.proofs.Tests.{and_join, any_at, and_both}
+use Rattle.tariff.proofs.Tests.{and_join, and_both}
 use Rattle.tariff.proofs.Lists.{any_tabulate}
 
 module _ (froms tos classes customers watts : List ℕ) where

@@ -92,9 +92,6 @@ next_watts froms tos customers watts k cells next line s l len e stored old i j 
     ap (λ x. pair_at x i j) (stored ∙ ap (λ v. set cells (get_or froms k 0 * 8 + get_or tos k 0) (pair_at cells (get_or froms k 0) (get_or tos k 0) + v)) e)
     ∙ more_watts froms tos customers watts k cells len (s.holders k l).0 (s.holders k l).1 old i j li lj
 
-pub all_watts : (froms tos customers watts : List ℕ) (k : ℕ) (cells : List ℕ) → k ≤ length froms → length froms ≤ k → HoldsWatts froms tos customers watts k cells → HoldsWatts froms tos customers watts (length froms) cells
-all_watts froms tos customers watts k cells below above old i j li lj = old i j li lj ∙ ap (λ n. watts_to froms tos customers watts n i j) (let e : k ≡ length froms = omega arith in e)
-
 -- a cell is that of the pair of its quotient and its rest
 pub cell_of_pair : (cells : List ℕ) (k : ℕ) → pair_at cells (k / 8) (k % 8) ≡ get_or cells k 0
 unfolding pair_at

@@ -1,5 +1,5 @@
 -- `netting::netting::ClassColumns::any` meets its contract: no line passed so far passes the test, and the first that does ends the search. Assumes nothing.
-use Rattle.std.proofs.Common.{◌≡◌, ℕ, length, refl, sym, ap, ◌∙◌, arith}
+use Rattle.std.proofs.Common.{◌≡◌, length, refl, sym, ap, ◌∙◌, arith}
 use Rattle.tariff.specs.Sum.{any_below}
 use Rattle.tariff.proofs.Tests.{none_more, any_at}
 use Rattle.netting.specs.Columns.{line_in}
