@@ -1,4 +1,4 @@
--- An entry's coverage of terms 0 to 3, stored term by term, and then its flag: the array that the stores leave, and what the terms' slots show. Assumes nothing.
+-- An entry's coverage of terms 0 to 3, stored term by term: what the terms' slots show. Assumes nothing.
 use Prim.Native.Nat.{ℕ, zero, suc, ◌+◌, ◌≤◌, ◌<◌}
 use mathlib.Core.Path.{◌≡◌, refl}
 use mathlib.Core.Bool.{Bool, true, false, cond, ◌&&◌}

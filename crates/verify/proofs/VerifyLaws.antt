@@ -6,7 +6,7 @@ use mathlib.Core.List.{List, [], ◌∷◌, ◌++◌}
 use mathlib.Core.Logic.{◌⊎◌, inl, inr}
 use native.Mathlib.Nat.{le_trans}
 use native.Mathlib.Omega.{arith}
-use lib.ListN.{length, take, drop}
+use lib.ListN.{take, drop}
 use lib.Dec.{eqb}
 use borrow.Author.Tests.{eq-eqb, ne_eqb, eqb-true, eqb-false}
 use Rattle.std.specs.Prelude.{Ok, Err}
@@ -34,12 +34,12 @@ use Rattle.records.specs.Opening.{opening_in}
 use Rattle.slots.specs.Cells.{HasCell, look_at, stored_at, Shows}
 use Rattle.slots.specs.Groups.{SlotGroup, slot_group, slots_of, in_slot}
 use Rattle.slots.specs.Coverage.{coverage}
-use Rattle.slots.specs.Layout.{figure_slots, figure_count, posted_slots, posted_count, evidence_slots, figure_groups, posted_groups, evidence_groups, calendar_of, figures_of, posted_of, evidence_of, is_posted_in, ledger_in, ownership_slot, contract_slot, ten_year_slot, flag, evidence_posted_slot}
+use Rattle.slots.specs.Layout.{figure_slots, posted_slots, evidence_slots, figure_groups, posted_groups, evidence_groups, calendar_of, figures_of, posted_of, evidence_of, is_posted_in, ledger_in, ownership_slot, contract_slot, ten_year_slot, flag, evidence_posted_slot}
 use Rattle.slots.specs.Steps.{Reachable, Steps}
 use Rattle.slots.proofs.CellLaws.{array_shows, shown_is}
 use Rattle.slots.proofs.PostedLaws.{posted_number}
 use Rattle.slots.proofs.StoreLaws.{StoredIn, slot_stored, number_posted}
-use Rattle.slots.proofs.Reachable.{counts, figures_shown, posted_shown, evidence_known, figures_long, posted_long}
+use Rattle.slots.proofs.Reachable.{counts, figures_shown, posted_shown, evidence_known}
 use Rattle.slots.proofs.StepLaws.{steps_accepted}
 use Rattle.verify.specs.StoredEntry.{stored_by_term, stored_entry}
 use Rattle.verify.proofs.TermLaws.{terms_stored}
@@ -133,12 +133,6 @@ module _ (o f : List ℕ) (m : List Bool) (x : List Entry) (h s : ℕ) (filing :
   -- the slots of the kind are there
   pub decided_cell : HasCell evidence_slots h s (index_of filed_as.kind)
   decided_cell = record { holder = holder; place = source; in_row = let range = verify_kinds in let is = slot_is in omega arith }
-
-  pub decided_figures : length f ≡ figure_count
-  decided_figures = figures_long o f m x r
-
-  pub decided_posted : length m ≡ posted_count
-  decided_posted = posted_long o f m x r
 
   abbrev entries : ℕ → ℕ → ℕ → Entry
   entries = L.evidence.entry

@@ -1,15 +1,15 @@
 -- `verify::verify::verify` meets its contract: a refusal leaves the arrays, and what is filed is stored and noted. Assumes nothing.
+use Rattle.slots.proofs.Reachable.{figures_long, posted_long}
 use Rattle.slots.proofs.StepLaws.{steps_refused, beside_next_evidence}
-use Rattle.verify.proofs.VerifyLaws.{decided_err, decided_cell, decided_figures, decided_posted, decided_steps}
+use Rattle.verify.proofs.VerifyLaws.{decided_err, decided_cell, decided_steps}
 use Rattle.verify.proofs.verify.verify.Goals as goal
 
 pub post-requires : goal.post-requires
 post-requires c =
-    let d = c.in-Ok.ensures _ c.requires.reachable in
     record {
-      cell = decided_cell _ _ _ _ _ _ _ _ c.requires.reachable d;
-      figures = decided_figures _ _ _ _ _ _ _ _ c.requires.reachable d;
-      posted = decided_posted _ _ _ _ _ _ _ _ c.requires.reachable d;
+      cell = decided_cell _ _ _ _ _ _ _ _ c.requires.reachable (c.in-Ok.ensures _ c.requires.reachable);
+      figures = figures_long _ _ _ _ c.requires.reachable;
+      posted = posted_long _ _ _ _ c.requires.reachable;
     }
 
 pub returns-in-Ok : goal.returns-in-Ok

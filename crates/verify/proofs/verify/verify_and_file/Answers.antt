@@ -1,15 +1,15 @@
 -- `verify::verify::verify_and_file` meets its contract: a refusal leaves the book, and what is filed is stored, noted and kept. Assumes nothing.
+use Rattle.slots.proofs.Reachable.{figures_long, posted_long}
 use Rattle.slots.proofs.StepLaws.{steps_refused}
-use Rattle.verify.proofs.VerifyLaws.{decided_err, decided_cell, decided_figures, decided_posted, decided_steps, decided_filed}
+use Rattle.verify.proofs.VerifyLaws.{decided_err, decided_cell, decided_steps, decided_filed}
 use Rattle.verify.proofs.verify.verify_and_file.Goals as goal
 
 pub post-requires : goal.post-requires
 post-requires c =
-    let d = c.in-Ok.ensures _ c.requires in
     record {
-      cell = decided_cell _ _ _ _ _ _ _ _ c.requires d;
-      figures = decided_figures _ _ _ _ _ _ _ _ c.requires d;
-      posted = decided_posted _ _ _ _ _ _ _ _ c.requires d;
+      cell = decided_cell _ _ _ _ _ _ _ _ c.requires (c.in-Ok.ensures _ c.requires);
+      figures = figures_long _ _ _ _ c.requires;
+      posted = posted_long _ _ _ _ c.requires;
     }
 
 pub file-requires : goal.file-requires
