@@ -36,10 +36,9 @@ pub fn next_row(rest: &[u8]) -> NextRow
     ensures { result ≡ next_row rest.now }
 {
     let word = read_word(rest);
-    let fields = read_fields(rest, word.end);
-    if !fields.readable {
+    let Some(fields) = read_fields(rest, word.end) else {
         return unreadable_line(rest);
-    }
+    };
     let kind = kind_of(word.value, fields.count);
     if kind == UNREADABLE_KIND {
         return unreadable_line(rest);

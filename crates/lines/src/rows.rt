@@ -1,7 +1,7 @@
 // What a line of a script says: its kind, by its word and count of fields, and its numbers (01, Script and host).
 ghost use Rattle.std.specs.Prelude.{◌≡◌, get_or, drop};
 ghost use Rattle.lines.specs.Rows.{unreadable_row, begins_set, unread_row};
-ghost use Rattle.lines.specs.Reading.{fields_read, no_fields};
+ghost use Rattle.lines.specs.Reading.{fields_read};
 
 use crate::text::{LINE_FEED, read_field};
 
@@ -61,10 +61,9 @@ pub struct Row {
     pub fields: [u64; MAX_FIELDS],
 }
 
-// The fields after a line's word: whether they can be read up to an LF, how many, their values, and where the LF stands.
+// The fields after a line's word: how many, their values, 0 past the last, and where the LF after them stands.
 #[derive(Clone, Copy)]
 pub struct Fields {
-    pub readable: bool,
     pub count: u64,
     pub numbers: [u64; MAX_FIELDS],
     pub end: usize,
@@ -77,17 +76,6 @@ fn unreadable_row() -> Row
     Row {
         kind: UNREADABLE_KIND,
         fields: [0u64; MAX_FIELDS],
-    }
-}
-
-fn no_fields() -> Fields
-    ensures { result ≡ no_fields }
-{
-    Fields {
-        readable: false,
-        count: 0,
-        numbers: [0u64; MAX_FIELDS],
-        end: 0,
     }
 }
 
@@ -119,31 +107,27 @@ pub fn unread_row(rest: &[u8]) -> Row
     unreadable_row()
 }
 
-// The fields of a line after the word that ends at `start`, up to its LF. One more than a line can have ends the reading.
-pub fn read_fields(rest: &[u8], start: usize) -> Fields
+// The fields of a line after the word that ends at `start`, if they can be read up to its LF. One more than a line can have ends the reading.
+pub fn read_fields(rest: &[u8], start: usize) -> Option<Fields>
     ensures { result ≡ fields_read start (drop start rest.now) }
 {
     let mut numbers = [0u64; MAX_FIELDS];
     let mut count: usize = 0;
     let mut at = start;
     let mut byte = byte_at(rest, start);
-    while (byte == COMMA) & (count < MAX_FIELDS) {
-        let field = read_field(rest, at + 1);
-        if !field.valid {
-            return no_fields();
-        }
+    while byte == COMMA && count < MAX_FIELDS {
+        let field = read_field(rest, at + 1)?;
         numbers[count] = field.value;
         count += 1;
         at = field.end;
         byte = byte_at(rest, at);
     }
     if byte != LINE_FEED {
-        return no_fields();
+        return None;
     }
-    Fields {
-        readable: true,
+    Some(Fields {
         count: count as u64,
         numbers,
         end: at,
-    }
+    })
 }

@@ -1,7 +1,7 @@
 // The bytes of a script: where a line or a field ends, how many lines there are, and the number that a field writes (01, Script and host).
 ghost use Rattle.std.specs.Prelude.{◌≡◌, ◌≤◌, length, drop};
 ghost use Rattle.lines.specs.Text.{line_feed, lines_of};
-ghost use Rattle.lines.specs.Reading.{chunk_bytes, line_feeds_in, bytes_before, numeral, reading_limit, digits_at, field_at, no_field};
+ghost use Rattle.lines.specs.Reading.{chunk_bytes, line_feeds_in, bytes_before, numeral, reading_limit, digits_at, field_at};
 
 // The most bytes that a run takes.
 pub const MAX_BYTES: usize = 65536;
@@ -20,24 +20,9 @@ pub const LINE_FEED: u8 = 10;
 // The bytes whose LFs are counted together: few enough for a count of one byte.
 const CHUNK_BYTES: usize = 128;
 
-// What a field writes: a number, or none.
-#[derive(Clone, Copy)]
-pub enum Numeral {
-    Invalid,
-    Value(u64),
-}
-
 // Letters or digits that stand at a place: the number that they write, and where they end.
 #[derive(Clone, Copy)]
 pub struct Token {
-    pub value: u64,
-    pub end: usize,
-}
-
-// A number that stands at a place: whether there is one, its value, and where it ends.
-#[derive(Clone, Copy)]
-pub struct Field {
-    pub valid: bool,
     pub value: u64,
     pub end: usize,
 }
@@ -140,48 +125,27 @@ fn read_digits(bytes: &[u8], from: usize) -> Token
     Token { value, end: i }
 }
 
-fn no_field() -> Field
-    ensures { result ≡ no_field }
-{
-    Field {
-        valid: false,
-        value: 0,
-        end: 0,
-    }
-}
-
-// The number whose digits start at a place: 1 to 9 of them, and no leading zero but 0 itself.
-pub fn read_field(bytes: &[u8], from: usize) -> Field
+// The number whose digits start at a place, if they are one: 1 to 9 of them, and no leading zero but 0 itself.
+pub fn read_field(bytes: &[u8], from: usize) -> Option<Token>
     requires { from ≤ length bytes.now }
     ensures { result ≡ field_at from (drop from bytes.now) }
 {
     let digits = read_digits(bytes, from);
-    let end = digits.end;
-    if end == from {
-        return no_field();
+    let length = digits.end - from;
+    let zero_leads = 1 < length && bytes[from] == b'0';
+    if length == 0 || zero_leads {
+        return None;
     }
-    if 1 < end - from {
-        if bytes[from] == b'0' {
-            return no_field();
-        }
-    }
-    Field {
-        valid: true,
-        value: digits.value,
-        end,
-    }
+    Some(digits)
 }
 
-// The number that the bytes of a field write.
-pub fn read_number(field: &[u8]) -> Numeral
+// The number that the bytes of a field write, if they are one.
+pub fn read_number(field: &[u8]) -> Option<u64>
     ensures { result ≡ numeral field.now }
 {
-    let number = read_field(field, 0);
-    if !number.valid {
-        return Numeral::Invalid;
-    }
+    let number = read_field(field, 0)?;
     if number.end < field.len() {
-        return Numeral::Invalid;
+        return None;
     }
-    Numeral::Value(number.value)
+    Some(number.value)
 }
