@@ -1,10 +1,10 @@
 -- Laws of the numbers that fields write: what is a digit, how large a value of digits gets, and which fields are numbers. Assumes nothing.
 use Prim.Native.Nat.{ℕ, suc, ◌+◌, ◌-◌, ◌*◌, ◌^◌, ◌≤◌, ◌<◌}
-use mathlib.Core.Path.{◌≡◌, refl, sym, ap, ap₂, ◌∙◌, subst}
+use mathlib.Core.Path.{◌≡◌, refl, sym, ap, ◌∙◌, subst}
 use mathlib.Core.Bool.{Bool, true, false, cond, not, ◌&&◌, ◌||◌, or-true}
 use mathlib.Core.List.{List, [], ◌∷◌}
 use mathlib.Core.Logic.{◌⊎◌, inl, inr}
-use native.Mathlib.Nat.{add-zero, pow-suc, pow-le-pow_right, zero-lt-suc}
+use native.Mathlib.Nat.{add-zero, pow-suc}
 use native.Mathlib.Omega.{arith}
 use borrow.Author.Tests.{le-leb, lt-leb, leb-true, eq-eqb, ne_eqb}
 use lib.ListN.{length, get_or, drop, length-drop}
@@ -13,7 +13,7 @@ use lib.Dec.{eqb, leb}
 use Rattle.tariff.specs.Ranges.{within}
 use Rattle.tariff.proofs.Tests.{decided, both_ways, and_both, and_join, and_left_false, and_right_false}
 use Rattle.lines.specs.declared.text.Token.{Token}
-use Rattle.std.specs.Prelude.{Option, Some, None}
+use Rattle.std.specs.Prelude.{Some, None}
 use Rattle.lines.specs.Text.{line_feed, comma, is_digit, all_digits, max_digits, is_number, value_after, value_of}
 use Rattle.lines.specs.Reading.{reading_limit, leading, leading_digits, digits_at, field_at, numeral}
 use Rattle.lines.proofs.LeadingLaws.{leading_few, leading_within, leading_take, leading_first, leading_all, all_leading, token_from, ReadTo, none_read, one_more, stops_at_other, stops_at_limit}
@@ -26,10 +26,6 @@ pub below_range : (low high x : ℕ) → x < low → within low high x ≡ false
 unfolding within
 below_range low high x l = and_left_false (leb x high) (lt-leb low x l)
 
-pub above_range : (low high x : ℕ) → high < x → within low high x ≡ false
-unfolding within
-above_range low high x h = and_right_false (leb low x) (lt-leb x high h)
-
 -- one digit more
 pub power_more : (v d from i : ℕ) → from ≤ i → v < 10 ^ (i - from) → d ≤ 9 → v * 10 + d < 10 ^ (i + 1 - from)
 power_more v d from i q l m =
@@ -38,9 +34,6 @@ power_more v d from i q l m =
 
 pub power_none : (from : ℕ) → 0 < 10 ^ (from - from)
 power_none from = let none : from - from ≡ 0 = omega arith in subst (λ k. 0 < 10 ^ k) (sym none) (omega arith)
-
-pub power_max : (v i n : ℕ) → v < 10 ^ i → i ≤ n → v < 10 ^ n
-power_max v i n l m = let p : 10 ^ i ≤ 10 ^ n = pow-le-pow_right (zero-lt-suc 9) m in omega arith
 
 -- one digit, or a first byte other than 0: no leading zero
 one_digit : (field : List ℕ) → 1 ≤ length field → length field ≤ 1 → (eqb (length field) 1 || not (eqb (get_or field 0 0) 48)) ≡ true

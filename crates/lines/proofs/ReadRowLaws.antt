@@ -10,7 +10,7 @@ use lib.ListN.{length, get_or, drop}
 use lib.Dec.{leb}
 use Rattle.tariff.specs.Sum.{tabulate}
 use Rattle.tariff.proofs.Lists.{length_tabulate, list_is}
-use Rattle.tariff.proofs.Tests.{decided, both_ways, and_both, and_join}
+use Rattle.tariff.proofs.Tests.{decided, and_both, and_join}
 use Rattle.std.specs.Prelude.{Option, Some, None}
 use Rattle.lines.specs.declared.text.Token.{Token}
 use Rattle.lines.specs.declared.rows.Row.{Row}

@@ -1,5 +1,5 @@
 -- How a script is read, line by line, out of its bytes: where a line or a field ends, and what the next line says (01, Script and host).
-use Rattle.std.specs.Prelude.{ℕ, zero, suc, ◌+◌, ◌-◌, Bool, true, false, cond, ◌&&◌, ◌||◌, Option, Some, None, List, [], ◌∷◌, map, length, get_or, take, eqb, leb, ltb}
+use Rattle.std.specs.Prelude.{ℕ, zero, suc, ◌+◌, ◌-◌, Bool, true, cond, ◌&&◌, ◌||◌, Option, Some, None, List, [], ◌∷◌, map, length, get_or, take, eqb, leb, ltb}
 use Rattle.tariff.specs.Sum.{tabulate, any_of}
 use Rattle.lines.specs.declared.text.Token.{Token}
 use Rattle.lines.specs.declared.rows.Row.{Row}

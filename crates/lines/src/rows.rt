@@ -90,8 +90,7 @@ fn byte_at(rest: &[u8], at: usize) -> u8
 fn begins_set(rest: &[u8]) -> bool
     ensures { result ≡ begins_set rest.now }
 {
-    let word = (byte_at(rest, 0) == b's') & (byte_at(rest, 1) == b'e') & (byte_at(rest, 2) == b't');
-    word & (byte_at(rest, 3) == COMMA)
+    rest.starts_with(b"set,")
 }
 
 // The row of the next line, where that cannot be read.

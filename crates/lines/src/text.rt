@@ -31,14 +31,9 @@ pub struct Token {
 pub fn bytes_before(rest: &[u8], stop: u8) -> usize
     ensures { result ≡ bytes_before stop rest.now }
 {
-    let mut i = 0;
-    while i < rest.len() {
-        if rest[i] == stop {
-            return i;
-        }
-        i += 1;
-    }
-    i
+    rest.iter()
+        .position(|&byte| byte == stop)
+        .unwrap_or(rest.len())
 }
 
 // How many bytes stand before the first LF.
@@ -54,12 +49,10 @@ fn line_feeds_in(chunk: &[u8]) -> u8
     ensures { result ≡ line_feeds_in chunk.now }
 {
     let mut feeds: u8 = 0;
-    let mut i = 0;
-    while i < chunk.len() {
-        if chunk[i] == LINE_FEED {
+    for &byte in chunk {
+        if byte == LINE_FEED {
             feeds += 1;
         }
-        i += 1;
     }
     feeds
 }
@@ -69,12 +62,12 @@ fn count_line_feeds(script: &[u8]) -> u64
     ensures { result ≡ line_feeds_in script.now }
 {
     let mut feeds: u64 = 0;
-    let mut i = 0;
-    while CHUNK_BYTES <= script.len() - i {
-        feeds += line_feeds_in(&script[i..i + CHUNK_BYTES]) as u64;
-        i += CHUNK_BYTES;
+    let mut rest = script;
+    while let Some((chunk, after)) = rest.split_first_chunk::<CHUNK_BYTES>() {
+        feeds += line_feeds_in(chunk) as u64;
+        rest = after;
     }
-    feeds + line_feeds_in(&script[i..]) as u64
+    feeds + line_feeds_in(rest) as u64
 }
 
 // How many lines a script has: one to each LF, and one more if bytes follow the last LF.
@@ -97,10 +90,7 @@ pub fn reading_limit(length: usize, from: usize, most: usize) -> usize
     requires { from ≤ length }
     ensures { result ≡ reading_limit length from most }
 {
-    if most < length - from {
-        return from + most;
-    }
-    length
+    from + most.min(length - from)
 }
 
 // The digits from a place on, at most 9: so no value of more is worked out.
@@ -110,19 +100,14 @@ fn read_digits(bytes: &[u8], from: usize) -> Token
 {
     let limit = reading_limit(bytes.len(), from, MAX_DIGITS);
     let mut value: u64 = 0;
-    let mut i = from;
-    while i < limit {
+    for i in from..limit {
         let byte = bytes[i];
-        if byte < b'0' {
-            return Token { value, end: i };
-        }
-        if b'9' < byte {
+        if !byte.is_ascii_digit() {
             return Token { value, end: i };
         }
         value = value * 10 + (byte - b'0') as u64;
-        i += 1;
     }
-    Token { value, end: i }
+    Token { value, end: limit }
 }
 
 // The number whose digits start at a place, if they are one: 1 to 9 of them, and no leading zero but 0 itself.

@@ -63,19 +63,17 @@ pub fn read_word(rest: &[u8]) -> Token
 {
     let limit = reading_limit(rest.len(), 0, MAX_LETTERS);
     let mut key: u64 = 0;
-    let mut i: usize = 0;
-    while i < limit {
+    for i in 0..limit {
         let byte = rest[i];
-        if byte < b'a' {
-            return Token { value: key, end: i };
-        }
-        if b'z' < byte {
+        if !byte.is_ascii_lowercase() {
             return Token { value: key, end: i };
         }
         key = key * 32 + (byte - 96) as u64;
-        i += 1;
     }
-    Token { value: key, end: i }
+    Token {
+        value: key,
+        end: limit,
+    }
 }
 
 // The kind of a word with so many fields after it.
