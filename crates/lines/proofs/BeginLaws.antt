@@ -30,11 +30,6 @@ begin_line (c ∷ word) (b ∷ rest) e = go (eqb c line_feed) (eqb b line_feed) 
     go false true p q e ih = sym (and_left_false _ (ne_eqb b c (λ same. eqb-false c line_feed p (sym same ∙ eqb-true b line_feed q))))
     go false false p q e ih = ap (λ t. eqb b c && t) (ih e)
 
--- the row of a line that cannot be read, by the test of its bytes
-pub unread_by : (rest : List ℕ) (begins t : Bool) → begins ≡ begins_set rest → begins ≡ t → cond t (row broken_set_line []) unreadable_row ≡ unread_row rest
-unfolding unread_row
-unread_by rest begins t is e = ap (λ t. cond t (row broken_set_line []) unreadable_row) (sym e ∙ is)
-
 pub line_begins : (rest : List ℕ) → unread_row (line_text rest) ≡ unread_row rest
 unfolding unread_row begins_set bytes_of no_feed
 line_begins rest = ap (λ t. cond t (row broken_set_line []) unreadable_row) (begin_line (bytes_of "set,") rest refl)

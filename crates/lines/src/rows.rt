@@ -1,6 +1,6 @@
 // What a line of a script says: its kind, by its word and count of fields, and its numbers (01, Script and host).
 ghost use Rattle.std.specs.Prelude.{◌≡◌, get_or, drop};
-ghost use Rattle.lines.specs.Rows.{unreadable_row, begins_set, unread_row};
+ghost use Rattle.lines.specs.Rows.{begins_set, unread_row};
 ghost use Rattle.lines.specs.Reading.{fields_read};
 
 use crate::text::{LINE_FEED, read_field};
@@ -69,21 +69,11 @@ pub struct Fields {
     pub end: usize,
 }
 
-// The row of a line that cannot be read and is no set line.
-fn unreadable_row() -> Row
-    ensures { result ≡ unreadable_row }
-{
-    Row {
-        kind: UNREADABLE_KIND,
-        fields: [0u64; MAX_FIELDS],
-    }
-}
-
 // The byte at a place, 0 past the last.
 fn byte_at(rest: &[u8], at: usize) -> u8
     ensures { result ≡ get_or rest.now at 0 }
 {
-    if at < rest.len() { rest[at] } else { 0 }
+    rest.get(at).copied().unwrap_or(0)
 }
 
 // Whether a line begins with `set,` (02, 3/14).
@@ -94,16 +84,19 @@ fn begins_set(rest: &[u8]) -> bool
 }
 
 // The row of the next line, where that cannot be read.
+#[tactic(auto, unfolding(crate::specs::Rows::unread_row, crate::specs::Rows::unreadable_row, crate::specs::Rows::row, tariff::specs::Sum::tabulate))]
 pub fn unread_row(rest: &[u8]) -> Row
     ensures { result ≡ unread_row rest.now }
 {
-    if begins_set(rest) {
-        return Row {
-            kind: BROKEN_SET_LINE,
-            fields: [0u64; MAX_FIELDS],
-        };
+    let kind = if begins_set(rest) {
+        BROKEN_SET_LINE
+    } else {
+        UNREADABLE_KIND
+    };
+    Row {
+        kind,
+        fields: [0u64; MAX_FIELDS],
     }
-    unreadable_row()
 }
 
 // The fields of a line after the word that ends at `start`, if they can be read up to its LF. One more than a line can have ends the reading.

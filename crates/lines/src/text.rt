@@ -86,6 +86,7 @@ pub fn count_lines(script: &[u8]) -> u64
 }
 
 // Where a reading of at most so many bytes from a place on stops.
+#[tactic(auto, unfolding(crate::specs::Reading::reading_limit))]
 pub fn reading_limit(length: usize, from: usize, most: usize) -> usize
     requires { from ≤ length }
     ensures { result ≡ reading_limit length from most }

@@ -13,16 +13,10 @@ pub loop-byte-init : goal.loop-byte-init
 unfolding zeros tabulate
 loop-byte-init c = (search rules, refl, reading_starts _ _, c.byte_at-byte.ensures)
 
-pub read_field-requires : goal.read_field-requires
-read_field-requires c = let l = byte_inside c.args.rest.now c.loop-byte.at comma (omega arith) (sym c.loop-byte.invariant.3 ∙ c.loop-byte-test.true) in omega arith
-
 pub returns-in_err-field : goal.returns-in_err-field
 returns-in_err-field c =
     let here = sym c.loop-byte.invariant.3 ∙ c.loop-byte-test.true in
     c.from_residual.ensures ∙ stops_at_none c.args.rest.now c.args.start _ _ _ c.loop-byte.invariant.2 (byte_inside c.args.rest.now c.loop-byte.at comma (omega arith) here) here c.in_err-field.ensures
-
-pub loop-byte-smaller : goal.loop-byte-smaller
-loop-byte-smaller c = omega arith
 
 pub loop-byte-preserved : goal.loop-byte-preserved
 loop-byte-preserved c =
