@@ -142,11 +142,11 @@ module _ (from : ℕ) (bytes : List ℕ) (digits : Token) (read : digits ≡ dig
       at_least : (digits.end - from ≡ 0 → ⊥) → 1 ≤ length (leading_digits bytes)
       at_least some = let long = digits-length in omega (arith, some)
 
-  pub more_digits_read : (digits.end - from ≡ 0 → ⊥) → 1 < digits.end - from → (get_or bytes 0 0 ≡ 48 → ⊥) → Some digits ≡ field_at from bytes
+  pub other_first_read : (digits.end - from ≡ 0 → ⊥) → (get_or bytes 0 0 ≡ 48 → ⊥) → Some digits ≡ field_at from bytes
   unfolding leading_digits
-  more_digits_read some l other =
+  other_first_read some other =
       let long = digits-length in
-      number_read some (no_zero_leads (leading is_digit max_digits bytes) (λ e. other (sym (leading_first is_digit max_digits bytes (omega arith)) ∙ e)))
+      number_read some (no_zero_leads (leading is_digit max_digits bytes) (λ e. other (sym (leading_first is_digit max_digits bytes (omega (arith, some))) ∙ e)))
 
 -- the first byte from a place on
 pub first_at : (bytes : List ℕ) (from : ℕ) → get_or (drop from bytes) 0 0 ≡ get_or bytes from 0

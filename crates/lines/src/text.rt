@@ -118,8 +118,11 @@ pub fn read_field(bytes: &[u8], from: usize) -> Option<Token>
 {
     let digits = read_digits(bytes, from);
     let length = digits.end - from;
-    let zero_leads = 1 < length && bytes[from] == b'0';
-    if length == 0 || zero_leads {
+    if length == 0 {
+        return None;
+    }
+    let zero_leads = bytes[from] == b'0';
+    if zero_leads && 1 < length {
         return None;
     }
     Some(digits)
