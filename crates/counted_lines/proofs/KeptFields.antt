@@ -6,9 +6,9 @@ use mathlib.Core.List.{List, [], ◌∷◌, ◌++◌, map, append_assoc, map-app
 use native.Mathlib.Omega.{arith}
 use lib.ListN.{length, take, drop, set, get_or, length-append, length-map, length-drop}
 use lib.Seq.{take_at}
-use lib.Dec.{eqb}
+use Rattle.lines.specs.declared.rows.LineKind.{LineKind}
 use Rattle.lines.specs.declared.rows.Row.{Row}
-use Rattle.lines.specs.Rows.{field, all_of_kind}
+use Rattle.lines.specs.Rows.{same_kind, field, all_of_kind}
 use Rattle.counted_lines.specs.Counted.{with_field}
 
 module _ {A : Type 0} where
@@ -43,10 +43,10 @@ module _ {A : Type 0} where
   drop_here zero (x ∷ xs) z l = refl
   drop_here (suc k) (x ∷ xs) z l = drop_here k xs z (omega arith)
 
-pub kinds_more : (kind : ℕ) (rows : List Row) (r : Row) → all_of_kind kind (rows ++ (r ∷ [])) ≡ (all_of_kind kind rows && eqb r.kind kind)
+pub kinds_more : (kind : LineKind) (rows : List Row) (r : Row) → all_of_kind kind (rows ++ (r ∷ [])) ≡ (all_of_kind kind rows && same_kind r.kind kind)
 unfolding all_of_kind
-kinds_more kind [] r = and-true (eqb r.kind kind)
-kinds_more kind (x ∷ rows) r = ap (λ t. eqb x.kind kind && t) (kinds_more kind rows r) ∙ sym (and_assoc (eqb x.kind kind) (all_of_kind kind rows) (eqb r.kind kind))
+kinds_more kind [] r = and-true (same_kind r.kind kind)
+kinds_more kind (x ∷ rows) r = ap (λ t. same_kind x.kind kind && t) (kinds_more kind rows r) ∙ sym (and_assoc (same_kind x.kind kind) (all_of_kind kind rows) (same_kind r.kind kind))
 
 -- the next row's field stored after those of the rows before it
 pub field_more : (j : ℕ) (rows : List Row) (r : Row) (numbers : List ℕ) → length rows < length numbers → set (with_field j rows numbers) (length rows) (field j r) ≡ with_field j (rows ++ (r ∷ [])) numbers

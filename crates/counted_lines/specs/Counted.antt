@@ -1,5 +1,6 @@
 -- Lines that a head counts: how many bytes they take, and the buffer that keeps their fields.
 use Rattle.std.specs.Prelude.{ℕ, zero, suc, ◌+◌, ◌*◌, ◌/◌, List, ◌++◌, map, length, take, drop, set}
+use Rattle.lines.specs.declared.rows.LineKind.{LineKind}
 use Rattle.lines.specs.declared.rows.Row.{Row}
 use Rattle.counted_lines.specs.declared.counted.CountedLines.{CountedLines}
 use Rattle.lines.specs.Rows.{rows_of, field, counted}
@@ -15,7 +16,7 @@ unfoldable pub rows_counted : ℕ → List ℕ → List Row
 rows_counted n script = take n (rows_of script)
 
 -- whether there are as many as counted, all of the kind, and how many bytes they take
-unfoldable pub counted_of : ℕ → ℕ → List ℕ → CountedLines
+unfoldable pub counted_of : LineKind → ℕ → List ℕ → CountedLines
 counted_of kind n script = record { complete = counted kind n (rows_counted n script); consumed = bytes_of_lines n script }
 
 -- an array with a field of each row in front; what stands past them is left as it was

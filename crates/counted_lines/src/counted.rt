@@ -3,7 +3,7 @@ ghost use Rattle.std.specs.Prelude.{◌≡◌, ◌*◌, ◌≤◌, ◌<◌, leng
 ghost use Rattle.counted_lines.specs.Counted.{rows_counted, counted_of, kept_fields, column_length, columns_put, column_of, buffer_with};
 
 use lines::lines::next_row;
-use lines::rows::Row;
+use lines::rows::{LineKind, Row};
 
 // Whether there are as many lines as counted, all of one kind, and how many bytes they take.
 #[derive(Clone, Copy)]
@@ -41,7 +41,7 @@ pub fn column(buffer: &[u64], j: usize, count: usize) -> &[u64]
 }
 
 // Reads as many lines as are counted, or all that are left, and keeps the first five fields of each.
-pub fn read_counted(rest: &[u8], kind: u64, count: u64, buffer: &mut [u64]) -> CountedLines
+pub fn read_counted(rest: &[u8], kind: LineKind, count: u64, buffer: &mut [u64]) -> CountedLines
     requires buffer { length (rows_counted count rest.now) ≤ column_length buffer.old }
     ensures counted { result ≡ counted_of kind count rest.now }
     ensures kept { buffer.new ≡ buffer_with (rows_counted count rest.now) buffer.old }

@@ -12,6 +12,7 @@ use Rattle.tariff.proofs.Tests.{and_join}
 use Rattle.load_metric.specs.Metering.{blocks_of, same_lengths}
 use Rattle.netting.specs.Netting.{class_line_at, class_lines_of, same_counts}
 use Rattle.tariff.proofs.Lists.{length_tabulate, at_tabulate}
+use Rattle.lines.specs.declared.rows.LineKind.TheVariants.{Unreadable}
 use Rattle.lines.specs.declared.rows.Row.{Row}
 use Rattle.lines.specs.Rows.{field}
 use Rattle.groups.specs.Groups.{block_of, class_line_of}
@@ -34,7 +35,7 @@ class_lines_even rows = and_join (and_join (and_join (same_length 1 0 rows) (sam
 
 -- a row that has no fields, each of which then reads 0
 no_row : Row
-no_row = record { kind = 0; fields = [] }
+no_row = record { kind = Unreadable; fields = [] }
 
 field_at : (j : ℕ) (rows : List Row) (k : ℕ) → get_or (map (field j) rows) k 0 ≡ field j (get_or rows k no_row)
 unfolding field no_row

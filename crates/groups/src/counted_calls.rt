@@ -1,7 +1,8 @@
 // The calls that count lines: a load with its blocks, and a migrate with its class lines (01, Script and host).
 ghost use Rattle.std.specs.Prelude.{◌≡◌, ◌≤◌, length};
 ghost use Rattle.slots.specs.Steps.{ReachableFigures, ReachablePostings};
-ghost use Rattle.lines.specs.Rows.{rows_of, load_line, migrate_line};
+ghost use Rattle.lines.specs.declared.rows.LineKind.TheVariants.{Load, Migrate};
+ghost use Rattle.lines.specs.Rows.{rows_of};
 ghost use Rattle.counted_lines.specs.Counted.{rows_counted, column_length, buffer_with};
 ghost use Rattle.lines.specs.Text.{max_lines};
 ghost use Rattle.groups.specs.Groups.{lines_counted};
@@ -9,7 +10,7 @@ ghost use Rattle.groups.specs.Outcome.{head_group, head_bytes, FiguresAnswers, P
 
 use crate::outcome::GroupOutcome;
 use counted_lines::counted::{KEPT_FIELDS, column, read_counted};
-use lines::rows::{BLOCK_LINE, CLASS_LINE, Row};
+use lines::rows::{LineKind, Row};
 use lines::text::MAX_LINES;
 use load::load::load;
 use migrate::migrate::migrate;
@@ -34,7 +35,7 @@ fn load_in_buffer(
     buffer: &mut [u64],
 ) -> GroupOutcome
     requires reachable { ReachablePostings o.now f.old m.old }
-    requires load { head.kind ≡ load_line }
+    requires load { head.kind ≡ Load }
     requires buffer { length (rows_counted (lines_counted head) rest.now) ≤ column_length buffer.old }
     ensures answer { PostingsAnswers o.now f.old m.old (head_group head rest.now) result.answer f.new m.new }
     ensures consumed { result.consumed ≡ head_bytes head rest.now }
@@ -42,7 +43,7 @@ fn load_in_buffer(
 {
     let n = head.fields;
     let count = n[5];
-    let read = read_counted(rest, BLOCK_LINE, count, buffer);
+    let read = read_counted(rest, LineKind::Block, count, buffer);
     let consumed = read.consumed;
     if !read.complete {
         let answer = Answer::Refused(UNREADABLE);
@@ -65,7 +66,7 @@ fn migrate_in_buffer(
     buffer: &mut [u64],
 ) -> GroupOutcome
     requires reachable { ReachableFigures o.now f.old }
-    requires migrate { head.kind ≡ migrate_line }
+    requires migrate { head.kind ≡ Migrate }
     requires buffer { length (rows_counted (lines_counted head) rest.now) ≤ column_length buffer.old }
     ensures answer { FiguresAnswers o.now f.old (head_group head rest.now) result.answer f.new }
     ensures consumed { result.consumed ≡ head_bytes head rest.now }
@@ -73,7 +74,7 @@ fn migrate_in_buffer(
 {
     let n = head.fields;
     let count = n[2];
-    let read = read_counted(rest, CLASS_LINE, count, buffer);
+    let read = read_counted(rest, LineKind::Class, count, buffer);
     let consumed = read.consumed;
     if !read.complete {
         let answer = Answer::Refused(UNREADABLE);
@@ -92,7 +93,7 @@ fn migrate_in_buffer(
 // A load with its block lines.
 pub fn run_load(o: &[u64], f: &mut [u64], m: &mut [bool], head: Row, rest: &[u8]) -> GroupOutcome
     requires reachable { ReachablePostings o.now f.old m.old }
-    requires load { head.kind ≡ load_line }
+    requires load { head.kind ≡ Load }
     requires few { length (rows_of rest.now) ≤ max_lines }
     ensures answer { PostingsAnswers o.now f.old m.old (head_group head rest.now) result.answer f.new m.new }
     ensures consumed { result.consumed ≡ head_bytes head rest.now }
@@ -109,7 +110,7 @@ pub fn run_load(o: &[u64], f: &mut [u64], m: &mut [bool], head: Row, rest: &[u8]
 // A migrate with its class lines.
 pub fn run_migrate(o: &[u64], f: &mut [u64], head: Row, rest: &[u8]) -> GroupOutcome
     requires reachable { ReachableFigures o.now f.old }
-    requires migrate { head.kind ≡ migrate_line }
+    requires migrate { head.kind ≡ Migrate }
     requires few { length (rows_of rest.now) ≤ max_lines }
     ensures answer { FiguresAnswers o.now f.old (head_group head rest.now) result.answer f.new }
     ensures consumed { result.consumed ≡ head_bytes head rest.now }

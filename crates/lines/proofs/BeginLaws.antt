@@ -10,7 +10,8 @@ use Rattle.std.specs.List.{starts_with}
 use Rattle.std.specs.Cmp.Lexicographic.{pointwise}
 use Rattle.tariff.proofs.Tests.{and_left_false, both_ways}
 use Rattle.lines.specs.Text.{bytes_of, line_feed, comma}
-use Rattle.lines.specs.Rows.{same_bytes, begins_set, broken_set_line, row, unreadable_row, unread_row}
+use Rattle.lines.specs.declared.rows.LineKind.TheVariants.{BrokenSet}
+use Rattle.lines.specs.Rows.{same_bytes, begins_set, row, unreadable_row, unread_row}
 use Rattle.lines.specs.Reading.{bytes_before, line_text}
 
 -- none of these bytes is an LF
@@ -32,7 +33,7 @@ begin_line (c ∷ word) (b ∷ rest) e = go (eqb c line_feed) (eqb b line_feed) 
 
 pub line_begins : (rest : List ℕ) → unread_row (line_text rest) ≡ unread_row rest
 unfolding unread_row begins_set bytes_of no_feed
-line_begins rest = ap (λ t. cond t (row broken_set_line []) unreadable_row) (begin_line (bytes_of "set,") rest refl)
+line_begins rest = ap (λ t. cond t (row BrokenSet []) unreadable_row) (begin_line (bytes_of "set,") rest refl)
 
 eqb_turned : (x y : ℕ) → eqb x y ≡ eqb y x
 eqb_turned x y = go (eqb x y) refl

@@ -5,7 +5,7 @@ use mathlib.Core.Bool.{Bool, true, false, cond, ◌&&◌}
 use mathlib.Core.List.{List, ◌∷◌, map}
 use mathlib.Core.Logic.{◌⊎◌, inl, inr}
 use native.Mathlib.Omega.{arith}
-use borrow.Author.Tests.{eq-eqb, ne_eqb, leb-true, leb-false, le-leb}
+use borrow.Author.Tests.{leb-true, leb-false, le-leb}
 use lib.ListN.{length, get_or, drop}
 use lib.Dec.{leb}
 use Rattle.tariff.specs.Sum.{tabulate}
@@ -13,6 +13,8 @@ use Rattle.tariff.proofs.Lists.{length_tabulate, list_is}
 use Rattle.tariff.proofs.Tests.{decided, and_both, and_join}
 use Rattle.std.specs.Prelude.{Option, Some, None}
 use Rattle.lines.specs.declared.text.Token.{Token}
+use Rattle.lines.specs.declared.rows.LineKind.{LineKind}
+use Rattle.lines.specs.declared.rows.LineKind.TheVariants.{Unreadable}
 use Rattle.lines.specs.declared.rows.Row.{Row}
 use Rattle.lines.specs.declared.rows.Fields.{Fields}
 use Rattle.lines.specs.Text.{line_feed, lines_of, fields_of, value_of}
@@ -21,6 +23,7 @@ use Rattle.lines.specs.Reading.{bytes_before, leading, fields_after, line_text, 
 use Rattle.lines.specs.Words.{max_letters, is_letter, all_letters, letter_key, key_limit, leading_letters, word_at, is_word, word_key}
 use Rattle.lines.proofs.LineFields.{field_length, first_field, first_length, line_fields, feed_after, up_to_after, feed_found}
 use Rattle.lines.proofs.LeadingLaws.{leading_few, leading_all, leading_field, field_continues}
+use Rattle.lines.proofs.KindLaws.{is_same_kind, other_kind}
 use Rattle.lines.proofs.WordLaws.{letter_inside, letters_none, letters_more, key_small, no_form_lem, no_word}
 use Rattle.lines.proofs.BeginLaws.{line_begins}
 use Rattle.lines.proofs.NextRowLaws.{ended_bytes, ended_row, unended_row}
@@ -30,11 +33,11 @@ values : List (List ℕ) → List ℕ
 values fields = tabulate max_fields (λ k. get_or (map value_of fields) k 0)
 
 -- a row of no kind
-no_kind : (unread : Row) (kind : ℕ) (numbers : List ℕ) → 0 ≡ kind → row_if unread kind numbers ≡ unread
+no_kind : (unread : Row) (kind : LineKind) (numbers : List ℕ) → Unreadable ≡ kind → row_if unread kind numbers ≡ unread
 unfolding row_if
-no_kind unread kind numbers e = ap (λ t. cond t unread (row kind numbers)) (eq-eqb kind 0 (sym e))
+no_kind unread kind numbers e = ap (λ t. cond t unread (row kind numbers)) (is_same_kind kind Unreadable (sym e))
 
-no_row : (unread : Row) (word : List ℕ) (fields : List (List ℕ)) → 0 ≡ kind_of word (length fields) → row_of_fields unread (word ∷ fields) ≡ unread
+no_row : (unread : Row) (word : List ℕ) (fields : List (List ℕ)) → Unreadable ≡ kind_of word (length fields) → row_of_fields unread (word ∷ fields) ≡ unread
 unfolding row_of_fields
 no_row unread word fields e = go (all_numbers fields)
   where
@@ -159,7 +162,7 @@ module _ (rest : List ℕ) (word : Token) (spelt : word ≡ word_at rest) where
     pub end_within : f.end < length rest
     end_within = let within = feed_found rest has in let same = at-feed in omega arith
 
-    module _ (kind : ℕ) (known : (w : List ℕ) → word.value ≡ word_key w → kind ≡ kind_of w f.count) where
+    module _ (kind : LineKind) (known : (w : List ℕ) → word.value ≡ word_key w → kind ≡ kind_of w f.count) where
       first : first_row (lines_of rest) ≡ row_if unread kind (map value_of fields)
       unfolding row_of_fields unread
       first =
@@ -168,7 +171,7 @@ module _ (rest : List ℕ) (word : Token) (spelt : word ≡ word_at rest) where
           ∙ ap (λ t. cond t (row_if unread (kind_of letters (length fields)) (map value_of fields)) unread) facts.all-numbers
           ∙ ap (λ k. row_if unread k (map value_of fields)) (sym (known letters key_of ∙ ap (kind_of letters) facts.counted))
 
-      pub word_unknown : kind ≡ 0 → unreadable_line rest ≡ next_row rest
+      pub word_unknown : kind ≡ Unreadable → unreadable_line rest ≡ next_row rest
       unfolding unreadable_line next_row unread
       word_unknown z = ap (λ q. record { row = q; consumed = first_bytes (lines_of rest) }) (sym (first ∙ no_kind unread kind (map value_of fields) (sym z) ∙ line_begins rest))
 
@@ -177,8 +180,8 @@ module _ (rest : List ℕ) (word : Token) (spelt : word ≡ word_at rest) where
       unfolding values
       each = list_is max_fields (λ k. get_or f.numbers k 0) f.numbers (ap length facts.valued ∙ length_tabulate max_fields _) (λ k l. refl)
 
-      pub row_read : (kind ≡ 0 → ⊥) → record { row = record { kind = kind; fields = tabulate max_fields (λ k. get_or f.numbers k 0) }; consumed = f.end + 1 } ≡ next_row rest
+      pub row_read : (kind ≡ Unreadable → ⊥) → record { row = record { kind = kind; fields = tabulate max_fields (λ k. get_or f.numbers k 0) }; consumed = f.end + 1 } ≡ next_row rest
       unfolding next_row row_if row values
       row_read z =
           ap₂ (λ ns n. record { row = record { kind = kind; fields = ns }; consumed = n }) (sym each ∙ facts.valued) (ended_bytes rest f.end at-feed end_within)
-          ∙ ap (λ q. record { row = q; consumed = first_bytes (lines_of rest) }) (sym (first ∙ ap (λ t. cond t unread (row kind (map value_of fields))) (ne_eqb kind 0 z)))
+          ∙ ap (λ q. record { row = q; consumed = first_bytes (lines_of rest) }) (sym (first ∙ ap (λ t. cond t unread (row kind (map value_of fields))) (other_kind kind Unreadable z)))

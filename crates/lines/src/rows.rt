@@ -5,59 +5,43 @@ ghost use Rattle.lines.specs.Reading.{fields_read};
 
 use crate::text::{LINE_FEED, read_field};
 
-// The kinds of lines. 0 is a line that cannot be read, and 20 one that begins as a set line and cannot be read.
-pub const UNREADABLE_KIND: u64 = 0;
-
-pub const BOOK_LINE: u64 = 1;
-
-pub const HOLDER_LINE: u64 = 2;
-
-pub const SINK_LINE: u64 = 3;
-
-pub const PATH_LINE: u64 = 4;
-
-pub const LOAD_LINE: u64 = 5;
-
-pub const BLOCK_LINE: u64 = 6;
-
-pub const CARRY_LINE: u64 = 7;
-
-pub const PRIOR_LINE: u64 = 8;
-
-pub const VERIFY_LINE: u64 = 9;
-
-pub const MIGRATE_LINE: u64 = 10;
-
-pub const CLASS_LINE: u64 = 11;
-
-pub const OPEN_LINE: u64 = 12;
-
-pub const NOMINATE_LINE: u64 = 13;
-
-pub const AWARD_LINE: u64 = 14;
-
-pub const CLOSE_LINE: u64 = 15;
-
-pub const LIMIT_LINE: u64 = 16;
-
-pub const HELD_LINE: u64 = 17;
-
-pub const NET_LINE: u64 = 18;
-
-pub const SET_LINE: u64 = 19;
-
-// A line that begins as a set line and cannot be read. It is told apart, since directly after the book lines it belongs to the book group (02, 3/14).
-pub const BROKEN_SET_LINE: u64 = 20;
+// The kinds of lines.
+#[derive(Clone, Copy, PartialEq, Eq)]
+pub enum LineKind {
+    // One that cannot be read.
+    Unreadable,
+    Book,
+    Holder,
+    Sink,
+    Path,
+    Load,
+    Block,
+    Carry,
+    Prior,
+    Verify,
+    Migrate,
+    Class,
+    Open,
+    Nominate,
+    Award,
+    Close,
+    Limit,
+    Held,
+    Net,
+    Set,
+    // One that begins as a set line and cannot be read. It is told apart, since directly after the book lines it belongs to the book group (02, 3/14).
+    BrokenSet,
+}
 
 const COMMA: u8 = b',';
 
 // No line has more fields.
 pub const MAX_FIELDS: usize = 12;
 
-// A line's kind, 0 or 20 for one that cannot be read, and its numbers, 0 past the last.
+// A line's kind and its numbers, 0 past the last.
 #[derive(Clone, Copy)]
 pub struct Row {
-    pub kind: u64,
+    pub kind: LineKind,
     pub fields: [u64; MAX_FIELDS],
 }
 
@@ -89,9 +73,9 @@ pub fn unread_row(rest: &[u8]) -> Row
     ensures { result ≡ unread_row rest.now }
 {
     let kind = if begins_set(rest) {
-        BROKEN_SET_LINE
+        LineKind::BrokenSet
     } else {
-        UNREADABLE_KIND
+        LineKind::Unreadable
     };
     Row {
         kind,

@@ -1,6 +1,8 @@
 -- `counted_lines::counted::read_counted` meets its contract: so far it has read and kept the first k of the lines. Assumes nothing.
 use native.Mathlib.Omega.{arith}
 use borrow.Author.Rules.{rules}
+use mathlib.Core.Path.{◌∙◌}
+use Rattle.lines.proofs.KindLaws.{kinds_compared}
 use Rattle.counted_lines.specs.Counted.{column_length}
 use Rattle.counted_lines.proofs.CountedLaws.{none_read, turn, turn_kept, turn_within, line_fits, buffer_length, buffer_all, buffer_read, cut_short, all_read}
 use Rattle.counted_lines.proofs.BufferLaws.{no_rows_kept}
@@ -38,7 +40,7 @@ loop-k-preserved c =
     let some = c.if-rest-consumed.false in
     let read = c.next_row-next.ensures in
     let counts = c.loop-k-test.true in
-    (turn _ _ _ _ _ _ inv.0 some _ read counts, turn_kept _ _ _ _ _ _ inv.0 some _ read _ _ _ c.requires.buffer counts inv.1 c.keep_row.ensures)
+    (rw (c.eq-complete.ensures ∙ kinds_compared c.next_row-next.result.row.kind c.args.kind) (turn _ _ _ _ _ _ inv.0 some _ read counts), turn_kept _ _ _ _ _ _ inv.0 some _ read _ _ _ c.requires.buffer counts inv.1 c.keep_row.ensures)
 
 pub shape_of-buffer : goal.shape_of-buffer
 shape_of-buffer c = let inv = c.loop-k.invariant in buffer_length _ _ _ _ _ _ inv.0 _ _ c.requires.buffer inv.1
