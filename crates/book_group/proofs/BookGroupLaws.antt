@@ -24,7 +24,9 @@ use Rattle.book.proofs.OpenedLaws.{opened_reachable}
 use Rattle.lines.specs.declared.rows.Row.{Row}
 use Rattle.counted_lines.specs.declared.book_lines.BookLists.{BookLists}
 use Rattle.lines.specs.declared.lines.NextRow.{NextRow}
-use Rattle.lines.specs.Rows.{rows_of, book_line, holder_line, sink_line, path_line, field, all_of_kind, counted, holder_rows, sink_rows, path_rows, set_readable, book_line_count}
+use Rattle.lines.specs.declared.rows.LineKind.{LineKind}
+use Rattle.lines.specs.declared.rows.LineKind.TheVariants.{Book, Holder, Sink, Path}
+use Rattle.lines.specs.Rows.{same_kind, rows_of, field, all_of_kind, counted, holder_rows, sink_rows, path_rows, set_readable, book_line_count}
 use Rattle.lines.specs.Reading.{next_row}
 use Rattle.counted_lines.specs.Counted.{bytes_of_lines}
 use Rattle.counted_lines.specs.BookLines.{book_lines_complete, book_lists_of}
@@ -42,7 +44,7 @@ unfolding bytes_of_lines
 after_head script f e = ap (λ g. g.consumed) e ∙ (omega arith)
 
 -- as many lines as counted
-as_counted : (kind n : ℕ) (lines : List Row) → counted kind n lines ≡ true → length lines ≡ n
+as_counted : (kind : LineKind) (n : ℕ) (lines : List Row) → counted kind n lines ≡ true → length lines ≡ n
 unfolding counted
 as_counted kind n lines e = eqb-true (length lines) n (and_both (eqb (length lines) n) (all_of_kind kind lines) e).0
 
@@ -55,13 +57,13 @@ done_legal o = go (legal o) (opening_refusal o)
     go true n = refl
     go false n = refl
 
-readable_parts : (head : Row) (rows : List Row) → book_readable head rows ≡ (book_lines_complete head rows && eqb head.kind book_line)
+readable_parts : (head : Row) (rows : List Row) → book_readable head rows ≡ (book_lines_complete head rows && same_kind head.kind Book)
 unfolding book_readable book_lines_complete
 readable_parts head rows =
-    let kind = eqb head.kind book_line in
-    let h = counted holder_line (field 0 head) (holder_rows head rows) in
-    let s = counted sink_line (field 2 head) (sink_rows head rows) in
-    let p = counted path_line (field 3 head) (path_rows head rows) in
+    let kind = same_kind head.kind Book in
+    let h = counted Holder (field 0 head) (holder_rows head rows) in
+    let s = counted Sink (field 2 head) (sink_rows head rows) in
+    let p = counted Path (field 3 head) (path_rows head rows) in
     let r = set_readable head rows in
     ap (λ t. (t && p) && r) (and_assoc kind h s) ∙ ap (λ t. t && r) (and_assoc kind (h && s) p) ∙ and_assoc kind ((h && s) && p) r ∙ and_comm kind (((h && s) && p) && r)
 
@@ -84,18 +86,18 @@ module _ (head : Row) (rest : List ℕ) (lists : BookLists) (e : lists ≡ book_
   pub lists_within : lists.consumed ≤ length rest
   lists_within = le_trans (le_of_eq lists-consumed) (bytes_within (book_line_count head rows) rest)
 
-  is-readable : (lists.complete && eqb head.kind book_line) ≡ book_readable head rows
-  is-readable = ap (λ t. t && eqb head.kind book_line) lists-complete ∙ sym (readable_parts head rows)
+  is-readable : (lists.complete && same_kind head.kind Book) ≡ book_readable head rows
+  is-readable = ap (λ t. t && same_kind head.kind Book) lists-complete ∙ sym (readable_parts head rows)
 
   -- what is opened where all lines are there
-  module _ (readable : (lists.complete && eqb head.kind book_line) ≡ true) where
+  module _ (readable : (lists.complete && same_kind head.kind Book) ≡ true) where
     all_counted : (length (holder_rows head rows) ≡ field 0 head) × (length (sink_rows head rows) ≡ field 2 head) × (length (path_rows head rows) ≡ field 3 head)
     unfolding book_lines_complete
     all_counted =
-        let there = sym lists-complete ∙ (and_both lists.complete (eqb head.kind book_line) readable).0 in
+        let there = sym lists-complete ∙ (and_both lists.complete (same_kind head.kind Book) readable).0 in
         let last = and_both _ _ (and_both _ _ there).0 in
         let first = and_both _ _ last.0 in
-        (as_counted holder_line (field 0 head) (holder_rows head rows) first.0, as_counted sink_line (field 2 head) (sink_rows head rows) first.1, as_counted path_line (field 3 head) (path_rows head rows) last.1)
+        (as_counted Holder (field 0 head) (holder_rows head rows) first.0, as_counted Sink (field 2 head) (sink_rows head rows) first.1, as_counted Path (field 3 head) (path_rows head rows) last.1)
 
     pub group_opened : (consumed : ℕ) (answer : Answer) (is_open : Bool) → answer ≡ opening_answer (opening_kept head lists) → is_open ≡ is_done answer → ◌≡◌ {A = BookGroup} (record { answer = answer; consumed = consumed + lists.consumed; is_open = is_open }) (group consumed)
     unfolding book_group_with
@@ -112,7 +114,7 @@ module _ (head : Row) (rest : List ℕ) (lists : BookLists) (e : lists ≡ book_
     opening_put o₀ o₁ put = put ∙ ap opening_array (kept_opening head rest lists e all_counted) ∙ ap (λ t. cond t (opening_array (resulting_opening (opening_of_rows head rows))) o₀) (sym (sym is-readable ∙ readable))
 
   -- and what is answered where they are not
-  module _ (unread : (lists.complete && eqb head.kind book_line) ≡ false) where
+  module _ (unread : (lists.complete && same_kind head.kind Book) ≡ false) where
     pub group_refused : (consumed : ℕ) → ◌≡◌ {A = BookGroup} (record { answer = Refused unreadable; consumed = consumed + lists.consumed; is_open = false }) (group consumed)
     unfolding book_group_with
     group_refused consumed =

@@ -7,7 +7,7 @@ ghost use Rattle.book_group.specs.BookGroup.{is_done, FullLists, opening_kept, b
 
 use counted_lines::book_lines::{BookLists, read_book_lines};
 use lines::lines::next_row;
-use lines::rows::{BOOK_LINE, Row};
+use lines::rows::{LineKind, Row};
 use opening::opening::open;
 use records::answers::Answer;
 use records::numbers::UNREADABLE;
@@ -84,7 +84,7 @@ pub fn open_from_script(script: &[u8], o: &mut [u64]) -> BookGroup
     let at_lines = first.consumed;
     let lists = read_book_lines(&script[at_lines..], head);
     let consumed = at_lines + lists.consumed;
-    if lists.complete & (head.kind == BOOK_LINE) {
+    if lists.complete && head.kind == LineKind::Book {
         let answer = open_from_lists(o, head, lists);
         let is_open = is_done(answer);
         return BookGroup {

@@ -6,11 +6,13 @@ use mathlib.Core.List.{List}
 use native.Mathlib.Nat.{le_trans, le_of_eq, add-zero}
 use lib.ListN.{length, take, drop, get_or}
 use lib.Seq.{get_or-drop}
+use Rattle.lines.specs.declared.rows.LineKind.{LineKind}
 use Rattle.lines.specs.declared.rows.Row.{Row}
 use Rattle.counted_lines.specs.declared.book_lines.Pairs.{Pairs}
 use Rattle.counted_lines.specs.declared.book_lines.SetLine.{SetLine}
 use Rattle.counted_lines.specs.declared.book_lines.BookLists.{BookLists}
-use Rattle.lines.specs.Rows.{unreadable_row, rows_of, holder_line, sink_line, path_line, field, counted, holder_rows, sink_rows, path_rows, head_count, set_count, not_broken, settings_on, set_row, set_readable, settings_of_rows, book_line_count}
+use Rattle.lines.specs.declared.rows.LineKind.TheVariants.{Holder, Sink, Path}
+use Rattle.lines.specs.Rows.{unreadable_row, rows_of, field, counted, holder_rows, sink_rows, path_rows, head_count, set_count, not_broken, settings_on, set_row, set_readable, settings_of_rows, book_line_count}
 use Rattle.lines.specs.Reading.{next_row}
 use Rattle.counted_lines.specs.Counted.{bytes_of_lines, rows_counted}
 use Rattle.counted_lines.specs.BookLines.{first_fields, pairs_of, set_line_of, book_lines_complete, book_lists_of}
@@ -19,7 +21,7 @@ use Rattle.counted_lines.proofs.PairLaws.{rest_all, rest_rows}
 use Rattle.counted_lines.proofs.SetLaws.{next_first}
 
 -- what pairs are, from the rows that they are read from
-module _ (kind n : ℕ) (s : List ℕ) (rows : List Row) (these : rows_of s ≡ rows) where
+module _ (kind : LineKind) (n : ℕ) (s : List ℕ) (rows : List Row) (these : rows_of s ≡ rows) where
   complete-is : (x : Pairs) → x ≡ pairs_of kind n s → x.complete ≡ counted kind n (take n rows)
   unfolding pairs_of rows_counted
   complete-is x e = ap (λ y. y.complete) e ∙ ap (λ r. counted kind n (take n r)) these
@@ -32,12 +34,12 @@ module _ (kind n : ℕ) (s : List ℕ) (rows : List Row) (these : rows_of s ≡ 
   unfolding pairs_of rows_counted
   seconds-are x e = ap (λ y. y.seconds) e ∙ ap (λ r. first_fields 1 (take n r)) these
 
-pub consumed_is : (kind n : ℕ) (s : List ℕ) (x : Pairs) → x ≡ pairs_of kind n s → x.consumed ≡ bytes_of_lines n s
+pub consumed_is : (kind : LineKind) (n : ℕ) (s : List ℕ) (x : Pairs) → x ≡ pairs_of kind n s → x.consumed ≡ bytes_of_lines n s
 unfolding pairs_of
 consumed_is kind n s x e = ap (λ y. y.consumed) e
 
 -- the bytes of lines that are read after the first n
-after : (s : List ℕ) (n u : ℕ) → u ≡ bytes_of_lines n s → (kind m : ℕ) (x : Pairs) → x ≡ pairs_of kind m (take (length s - u) (drop u s)) → u + x.consumed ≡ bytes_of_lines (n + m) s
+after : (s : List ℕ) (n u : ℕ) → u ≡ bytes_of_lines n s → (kind : LineKind) (m : ℕ) (x : Pairs) → x ≡ pairs_of kind m (take (length s - u) (drop u s)) → u + x.consumed ≡ bytes_of_lines (n + m) s
 after s n u here kind m x e = (λ i. here i + (consumed_is kind m (take (length s - u) (drop u s)) x e ∙ ap (bytes_of_lines m) (rest_all s n u here)) i) ∙ sym (bytes_add n m s)
 
 -- the three kinds together, and the set line
@@ -51,16 +53,16 @@ module _ (s : List ℕ) (head : Row) where
   abbrev n3 : ℕ
   n3 = get_or head.fields 3 0
 
-  module _ (x y : Pairs) (read_x : x ≡ pairs_of holder_line n0 s) (read_y : y ≡ pairs_of sink_line n2 (take (length s - x.consumed) (drop x.consumed s))) where
+  module _ (x y : Pairs) (read_x : x ≡ pairs_of Holder n0 s) (read_y : y ≡ pairs_of Sink n2 (take (length s - x.consumed) (drop x.consumed s))) where
     at-sinks : x.consumed ≡ bytes_of_lines n0 s
-    at-sinks = consumed_is holder_line n0 s x read_x
+    at-sinks = consumed_is Holder n0 s x read_x
 
     pub at_paths : x.consumed + y.consumed ≡ bytes_of_lines (n0 + n2) s
-    at_paths = after s n0 x.consumed at-sinks sink_line n2 y read_y
+    at_paths = after s n0 x.consumed at-sinks Sink n2 y read_y
 
-    module _ (z : Pairs) (read_z : z ≡ pairs_of path_line n3 (take (length s - (x.consumed + y.consumed)) (drop (x.consumed + y.consumed) s))) where
+    module _ (z : Pairs) (read_z : z ≡ pairs_of Path n3 (take (length s - (x.consumed + y.consumed)) (drop (x.consumed + y.consumed) s))) where
       pub at_set : x.consumed + y.consumed + z.consumed ≡ bytes_of_lines (n0 + n2 + n3) s
-      at_set = after s (n0 + n2) (x.consumed + y.consumed) at_paths path_line n3 z read_z
+      at_set = after s (n0 + n2) (x.consumed + y.consumed) at_paths Path n3 z read_z
 
       sinks-here : rows_of (take (length s - x.consumed) (drop x.consumed s)) ≡ drop n0 (rows_of s)
       sinks-here = rest_rows s n0 x.consumed at-sinks
@@ -95,12 +97,12 @@ module _ (s : List ℕ) (head : Row) where
         lists_read =
             λ i.
             record {
-              complete = complete-is holder_line n0 s (rows_of s) refl x read_x i && complete-is sink_line n2 _ _ sinks-here y read_y i && complete-is path_line n3 _ _ paths-here z read_z i && (ap (λ l. l.readable) read_w ∙ ap not_broken row_here) i;
+              complete = complete-is Holder n0 s (rows_of s) refl x read_x i && complete-is Sink n2 _ _ sinks-here y read_y i && complete-is Path n3 _ _ paths-here z read_z i && (ap (λ l. l.readable) read_w ∙ ap not_broken row_here) i;
               consumed = at-end i;
-              holder_kinds = firsts-are holder_line n0 s (rows_of s) refl x read_x i;
-              sink_kinds = firsts-are sink_line n2 _ _ sinks-here y read_y i;
-              sink_parents = seconds-are sink_line n2 _ _ sinks-here y read_y i;
-              path_sources = firsts-are path_line n3 _ _ paths-here z read_z i;
-              path_sinks = seconds-are path_line n3 _ _ paths-here z read_z i;
+              holder_kinds = firsts-are Holder n0 s (rows_of s) refl x read_x i;
+              sink_kinds = firsts-are Sink n2 _ _ sinks-here y read_y i;
+              sink_parents = seconds-are Sink n2 _ _ sinks-here y read_y i;
+              path_sources = firsts-are Path n3 _ _ paths-here z read_z i;
+              path_sinks = seconds-are Path n3 _ _ paths-here z read_z i;
               settings = (ap (λ l. l.settings) read_w ∙ ap settings_on row_here) i;
             }

@@ -8,14 +8,14 @@ use native.Mathlib.Numerals.{add-one}
 use native.Mathlib.Omega.{arith}
 use lib.ListN.{length, take, drop, set, length-map, length-take, length-drop, drop_of_length-le}
 use lib.Seq.{drop-drop, length-take-le, take_all}
-use lib.Dec.{eqb}
 use borrow.Author.Tests.{eq-eqb, ne_eqb}
 use Rattle.tariff.proofs.Tests.{and_left_false}
+use Rattle.lines.specs.declared.rows.LineKind.{LineKind}
 use Rattle.lines.specs.declared.rows.Row.{Row}
 use Rattle.counted_lines.specs.declared.counted.CountedLines.{CountedLines}
 use Rattle.lines.specs.declared.lines.NextRow.{NextRow}
 use Rattle.lines.specs.Text.{lines_of}
-use Rattle.lines.specs.Rows.{rows_of, all_of_kind, counted}
+use Rattle.lines.specs.Rows.{same_kind, rows_of, all_of_kind, counted}
 use Rattle.lines.specs.Reading.{first_bytes, next_row}
 use Rattle.counted_lines.specs.Counted.{bytes_of_lines, rows_counted, counted_of, with_lines}
 use Rattle.counted_lines.proofs.RowSteps.{first_row_lem, consumed_within}
@@ -49,7 +49,7 @@ bytes_all (suc m) (suc n) s a b =
     ap (λ t. u + t) (bytes_all m n (drop u s) (omega arith) (omega arith))
 
 -- what is known when k lines have been read
-pub record SoFar (s : List ℕ) (kind count k consumed : ℕ) (complete : Bool) : Type 0 where
+pub record SoFar (s : List ℕ) (kind : LineKind) (count k consumed : ℕ) (complete : Bool) : Type 0 where
   pub up_to : k ≤ count
   pub left : rows_of (drop consumed s) ≡ drop k (rows_of s)
   pub in_rows : k ≤ length (rows_of s)
@@ -57,11 +57,11 @@ pub record SoFar (s : List ℕ) (kind count k consumed : ℕ) (complete : Bool) 
   pub in_bytes : consumed ≤ length s
   pub kinds : complete ≡ all_of_kind kind (take k (rows_of s))
 
-pub none_read : (s : List ℕ) (kind count : ℕ) → SoFar s kind count 0 0 true
+pub none_read : (s : List ℕ) (kind : LineKind) (count : ℕ) → SoFar s kind count 0 0 true
 unfolding bytes_of_lines all_of_kind
 none_read s kind count = record { up_to = zero-le; left = refl; in_rows = zero-le; bytes = refl; in_bytes = zero-le; kinds = refl }
 
-module _ (s : List ℕ) (kind count k consumed : ℕ) (complete : Bool) (f : SoFar s kind count k consumed complete) where
+module _ (s : List ℕ) (kind : LineKind) (count k consumed : ℕ) (complete : Bool) (f : SoFar s kind count k consumed complete) where
   abbrev rest : List ℕ
   rest = drop consumed s
 
@@ -85,7 +85,7 @@ module _ (s : List ℕ) (kind count k consumed : ℕ) (complete : Bool) (f : SoF
     one_more : take (suc k) (rows_of s) ≡ take k (rows_of s) ++ (next ∷ [])
     one_more = take_more k (rows_of s) next (rows_of (drop (next_row rest).consumed rest)) here
 
-    read_more : k < count → SoFar s kind count (k + 1) (consumed + (next_row rest).consumed) (complete && eqb next.kind kind)
+    read_more : k < count → SoFar s kind count (k + 1) (consumed + (next_row rest).consumed) (complete && same_kind next.kind kind)
     read_more l =
         record {
           up_to = omega arith;
@@ -93,7 +93,7 @@ module _ (s : List ℕ) (kind count k consumed : ℕ) (complete : Bool) (f : SoF
           in_rows = let below = row_below in omega arith;
           bytes = (λ i. f.bytes i + (next_row (drop (f.bytes i) s)).consumed) ∙ sym (bytes_more k s) ∙ ap (λ n. bytes_of_lines n s) (sym (add-one k));
           in_bytes = next-within;
-          kinds = (λ i. f.kinds i && eqb next.kind kind) ∙ sym (kinds_more kind (take k (rows_of s)) next) ∙ ap (all_of_kind kind) (sym one_more) ∙ ap (λ n. all_of_kind kind (take n (rows_of s))) (sym (add-one k));
+          kinds = (λ i. f.kinds i && same_kind next.kind kind) ∙ sym (kinds_more kind (take k (rows_of s)) next) ∙ ap (all_of_kind kind) (sym one_more) ∙ ap (λ n. all_of_kind kind (take n (rows_of s))) (sym (add-one k));
         }
 
     -- the same of a row that was read there, from the part of the bytes that begins there
@@ -101,8 +101,8 @@ module _ (s : List ℕ) (kind count k consumed : ℕ) (complete : Bool) (f : SoF
       e : x ≡ next_row rest
       e = read ∙ ap next_row (take_all (length s - consumed) rest (let len = length-drop consumed s in omega arith))
 
-      pub turn : k < count → SoFar s kind count (k + 1) (consumed + x.consumed) (complete && eqb x.row.kind kind)
-      turn l = subst (λ y. SoFar s kind count (k + 1) (consumed + y.consumed) (complete && eqb y.row.kind kind)) (sym e) (read_more l)
+      pub turn : k < count → SoFar s kind count (k + 1) (consumed + x.consumed) (complete && same_kind x.row.kind kind)
+      turn l = subst (λ y. SoFar s kind count (k + 1) (consumed + y.consumed) (complete && same_kind y.row.kind kind)) (sym e) (read_more l)
 
       -- the rows with one more
       pub turn_rows : take (k + 1) (rows_of s) ≡ take k (rows_of s) ++ (x.row ∷ [])

@@ -15,11 +15,12 @@ use Rattle.tariff.specs.Sum.{tabulate}
 use Rattle.tariff.specs.Placed.{placed}
 use Rattle.tariff.proofs.Lists.{length_tabulate, at_tabulate, list_ext, list_is, placed_in, placed_out}
 use Rattle.tariff.proofs.Tests.{decided}
+use Rattle.lines.specs.declared.rows.LineKind.{LineKind}
 use Rattle.lines.specs.declared.rows.Row.{Row}
 use Rattle.lines.specs.declared.lines.NextRow.{NextRow}
 use Rattle.counted_lines.specs.declared.book_lines.Pairs.{Pairs}
 use Rattle.counted_lines.specs.declared.counted.CountedLines.{CountedLines}
-use Rattle.lines.specs.Rows.{rows_of, field}
+use Rattle.lines.specs.Rows.{same_kind, rows_of, field}
 use Rattle.lines.specs.Reading.{next_row}
 use Rattle.counted_lines.specs.Counted.{bytes_of_lines, rows_counted, counted_of}
 use Rattle.counted_lines.specs.BookLines.{first_places, first_fields, pairs_of}
@@ -76,12 +77,12 @@ field_put j rows r =
     ∙ ap first_places (sym (map-append (field j) rows (r ∷ [])))
 
 -- what is known when k lines have been read
-pub record ReadTo (s : List ℕ) (kind count k consumed : ℕ) (complete : Bool) (firsts seconds : List ℕ) : Type 0 where
+pub record ReadTo (s : List ℕ) (kind : LineKind) (count k consumed : ℕ) (complete : Bool) (firsts seconds : List ℕ) : Type 0 where
   pub lines : SoFar s kind count k consumed complete
   pub first : firsts ≡ first_fields 0 (take k (rows_of s))
   pub second : seconds ≡ first_fields 1 (take k (rows_of s))
 
-pub no_pairs : (s : List ℕ) (kind count : ℕ) → ReadTo s kind count 0 0 true (replicate max_places 0) (replicate max_places 0)
+pub no_pairs : (s : List ℕ) (kind : LineKind) (count : ℕ) → ReadTo s kind count 0 0 true (replicate max_places 0) (replicate max_places 0)
 unfolding first_fields first_places tabulate
 no_pairs s kind count = record { lines = none_read s kind count; first = refl; second = refl }
 
@@ -96,7 +97,7 @@ module _ (s : List ℕ) (n u : ℕ) (here : u ≡ bytes_of_lines n s) where
   pub rest_rows : rows_of (take (length s - u) (drop u s)) ≡ drop n (rows_of s)
   rest_rows = ap rows_of rest_all ∙ rows_after n s
 
-module _ (s : List ℕ) (kind count k consumed : ℕ) (complete : Bool) (firsts seconds : List ℕ) (f : ReadTo s kind count k consumed complete firsts seconds) where
+module _ (s : List ℕ) (kind : LineKind) (count k consumed : ℕ) (complete : Bool) (firsts seconds : List ℕ) (f : ReadTo s kind count k consumed complete firsts seconds) where
   -- one line more, read from the part of the bytes that begins there
   module _ (some : consumed < length s) (x : NextRow) (read : x ≡ next_row (take (length s - consumed) (drop consumed s))) where
     pub pair_within : consumed + x.consumed ≤ length s
@@ -110,7 +111,7 @@ module _ (s : List ℕ) (kind count k consumed : ℕ) (complete : Bool) (firsts 
         ∙ field_put j (take k (rows_of s)) x.row
         ∙ ap (first_fields j) (sym (turn_rows s kind count k consumed complete f.lines some x read))
 
-    pub one_pair_more : k < count → (firsts₁ seconds₁ : List ℕ) → firsts₁ ≡ placed max_places firsts k (get_or x.row.fields 0 0) → seconds₁ ≡ placed max_places seconds k (get_or x.row.fields 1 0) → ReadTo s kind count (k + 1) (consumed + x.consumed) (complete && eqb x.row.kind kind) firsts₁ seconds₁
+    pub one_pair_more : k < count → (firsts₁ seconds₁ : List ℕ) → firsts₁ ≡ placed max_places firsts k (get_or x.row.fields 0 0) → seconds₁ ≡ placed max_places seconds k (get_or x.row.fields 1 0) → ReadTo s kind count (k + 1) (consumed + x.consumed) (complete && same_kind x.row.kind kind) firsts₁ seconds₁
     one_pair_more l firsts₁ seconds₁ p q =
         record {
           lines = turn s kind count k consumed complete f.lines some x read l;

@@ -6,9 +6,9 @@ use mathlib.Core.List.{List, [], ◌∷◌, ◌++◌, map, append_assoc, map-app
 use native.Mathlib.Omega.{arith}
 use lib.ListN.{length, take, drop, set, get_or, length-append, length-map, length-drop}
 use lib.Seq.{take_at}
-use lib.Dec.{eqb}
+use Rattle.lines.specs.declared.rows.LineKind.{LineKind}
 use Rattle.lines.specs.declared.rows.Row.{Row}
-use Rattle.lines.specs.Rows.{field, all_of_kind}
+use Rattle.lines.specs.Rows.{same_kind, all_of_kind}
 
 module _ {A : Type 0} where
   -- one more of a list whose rest begins with x
@@ -30,7 +30,7 @@ module _ {A : Type 0} where
       let left = length-drop k xs in
       omega arith
 
-pub kinds_more : (kind : ℕ) (rows : List Row) (r : Row) → all_of_kind kind (rows ++ (r ∷ [])) ≡ (all_of_kind kind rows && eqb r.kind kind)
+pub kinds_more : (kind : LineKind) (rows : List Row) (r : Row) → all_of_kind kind (rows ++ (r ∷ [])) ≡ (all_of_kind kind rows && same_kind r.kind kind)
 unfolding all_of_kind
-kinds_more kind [] r = and-true (eqb r.kind kind)
-kinds_more kind (x ∷ rows) r = ap (λ t. eqb x.kind kind && t) (kinds_more kind rows r) ∙ sym (and_assoc (eqb x.kind kind) (all_of_kind kind rows) (eqb r.kind kind))
+kinds_more kind [] r = and-true (same_kind r.kind kind)
+kinds_more kind (x ∷ rows) r = ap (λ t. same_kind x.kind kind && t) (kinds_more kind rows r) ∙ sym (and_assoc (same_kind x.kind kind) (all_of_kind kind rows) (same_kind r.kind kind))

@@ -5,13 +5,13 @@ use mathlib.Core.Bool.{Bool, cond, not, ◌||◌}
 use mathlib.Core.List.{List, [], ◌∷◌, map}
 use native.Mathlib.Omega.{arith}
 use lib.ListN.{get_or}
-use lib.Dec.{eqb}
 use Rattle.tariff.specs.declared.settings.Settings.{Settings}
 use Rattle.tariff.specs.Settings.{settings_of, present_settings}
 use Rattle.lines.specs.declared.lines.NextRow.{NextRow}
 use Rattle.counted_lines.specs.declared.book_lines.SetLine.{SetLine}
 use Rattle.lines.specs.Text.{Line, lines_of}
-use Rattle.lines.specs.Rows.{set_line, broken_set_line, unreadable_row, row_of, rows_of, set_count, not_broken, settings_on}
+use Rattle.lines.specs.declared.rows.LineKind.TheVariants.{Set, BrokenSet}
+use Rattle.lines.specs.Rows.{same_kind, unreadable_row, row_of, rows_of, set_count, not_broken, settings_on}
 use Rattle.lines.specs.Reading.{first_row, next_row}
 use Rattle.counted_lines.specs.Counted.{bytes_of_lines}
 use Rattle.counted_lines.specs.BookLines.{set_line_of}
@@ -35,7 +35,7 @@ module _ (s : List ℕ) (x : NextRow) (read : x ≡ next_row s) where
   unfolding bytes_of_lines
   one_line = let same = ap (λ y. y.consumed) read in omega arith
 
-  pub set_line_lem : (t u : Bool) → eqb x.row.kind set_line ≡ t → eqb x.row.kind broken_set_line ≡ u → (consumed : ℕ) → consumed ≡ bytes_of_lines (cond (t || u) 1 0) s → (settings : Settings) → settings ≡ cond t (settings_of x.row.fields) present_settings → ◌≡◌ {A = SetLine} (record { readable = not u; consumed = consumed; settings = settings }) (set_line_of s)
+  pub set_line_lem : (t u : Bool) → same_kind x.row.kind Set ≡ t → same_kind x.row.kind BrokenSet ≡ u → (consumed : ℕ) → consumed ≡ bytes_of_lines (cond (t || u) 1 0) s → (settings : Settings) → settings ≡ cond t (settings_of x.row.fields) present_settings → ◌≡◌ {A = SetLine} (record { readable = not u; consumed = consumed; settings = settings }) (set_line_of s)
   unfolding set_line_of not_broken set_count settings_on
   set_line_lem t u p q consumed taken settings are =
       (λ i. record { readable = not (sym q i); consumed = (taken ∙ λ j. bytes_of_lines (cond (sym p j || sym q j) 1 0) s) i; settings = (are ∙ ap (λ t. cond t (settings_of x.row.fields) present_settings) (sym p)) i })

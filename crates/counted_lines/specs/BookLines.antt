@@ -2,11 +2,13 @@
 use Rattle.std.specs.Prelude.{ℕ, Bool, ◌&&◌, List, map, get_or}
 use Rattle.tariff.specs.Sizes.{max_places}
 use Rattle.tariff.specs.Sum.{tabulate}
+use Rattle.lines.specs.declared.rows.LineKind.{LineKind}
 use Rattle.lines.specs.declared.rows.Row.{Row}
 use Rattle.counted_lines.specs.declared.book_lines.Pairs.{Pairs}
 use Rattle.counted_lines.specs.declared.book_lines.SetLine.{SetLine}
 use Rattle.counted_lines.specs.declared.book_lines.BookLists.{BookLists}
-use Rattle.lines.specs.Rows.{holder_line, sink_line, path_line, rows_of, field, counted, holder_rows, sink_rows, path_rows, set_count, not_broken, settings_on, set_readable, settings_of_rows, book_line_count}
+use Rattle.lines.specs.declared.rows.LineKind.TheVariants.{Holder, Sink, Path}
+use Rattle.lines.specs.Rows.{rows_of, field, counted, holder_rows, sink_rows, path_rows, set_count, not_broken, settings_on, set_readable, settings_of_rows, book_line_count}
 use Rattle.lines.specs.Reading.{next_row}
 use Rattle.counted_lines.specs.Counted.{bytes_of_lines, rows_counted}
 
@@ -19,7 +21,7 @@ unfoldable pub first_fields : ℕ → List Row → List ℕ
 first_fields j rows = first_places (map (field j) rows)
 
 -- whether there are as many lines as counted, all of the kind, how many bytes they take, and the first two fields of each
-unfoldable pub pairs_of : ℕ → ℕ → List ℕ → Pairs
+unfoldable pub pairs_of : LineKind → ℕ → List ℕ → Pairs
 pairs_of kind n rest =
     record {
       complete = counted kind n (rows_counted n rest);
@@ -40,9 +42,9 @@ set_line_of rest =
 -- the lines that a book head counts are there, each of its kind, and a set line after them can be read
 unfoldable pub book_lines_complete : Row → List Row → Bool
 book_lines_complete head rows =
-    counted holder_line (field 0 head) (holder_rows head rows)
-    && counted sink_line (field 2 head) (sink_rows head rows)
-    && counted path_line (field 3 head) (path_rows head rows)
+    counted Holder (field 0 head) (holder_rows head rows)
+    && counted Sink (field 2 head) (sink_rows head rows)
+    && counted Path (field 3 head) (path_rows head rows)
     && set_readable head rows
 
 -- whether they are, how many bytes they take, and what stands on them

@@ -2,6 +2,7 @@
 use Rattle.std.specs.Prelude.{ℕ, zero, suc, ◌+◌, List, ◌++◌, length, take, drop}
 use Rattle.load_metric.specs.declared.block.Block.{Block}
 use Rattle.netting.specs.declared.netting.ClassLine.{ClassLine}
+use Rattle.lines.specs.declared.rows.LineKind.{LineKind}
 use Rattle.lines.specs.declared.rows.Row.{Row}
 use Rattle.counted_lines.specs.declared.counted.CountedLines.{CountedLines}
 use Rattle.lines.specs.Rows.{rows_of, field, counted}
@@ -17,7 +18,7 @@ unfoldable pub rows_counted : ℕ → List ℕ → List Row
 rows_counted n script = take n (rows_of script)
 
 -- whether there are as many as counted, all of the kind, and how many bytes they take
-unfoldable pub counted_of : ℕ → ℕ → List ℕ → CountedLines
+unfoldable pub counted_of : LineKind → ℕ → List ℕ → CountedLines
 counted_of kind n script = record { complete = counted kind n (rows_counted n script); consumed = bytes_of_lines n script }
 
 -- what a block line and a class line say, by the fields of their rows

@@ -5,7 +5,7 @@ ghost use Rattle.tariff.specs.Placed.{placed};
 ghost use Rattle.counted_lines.specs.BookLines.{pairs_of, set_line_of, book_lists_of};
 
 use lines::lines::next_row;
-use lines::rows::{BROKEN_SET_LINE, HOLDER_LINE, PATH_LINE, Row, SET_LINE, SINK_LINE};
+use lines::rows::{LineKind, Row};
 use tariff::settings::Settings;
 use tariff::sizes::MAX_PLACES;
 
@@ -52,7 +52,7 @@ fn place(list: [u64; MAX_PLACES], k: usize, v: u64) -> [u64; MAX_PLACES]
 }
 
 // Reads as many lines as are counted, or all that are left; past the sixteenth only their kind matters.
-fn read_pairs(rest: &[u8], kind: u64, count: u64) -> Pairs
+fn read_pairs(rest: &[u8], kind: LineKind, count: u64) -> Pairs
     ensures { result ≡ pairs_of kind count rest.now }
 {
     let mut complete = true;
@@ -95,7 +95,7 @@ fn read_set_line(rest: &[u8]) -> SetLine
     let next = next_row(rest);
     let row = next.row;
     let fields = row.fields;
-    if row.kind == SET_LINE {
+    if row.kind == LineKind::Set {
         let settings = Settings::from(fields);
         return SetLine {
             readable: true,
@@ -104,7 +104,7 @@ fn read_set_line(rest: &[u8]) -> SetLine
         };
     }
     let settings = Settings::present();
-    if row.kind == BROKEN_SET_LINE {
+    if row.kind == LineKind::BrokenSet {
         return SetLine {
             readable: false,
             consumed: next.consumed,
@@ -123,11 +123,11 @@ pub fn read_book_lines(rest: &[u8], head: Row) -> BookLists
     ensures { result ≡ book_lists_of head rest.now }
 {
     let fields = head.fields;
-    let holders = read_pairs(rest, HOLDER_LINE, fields[0]);
+    let holders = read_pairs(rest, LineKind::Holder, fields[0]);
     let at_sinks = holders.consumed;
-    let sinks = read_pairs(&rest[at_sinks..], SINK_LINE, fields[2]);
+    let sinks = read_pairs(&rest[at_sinks..], LineKind::Sink, fields[2]);
     let at_paths = at_sinks + sinks.consumed;
-    let paths = read_pairs(&rest[at_paths..], PATH_LINE, fields[3]);
+    let paths = read_pairs(&rest[at_paths..], LineKind::Path, fields[3]);
     let at_set = at_paths + paths.consumed;
     let set = read_set_line(&rest[at_set..]);
     let holder_kinds = holders.firsts;

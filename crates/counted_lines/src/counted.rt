@@ -4,7 +4,7 @@ ghost use Rattle.lines.specs.declared.rows.Row.{Row};
 ghost use Rattle.counted_lines.specs.Counted.{rows_counted, counted_of, block_of, class_line_of, with_lines};
 
 use lines::lines::next_row;
-use lines::rows::Row;
+use lines::rows::{LineKind, Row};
 use load_metric::block::Block;
 use netting::netting::ClassLine;
 
@@ -66,7 +66,7 @@ fn keep<T: Copy>(kept: &mut [T], k: usize, line: T)
 // Reads as many lines as are counted, or all that are left, and keeps as many as find room.
 pub fn read_counted<T: CountedLine>(
     rest: &[u8],
-    kind: u64,
+    kind: LineKind,
     count: u64,
     kept: &mut [T],
 ) -> CountedLines

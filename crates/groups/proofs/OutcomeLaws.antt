@@ -7,8 +7,8 @@ use native.Mathlib.Nat.{add-zero, le_trans, le_of_eq}
 use native.Mathlib.Omega.{arith}
 use lib.ListN.{length, take, drop, replicate, length-replicate, length-map, length-take, length-drop}
 use lib.Dec.{eqb}
-use borrow.Author.Tests.{eqb-true, eqb-false, ne_eqb}
-use Rattle.tariff.proofs.Tests.{and_both}
+use borrow.Author.Tests.{eqb-true}
+use Rattle.tariff.proofs.Tests.{and_both, both_ways}
 use Rattle.ledger.specs.Numbers.{unreadable}
 use Rattle.ledger.specs.Call.{load, migrate}
 use Rattle.ledger.specs.Season.{Request, call}
@@ -21,12 +21,15 @@ use Rattle.lines.specs.declared.rows.Row.{Row}
 use Rattle.counted_lines.specs.declared.counted.CountedLines.{CountedLines}
 use Rattle.lines.specs.declared.lines.NextRow.{NextRow}
 use Rattle.lines.specs.Reading.{next_row}
-use Rattle.lines.specs.Rows.{rows_of, load_line, migrate_line, field, counted, all_of_kind}
+use Rattle.lines.specs.declared.rows.LineKind.{LineKind}
+use Rattle.lines.specs.declared.rows.LineKind.TheVariants.{Load, Migrate}
+use Rattle.lines.specs.Rows.{same_kind, rows_of, field, counted, all_of_kind}
 use Rattle.counted_lines.specs.Counted.{bytes_of_lines, rows_counted, counted_of, with_lines}
 use Rattle.counted_lines.proofs.RowSteps.{consumed_within}
 use Rattle.counted_lines.proofs.LineBytes.{bytes_within, rows_after}
 use Rattle.lines.proofs.FieldLaws.{rest_all}
 use Rattle.counted_lines.proofs.KeptLines.{all_kept}
+use Rattle.lines.proofs.KindLaws.{is_same_kind, other_kind}
 use Rattle.groups.specs.declared.outcome.GroupOutcome.{GroupOutcome}
 use Rattle.groups.specs.Groups.{Group, request, lines_counted, when_complete, request_of}
 use Rattle.groups.specs.Outcome.{of_one_line, head_group, head_bytes, first_group, group_bytes, outcome_of_group, Answers, GroupAnswers}
@@ -41,7 +44,7 @@ rows_counted_lem : (n : ℕ) (s : List ℕ) → length (rows_counted n s) ≤ n
 unfolding rows_counted
 rows_counted_lem n s = let len = length-take n (rows_of s) in omega arith
 
-module _ (kind n : ℕ) (s : List ℕ) (x : CountedLines) (read : x ≡ counted_of kind n s) where
+module _ (kind : LineKind) (n : ℕ) (s : List ℕ) (x : CountedLines) (read : x ≡ counted_of kind n s) where
   abbrev rows : List Row
   rows = rows_counted n s
 
@@ -69,7 +72,7 @@ module _ (kind n : ℕ) (s : List ℕ) (x : CountedLines) (read : x ≡ counted_
         (λ i. take (sym (many ∙ rows_many) i) (is i)) ∙ all_kept (map of rows) (replicate places none) (omega arith)
 
 -- a head that makes a request if the lines it counts are complete
-module _ (head : Row) (s : List ℕ) (kind n : ℕ) (req : Request) (x : CountedLines) (read : x ≡ counted_of kind n s) (counts : lines_counted head ≡ n) (requests : request_of head (rows_counted n s) ≡ when_complete (counted kind n (rows_counted n s)) req) where
+module _ (head : Row) (s : List ℕ) (kind : LineKind) (n : ℕ) (req : Request) (x : CountedLines) (read : x ≡ counted_of kind n s) (counts : lines_counted head ≡ n) (requests : request_of head (rows_counted n s) ≡ when_complete (counted kind n (rows_counted n s)) req) where
   pub outcome_bytes : x.consumed ≡ head_bytes head s
   unfolding head_bytes
   outcome_bytes = consumed-is kind n s x read ∙ ap (λ k. bytes_of_lines k s) (sym counts)
@@ -100,11 +103,11 @@ module _ (head : Row) (s : List ℕ) (n : ℕ) (counts : lines_counted head ≡ 
   all_fit size few = let most = rows_few (lines_counted head) s in omega arith
 
 module _ (head : Row) where
-  pub load_counts : head.kind ≡ load_line → lines_counted head ≡ field 5 head
+  pub load_counts : head.kind ≡ Load → lines_counted head ≡ field 5 head
   unfolding lines_counted
   load_counts e = rw e
 
-  pub migrate_counts : head.kind ≡ migrate_line → lines_counted head ≡ field 2 head
+  pub migrate_counts : head.kind ≡ Migrate → lines_counted head ≡ field 2 head
   unfolding lines_counted
   migrate_counts e = rw e
 
@@ -114,15 +117,15 @@ module _ (head : Row) where
     unfolding head_bytes bytes_of_lines
     no_lines counts = ap (λ n. bytes_of_lines n s) (sym counts)
 
-    pub other_counts : (head.kind ≡ load_line → ⊥) → (head.kind ≡ migrate_line → ⊥) → 0 ≡ head_bytes head s
+    pub other_counts : (head.kind ≡ Load → ⊥) → (head.kind ≡ Migrate → ⊥) → 0 ≡ head_bytes head s
     unfolding lines_counted
     other_counts l m = no_lines (none l m)
       where
-        none : (head.kind ≡ load_line → ⊥) → (head.kind ≡ migrate_line → ⊥) → lines_counted head ≡ 0
-        none l m = rw (ne_eqb head.kind load_line l) (rw (ne_eqb head.kind migrate_line m))
+        none : (head.kind ≡ Load → ⊥) → (head.kind ≡ Migrate → ⊥) → lines_counted head ≡ 0
+        none l m = rw (other_kind head.kind Load l) (rw (other_kind head.kind Migrate m))
 
-    pub kind_counts : (kind : ℕ) → head.kind ≡ kind → eqb kind load_line ≡ false → eqb kind migrate_line ≡ false → 0 ≡ head_bytes head s
-    kind_counts kind e l m = other_counts (λ q. eqb-false kind load_line l (sym e ∙ q)) (λ q. eqb-false kind migrate_line m (sym e ∙ q))
+    pub kind_counts : (kind : LineKind) → head.kind ≡ kind → same_kind kind Load ≡ false → same_kind kind Migrate ≡ false → 0 ≡ head_bytes head s
+    kind_counts kind e l m = other_counts (λ q. both_ways (is_same_kind kind Load (sym e ∙ q)) l) (λ q. both_ways (is_same_kind kind Migrate (sym e ∙ q)) m)
 
 -- the outcome of a head that counts no lines
 module _ (r : GroupOutcome) (a : Answer) (is : r ≡ of_one_line a) where

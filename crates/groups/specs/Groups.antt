@@ -1,11 +1,13 @@
 -- Groups: a head and the lines that it counts, and the request that they make (01, Script and host).
-use Rattle.std.specs.Prelude.{ℕ, zero, suc, Bool, cond, ◌&&◌, List, [], ◌∷◌, map, length, take, drop, eqb}
+use Rattle.std.specs.Prelude.{ℕ, zero, suc, Bool, cond, ◌&&◌, List, [], ◌∷◌, map, length, take, drop}
 use Rattle.ledger.specs.Opening.{Opening}
 use Rattle.ledger.specs.Call.{load, carry, prior, verify, migrate, open_tier, nominate, award, close_tier, limit_of, held_on, net_on}
 use Rattle.ledger.specs.Season.{Request, call, query}
 use Rattle.lines.specs.declared.rows.Row.{Row}
+use Rattle.lines.specs.declared.rows.LineKind.{LineKind}
+use Rattle.lines.specs.declared.rows.LineKind.TheVariants.{Book, Holder, Sink, Path, Load, Block as BlockLine, Carry, Prior, Verify, Migrate, Class, Open, Nominate, Award, Close, Limit, Held, Net}
+use Rattle.lines.specs.Rows.{same_kind, field, counted, holder_rows, sink_rows, path_rows, set_readable, settings_of_rows, book_line_count}
 use Rattle.counted_lines.specs.Counted.{block_of, class_line_of}
-use Rattle.lines.specs.Rows.{field, counted, book_line, holder_line, sink_line, path_line, load_line, block_line, carry_line, prior_line, verify_line, migrate_line, class_line, open_line, nominate_line, award_line, close_line, limit_line, held_line, net_line, holder_rows, sink_rows, path_rows, set_readable, settings_of_rows, book_line_count}
 
 -- a group as it is read: a request, or unreadable where a line of it is unreadable or absent
 pub data Group : Type 0 where
@@ -14,16 +16,16 @@ pub data Group : Type 0 where
 
 -- for a kind of head, the group that it makes
 pub data Case : Type 0 where
-  case : ℕ → Group → Case
+  case : LineKind → Group → Case
 
 -- a kind that is not listed is unreadable: a second book, or a line that no head counts
-unfoldable pub lookup : ℕ → List Case → Group
+unfoldable pub lookup : LineKind → List Case → Group
 lookup kind [] = unreadable_group
-lookup kind (case known what ∷ later) = cond (eqb kind known) what (lookup kind later)
+lookup kind (case known what ∷ later) = cond (same_kind kind known) what (lookup kind later)
 
 -- load and migrate end in a count of the lines that follow
 unfoldable pub lines_counted : Row → ℕ
-lines_counted r = cond (eqb r.kind load_line) (field 5 r) (cond (eqb r.kind migrate_line) (field 2 r) 0)
+lines_counted r = cond (same_kind r.kind Load) (field 5 r) (cond (same_kind r.kind Migrate) (field 2 r) 0)
 
 unfoldable pub when_complete : Bool → Request → Group
 when_complete is_complete req = cond is_complete (request req) unreadable_group
@@ -32,18 +34,18 @@ when_complete is_complete req = cond is_complete (request req) unreadable_group
 unfoldable pub request_of : Row → List Row → Group
 request_of r lines =
     lookup r.kind
-    (case load_line (when_complete (counted block_line (field 5 r) lines) (call (load (field 0 r) (field 1 r) (field 2 r) (field 3 r) (field 4 r) (map block_of lines))))
-    ∷ case carry_line (request (call (carry (field 0 r) (field 1 r) (field 2 r))))
-    ∷ case prior_line (request (call (prior (field 0 r) (field 1 r) (field 2 r) (field 3 r))))
-    ∷ case verify_line (request (call (verify (field 0 r) (field 1 r) (field 2 r) (field 3 r) (field 4 r) (field 5 r) (field 6 r) (field 7 r))))
-    ∷ case migrate_line (when_complete (counted class_line (field 2 r) lines) (call (migrate (field 0 r) (field 1 r) (map class_line_of lines))))
-    ∷ case open_line (request (call (open_tier (field 0 r))))
-    ∷ case nominate_line (request (call (nominate (field 0 r) (field 1 r) (field 2 r))))
-    ∷ case award_line (request (call (award (field 0 r) (field 1 r) (field 2 r))))
-    ∷ case close_line (request (call close_tier))
-    ∷ case limit_line (request (query (limit_of (field 0 r) (field 1 r))))
-    ∷ case held_line (request (query (held_on (field 0 r) (field 1 r) (field 2 r))))
-    ∷ case net_line (request (query (net_on (field 0 r) (field 1 r))))
+    (case Load (when_complete (counted BlockLine (field 5 r) lines) (call (load (field 0 r) (field 1 r) (field 2 r) (field 3 r) (field 4 r) (map block_of lines))))
+    ∷ case Carry (request (call (carry (field 0 r) (field 1 r) (field 2 r))))
+    ∷ case Prior (request (call (prior (field 0 r) (field 1 r) (field 2 r) (field 3 r))))
+    ∷ case Verify (request (call (verify (field 0 r) (field 1 r) (field 2 r) (field 3 r) (field 4 r) (field 5 r) (field 6 r) (field 7 r))))
+    ∷ case Migrate (when_complete (counted Class (field 2 r) lines) (call (migrate (field 0 r) (field 1 r) (map class_line_of lines))))
+    ∷ case Open (request (call (open_tier (field 0 r))))
+    ∷ case Nominate (request (call (nominate (field 0 r) (field 1 r) (field 2 r))))
+    ∷ case Award (request (call (award (field 0 r) (field 1 r) (field 2 r))))
+    ∷ case Close (request (call close_tier))
+    ∷ case Limit (request (query (limit_of (field 0 r) (field 1 r))))
+    ∷ case Held (request (query (held_on (field 0 r) (field 1 r) (field 2 r))))
+    ∷ case Net (request (query (net_on (field 0 r) (field 1 r))))
     ∷ [])
 
 -- the groups of rows, at most so many: a head and the lines that it counts, or all lines left if fewer
@@ -60,10 +62,10 @@ groups_of rows = groups_from (length rows) rows
 module _ (head : Row) (rows : List Row) where
   unfoldable pub book_readable : Bool
   book_readable =
-      eqb head.kind book_line
-      && counted holder_line (field 0 head) (holder_rows head rows)
-      && counted sink_line (field 2 head) (sink_rows head rows)
-      && counted path_line (field 3 head) (path_rows head rows)
+      same_kind head.kind Book
+      && counted Holder (field 0 head) (holder_rows head rows)
+      && counted Sink (field 2 head) (sink_rows head rows)
+      && counted Path (field 3 head) (path_rows head rows)
       && set_readable head rows
 
   unfoldable pub opening_of_rows : Opening

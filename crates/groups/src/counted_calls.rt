@@ -1,7 +1,8 @@
 // The calls that count lines: a load with its blocks, and a migrate with its class lines (01, Script and host).
 ghost use Rattle.std.specs.Prelude.{◌≡◌, ◌≤◌, length};
 ghost use Rattle.slots.specs.Steps.{ReachableFigures, ReachablePostings};
-ghost use Rattle.lines.specs.Rows.{rows_of, load_line, migrate_line};
+ghost use Rattle.lines.specs.declared.rows.LineKind.TheVariants.{Load, Migrate};
+ghost use Rattle.lines.specs.Rows.{rows_of};
 ghost use Rattle.counted_lines.specs.Counted.{rows_counted};
 ghost use Rattle.lines.specs.Text.{max_lines};
 ghost use Rattle.groups.specs.Groups.{lines_counted};
@@ -9,7 +10,7 @@ ghost use Rattle.groups.specs.Outcome.{head_group, head_bytes, FiguresAnswers, P
 
 use crate::outcome::GroupOutcome;
 use counted_lines::counted::read_counted;
-use lines::rows::{BLOCK_LINE, CLASS_LINE, Row};
+use lines::rows::{LineKind, Row};
 use lines::text::MAX_LINES;
 use load::load::load;
 use load_metric::block::Block;
@@ -31,7 +32,7 @@ fn load_with_room<const N: usize>(
     rest: &[u8],
 ) -> GroupOutcome
     requires reachable { ReachablePostings o.now f.old m.old }
-    requires load { head.kind ≡ load_line }
+    requires load { head.kind ≡ Load }
     requires room { length (rows_counted (lines_counted head) rest.now) ≤ N }
     requires few { N ≤ max_lines }
     ensures answer { PostingsAnswers o.now f.old m.old (head_group head rest.now) result.answer f.new m.new }
@@ -45,7 +46,7 @@ fn load_with_room<const N: usize>(
         kw: 0,
     };
     let mut blocks = [none; N];
-    let read = read_counted(rest, BLOCK_LINE, count, &mut blocks);
+    let read = read_counted(rest, LineKind::Block, count, &mut blocks);
     let consumed = read.consumed;
     if !read.complete {
         let answer = Answer::Refused(UNREADABLE);
@@ -64,7 +65,7 @@ fn migrate_with_room<const N: usize>(
     rest: &[u8],
 ) -> GroupOutcome
     requires reachable { ReachableFigures o.now f.old }
-    requires migrate { head.kind ≡ migrate_line }
+    requires migrate { head.kind ≡ Migrate }
     requires room { length (rows_counted (lines_counted head) rest.now) ≤ N }
     requires few { N ≤ max_lines }
     ensures answer { FiguresAnswers o.now f.old (head_group head rest.now) result.answer f.new }
@@ -80,7 +81,7 @@ fn migrate_with_room<const N: usize>(
         watts: 0,
     };
     let mut lines = [none; N];
-    let read = read_counted(rest, CLASS_LINE, count, &mut lines);
+    let read = read_counted(rest, LineKind::Class, count, &mut lines);
     let consumed = read.consumed;
     if !read.complete {
         let answer = Answer::Refused(UNREADABLE);
@@ -94,7 +95,7 @@ fn migrate_with_room<const N: usize>(
 // A load with its block lines.
 pub fn run_load(o: &[u64], f: &mut [u64], m: &mut [bool], head: Row, rest: &[u8]) -> GroupOutcome
     requires reachable { ReachablePostings o.now f.old m.old }
-    requires load { head.kind ≡ load_line }
+    requires load { head.kind ≡ Load }
     requires few { length (rows_of rest.now) ≤ max_lines }
     ensures answer { PostingsAnswers o.now f.old m.old (head_group head rest.now) result.answer f.new m.new }
     ensures consumed { result.consumed ≡ head_bytes head rest.now }
@@ -109,7 +110,7 @@ pub fn run_load(o: &[u64], f: &mut [u64], m: &mut [bool], head: Row, rest: &[u8]
 // A migrate with its class lines.
 pub fn run_migrate(o: &[u64], f: &mut [u64], head: Row, rest: &[u8]) -> GroupOutcome
     requires reachable { ReachableFigures o.now f.old }
-    requires migrate { head.kind ≡ migrate_line }
+    requires migrate { head.kind ≡ Migrate }
     requires few { length (rows_of rest.now) ≤ max_lines }
     ensures answer { FiguresAnswers o.now f.old (head_group head rest.now) result.answer f.new }
     ensures consumed { result.consumed ≡ head_bytes head rest.now }

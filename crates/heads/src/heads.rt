@@ -2,7 +2,8 @@
 ghost use Rattle.std.specs.Prelude.{◌≡◌, List, ℕ, ◌≤◌, length};
 ghost use Rattle.ledger.specs.Call.{nominate, award, limit_of, net_on};
 ghost use Rattle.slots.specs.Steps.{ReachableFigures, ReachablePostings, FiguresStep, InFigures, query_answer};
-ghost use Rattle.lines.specs.Rows.{rows_of, verify_line};
+ghost use Rattle.lines.specs.declared.rows.LineKind.TheVariants.{Verify};
+ghost use Rattle.lines.specs.Rows.{rows_of};
 ghost use Rattle.lines.specs.Text.{max_lines};
 ghost use Rattle.groups.specs.Outcome.{head_group, head_bytes, first_group, group_bytes, GroupAnswers};
 
@@ -12,10 +13,7 @@ use awards::open_close::{close_tier, open_tier};
 use groups::counted_calls::{run_load, run_migrate};
 use groups::outcome::{GroupOutcome, of_one_line};
 use lines::lines::next_row;
-use lines::rows::{
-    AWARD_LINE, CARRY_LINE, CLOSE_LINE, HELD_LINE, LIMIT_LINE, LOAD_LINE, MIGRATE_LINE, NET_LINE,
-    NOMINATE_LINE, OPEN_LINE, PRIOR_LINE, Row, VERIFY_LINE,
-};
+use lines::rows::{LineKind, Row};
 use nominations::nominate::nominate;
 use postings::carry::carry;
 use postings::prior::prior;
@@ -63,7 +61,7 @@ fn run_net(o: &[u64], f: &[u64], path: u64, month: u64) -> Answer
 // Evidence: its line has more numbers than any other head's. It counts no lines, whatever stands after it.
 fn run_verify(o: &[u64], f: &mut [u64], m: &mut [bool], head: Row) -> GroupOutcome
     requires reachable { ReachablePostings o.now f.old m.old }
-    requires verify { head.kind ≡ verify_line }
+    requires verify { head.kind ≡ Verify }
     ensures answer { (rest : List ℕ) → GroupAnswers o.now f.old m.old (head_group head rest) result.answer f.new m.new }
     ensures consumed { (rest : List ℕ) → result.consumed ≡ head_bytes head rest }
 {
@@ -86,26 +84,25 @@ fn run_head(o: &[u64], f: &mut [u64], m: &mut [bool], head: Row, rest: &[u8]) ->
     ensures answer { GroupAnswers o.now f.old m.old (head_group head rest.now) result.answer f.new m.new }
     ensures consumed { result.consumed ≡ head_bytes head rest.now }
 {
-    let kind = head.kind;
     // The first numbers of the head's line, in their order.
     let n = head.fields;
     let a = n[0];
     let b = n[1];
     let c = n[2];
     let d = n[3];
-    match kind {
-        LOAD_LINE => run_load(o, f, m, head, rest),
-        CARRY_LINE => of_one_line(carry(o, f, m, a, b, c)),
-        PRIOR_LINE => of_one_line(prior(o, f, m, a, b, c, d)),
-        VERIFY_LINE => run_verify(o, f, m, head),
-        MIGRATE_LINE => run_migrate(o, f, head, rest),
-        OPEN_LINE => of_one_line(open_tier(f, a)),
-        NOMINATE_LINE => of_one_line(run_nominate(o, f, a, b, c)),
-        AWARD_LINE => of_one_line(run_award(o, f, a, b, c)),
-        CLOSE_LINE => of_one_line(close_tier(f)),
-        LIMIT_LINE => of_one_line(run_limit(o, f, a, b)),
-        HELD_LINE => of_one_line(held(o, f, a, b, c)),
-        NET_LINE => of_one_line(run_net(o, f, a, b)),
+    match head.kind {
+        LineKind::Load => run_load(o, f, m, head, rest),
+        LineKind::Carry => of_one_line(carry(o, f, m, a, b, c)),
+        LineKind::Prior => of_one_line(prior(o, f, m, a, b, c, d)),
+        LineKind::Verify => run_verify(o, f, m, head),
+        LineKind::Migrate => run_migrate(o, f, head, rest),
+        LineKind::Open => of_one_line(open_tier(f, a)),
+        LineKind::Nominate => of_one_line(run_nominate(o, f, a, b, c)),
+        LineKind::Award => of_one_line(run_award(o, f, a, b, c)),
+        LineKind::Close => of_one_line(close_tier(f)),
+        LineKind::Limit => of_one_line(run_limit(o, f, a, b)),
+        LineKind::Held => of_one_line(held(o, f, a, b, c)),
+        LineKind::Net => of_one_line(run_net(o, f, a, b)),
         _ => of_one_line(Answer::Refused(UNREADABLE)),
     }
 }

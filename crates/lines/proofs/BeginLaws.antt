@@ -1,14 +1,17 @@
 -- Laws of the bytes that a line begins with: no LF stands among them, and they are read one by one. Assumes nothing.
 use Prim.Native.Nat.{ℕ, suc}
-use mathlib.Core.Path.{◌≡◌, refl, sym, ap, ◌∙◌}
+use mathlib.Core.Path.{◌≡◌, refl, sym, ap, ap₂, ◌∙◌}
 use mathlib.Core.Bool.{Bool, true, false, cond, ◌&&◌}
 use mathlib.Core.List.{List, [], ◌∷◌}
-use borrow.Author.Tests.{eqb-true, eqb-false, ne_eqb}
-use lib.ListN.{length, get_or, take}
+use borrow.Author.Tests.{eq-eqb, eqb-true, eqb-false, ne_eqb}
+use lib.ListN.{length, take}
 use lib.Dec.{eqb}
+use Rattle.std.specs.List.{starts_with}
+use Rattle.std.specs.Cmp.Lexicographic.{pointwise}
 use Rattle.tariff.proofs.Tests.{and_left_false, both_ways}
 use Rattle.lines.specs.Text.{bytes_of, line_feed, comma}
-use Rattle.lines.specs.Rows.{same_bytes, begins_set, broken_set_line, row, unreadable_row, unread_row}
+use Rattle.lines.specs.declared.rows.LineKind.TheVariants.{BrokenSet}
+use Rattle.lines.specs.Rows.{same_bytes, begins_set, row, unreadable_row, unread_row}
 use Rattle.lines.specs.Reading.{bytes_before, line_text}
 
 -- none of these bytes is an LF
@@ -28,27 +31,25 @@ begin_line (c ∷ word) (b ∷ rest) e = go (eqb c line_feed) (eqb b line_feed) 
     go false true p q e ih = sym (and_left_false _ (ne_eqb b c (λ same. eqb-false c line_feed p (sym same ∙ eqb-true b line_feed q))))
     go false false p q e ih = ap (λ t. eqb b c && t) (ih e)
 
--- the row of a line that cannot be read, by the test of its bytes
-pub unread_by : (rest : List ℕ) (begins t : Bool) → begins ≡ begins_set rest → begins ≡ t → cond t (row broken_set_line []) unreadable_row ≡ unread_row rest
-unfolding unread_row
-unread_by rest begins t is e = ap (λ t. cond t (row broken_set_line []) unreadable_row) (sym e ∙ is)
-
 pub line_begins : (rest : List ℕ) → unread_row (line_text rest) ≡ unread_row rest
 unfolding unread_row begins_set bytes_of no_feed
-line_begins rest = ap (λ t. cond t (row broken_set_line []) unreadable_row) (begin_line (bytes_of "set,") rest refl)
+line_begins rest = ap (λ t. cond t (row BrokenSet []) unreadable_row) (begin_line (bytes_of "set,") rest refl)
 
-regroup : (p q r s : Bool) → (p && q && r && s) ≡ (p && (q && (r && (s && true))))
-regroup false q r s = refl
-regroup true false r s = refl
-regroup true true false s = refl
-regroup true true true false = refl
-regroup true true true true = refl
+eqb_turned : (x y : ℕ) → eqb x y ≡ eqb y x
+eqb_turned x y = go (eqb x y) refl
+  where
+    go : (t : Bool) → eqb x y ≡ t → t ≡ eqb y x
+    go true e = sym (eq-eqb y x (sym (eqb-true x y e)))
+    go false e = sym (ne_eqb y x (λ same. eqb-false x y e (sym same)))
 
--- four bytes, 0 past the last of the script
-pub set_bytes : (rest : List ℕ) → (eqb (get_or rest 0 0) 115 && eqb (get_or rest 1 0) 101 && eqb (get_or rest 2 0) 116 && eqb (get_or rest 3 0) comma) ≡ begins_set rest
-unfolding begins_set same_bytes bytes_of
-set_bytes [] = refl
-set_bytes (a ∷ []) = regroup (eqb a 115) false false false
-set_bytes (a ∷ b ∷ []) = regroup (eqb a 115) (eqb b 101) false false
-set_bytes (a ∷ b ∷ c ∷ []) = regroup (eqb a 115) (eqb b 101) (eqb c 116) false
-set_bytes (a ∷ b ∷ c ∷ d ∷ rest) = regroup (eqb a 115) (eqb b 101) (eqb c 116) (eqb d comma)
+-- the same bytes, as std compares them
+same_pointwise : (xs ys : List ℕ) → pointwise eqb ys xs ≡ same_bytes xs ys
+unfolding same_bytes
+same_pointwise [] [] = refl
+same_pointwise [] (y ∷ ys) = refl
+same_pointwise (x ∷ xs) [] = refl
+same_pointwise (x ∷ xs) (y ∷ ys) = ap₂ (λ s t. s && t) (eqb_turned y x) (same_pointwise xs ys)
+
+pub starts_set : (rest : List ℕ) → starts_with eqb rest (115 ∷ 101 ∷ 116 ∷ comma ∷ []) ≡ begins_set rest
+unfolding begins_set bytes_of
+starts_set rest = same_pointwise (take 4 rest) (bytes_of "set,")

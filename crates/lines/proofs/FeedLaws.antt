@@ -1,12 +1,11 @@
 -- LFs counted, byte by byte and chunk by chunk, and how many lines they say there are. Assumes nothing.
 use Prim.Native.Nat.{ℕ, zero, suc, ◌+◌, ◌-◌, ◌≤◌, ◌<◌}
-use mathlib.Core.Path.{◌≡◌, refl, sym, ap, ◌∙◌}
+use mathlib.Core.Path.{◌≡◌, refl, sym, ap, ap₂, ◌∙◌}
 use mathlib.Core.Bool.{Bool, true, false, cond, ◌||◌}
 use mathlib.Core.List.{List, [], ◌∷◌, ◌++◌}
 use native.Mathlib.Omega.{arith}
 use borrow.Author.Tests.{eq-eqb, ne_eqb}
-use lib.ListN.{length, get_or, take, drop, length-drop, drop_of_length-le, take-append-drop}
-use lib.Seq.{length-take-le, drop-drop}
+use lib.ListN.{length, get_or, take, drop, drop_of_length-le, take-append-drop}
 use lib.Dec.{eqb}
 use Rattle.lines.specs.Text.{line_feed, ended, unended, lines_of, to_first_line}
 use Rattle.lines.specs.Reading.{line_feeds_in}
@@ -35,12 +34,9 @@ feeds_few (b ∷ bytes) = go (eqb b line_feed) (feeds_few bytes)
     go true ih = omega arith
     go false ih = omega arith
 
--- nor in a chunk
-pub chunk_size : (bytes : List ℕ) (i past : ℕ) → i ≤ past → past ≤ length bytes → length (take (past - i) (drop i bytes)) ≡ past - i
-chunk_size bytes i past l few = length-take-le (past - i) (drop i bytes) (let left = length-drop i bytes in omega arith)
-
-pub chunk_few : (bytes : List ℕ) (i past r : ℕ) → i ≤ past → past ≤ length bytes → r ≡ line_feeds_in (take (past - i) (drop i bytes)) → r ≤ past - i
-chunk_few bytes i past r l few e = let most = feeds_few (take (past - i) (drop i bytes)) in let size = chunk_size bytes i past l few in omega arith
+-- a chunk and what stands after it
+pub chunk_apart : (rest chunk after : List ℕ) (n : ℕ) → chunk ≡ take n rest → after ≡ drop n rest → line_feeds_in rest ≡ line_feeds_in chunk + line_feeds_in after
+chunk_apart rest chunk after n front back = ap line_feeds_in (sym (take-append-drop n rest) ∙ ap₂ (λ xs ys. xs ++ ys) (sym front) (sym back)) ∙ feeds_append chunk after
 
 module _ (bytes : List ℕ) (i n : ℕ) (counted : Counted bytes i n) where
   here : (t : Bool) → i < length bytes → eqb (get_or bytes i 0) line_feed ≡ t → line_feeds_in (drop i bytes) ≡ cond t (suc (line_feeds_in (drop (i + 1) bytes))) (line_feeds_in (drop (i + 1) bytes))
@@ -52,12 +48,6 @@ module _ (bytes : List ℕ) (i n : ℕ) (counted : Counted bytes i n) where
 
   pub other_byte : i < length bytes → (get_or bytes i 0 ≡ line_feed → ⊥) → Counted bytes (i + 1) n
   other_byte l e = let same = here false l (ne_eqb _ _ e) in omega arith
-
-  pub chunk_more : (past r : ℕ) → i ≤ past → r ≡ line_feeds_in (take (past - i) (drop i bytes)) → Counted bytes past (n + r)
-  chunk_more past r l e =
-      let parted = ap line_feeds_in (sym (take-append-drop (past - i) (drop i bytes))) ∙ feeds_append (take (past - i) (drop i bytes)) (drop (past - i) (drop i bytes)) in
-      let after = ap line_feeds_in (drop-drop (past - i) i bytes ∙ ap (λ k. drop k bytes) (let here : i + (past - i) ≡ past = omega arith in here)) in
-      omega arith
 
   pub all_counted : length bytes ≤ i → n ≡ line_feeds_in bytes
   unfolding line_feeds_in

@@ -13,11 +13,12 @@ use lib.Dec.{eqb, leb, ltb}
 use Rattle.tariff.specs.Sum.{tabulate, any_of}
 use Rattle.tariff.proofs.Lists.{length_tabulate, at_tabulate, list_is}
 use Rattle.tariff.proofs.Tests.{decided, both_ways, and_both, and_left_false, and_right_false}
-use Rattle.lines.specs.declared.text.Field.{Field}
+use Rattle.std.specs.Prelude.{Option, Some, None}
+use Rattle.lines.specs.declared.text.Token.{Token}
 use Rattle.lines.specs.declared.rows.Fields.{Fields}
 use Rattle.lines.specs.Text.{line_feed, comma, is_digit, all_digits, max_digits, is_number, value_of}
 use Rattle.lines.specs.Rows.{max_fields, all_numbers}
-use Rattle.lines.specs.Reading.{bytes_before, leading, leading_digits, field_at, fields_after, line_text, field_ends, has_line_feed, fields_if, fields_read, no_fields}
+use Rattle.lines.specs.Reading.{bytes_before, leading, leading_digits, digits_at, field_at, fields_after, line_text, field_ends, has_line_feed, fields_if, fields_read}
 use Rattle.lines.proofs.TextLaws.{at_byte}
 use Rattle.lines.proofs.LineFields.{field_length, first_field, first_length, line_fields, feed_after, up_to_after}
 use Rattle.lines.proofs.LeadingLaws.{leading_field, field_leading, field_continues}
@@ -32,15 +33,15 @@ unfoldable pub zeros : List ℕ
 zeros = tabulate max_fields (λ k. 0)
 
 -- fields and their numbers, none where a test fails
-unfoldable pub fields_where : Bool → ℕ → List ℕ → ℕ → Fields
-fields_where test count numbers end = cond test (record { readable = true; count = count; numbers = numbers; end = end }) no_fields
+unfoldable pub fields_where : Bool → ℕ → List ℕ → ℕ → Option Fields
+fields_where test count numbers end = cond test (Some (record { count = count; numbers = numbers; end = end })) None
 
 -- what is read of fields after so many others, whose numbers are stored
-unfoldable pub rest_if : Bool → ℕ → List ℕ → List (List ℕ) → ℕ → Fields
+unfoldable pub rest_if : Bool → ℕ → List ℕ → List (List ℕ) → ℕ → Option Fields
 rest_if readable count numbers fields end = fields_where (readable && all_numbers fields && leb (count + length fields) max_fields) (count + length fields) (sets numbers count (map value_of fields)) end
 
 -- the same, from a place on
-unfoldable pub read_from : ℕ → List ℕ → ℕ → List ℕ → Fields
+unfoldable pub read_from : ℕ → List ℕ → ℕ → List ℕ → Option Fields
 read_from count numbers at bytes = rest_if (field_ends bytes && has_line_feed bytes) count numbers (fields_after (line_text bytes)) (at + bytes_before line_feed bytes)
 
 long : length zeros ≡ max_fields
@@ -85,21 +86,21 @@ pub reading_starts : (start : ℕ) (bytes : List ℕ) → fields_read start byte
 unfolding fields_read read_from
 reading_starts start bytes = started (field_ends bytes && has_line_feed bytes) (fields_after (line_text bytes)) (start + bytes_before line_feed bytes)
 
-refused : (t : Bool) (count : ℕ) (numbers : List ℕ) (end : ℕ) → t ≡ false → fields_where t count numbers end ≡ no_fields
+refused : (t : Bool) (count : ℕ) (numbers : List ℕ) (end : ℕ) → t ≡ false → fields_where t count numbers end ≡ None
 unfolding fields_where
 refused true count numbers end e = absurd (both_ways refl e)
 refused false count numbers end e = refl
 
-rest_refused : (readable : Bool) (count : ℕ) (numbers : List ℕ) (fields : List (List ℕ)) (end : ℕ) → readable ≡ false → rest_if readable count numbers fields end ≡ no_fields
+rest_refused : (readable : Bool) (count : ℕ) (numbers : List ℕ) (fields : List (List ℕ)) (end : ℕ) → readable ≡ false → rest_if readable count numbers fields end ≡ None
 unfolding rest_if
 rest_refused readable count numbers fields end e = refused _ _ _ end (and_left_false _ (and_left_false (all_numbers fields) e))
 
 module _ (readable : Bool) (count : ℕ) (numbers : List ℕ) (field : List ℕ) (fields : List (List ℕ)) (end : ℕ) where
-  field-refused : is_number field ≡ false → rest_if readable count numbers (field ∷ fields) end ≡ no_fields
+  field-refused : is_number field ≡ false → rest_if readable count numbers (field ∷ fields) end ≡ None
   unfolding rest_if all_numbers
   field-refused e = refused _ _ _ end (and_left_false _ (and_right_false readable (and_left_false (all_numbers fields) e)))
 
-  one-too-many : count ≡ max_fields → rest_if readable count numbers (field ∷ fields) end ≡ no_fields
+  one-too-many : count ≡ max_fields → rest_if readable count numbers (field ∷ fields) end ≡ None
   unfolding rest_if all_numbers
   one-too-many e = refused _ _ _ end (and_right_false (readable && (is_number field && all_numbers fields)) (lt-leb (count + suc (length fields)) max_fields (omega arith)))
 
@@ -110,7 +111,7 @@ module _ (readable : Bool) (count : ℕ) (numbers : List ℕ) (field : List ℕ)
       ap (λ t. fields_where (readable && (t && all_numbers fields) && leb (count + suc (length fields)) max_fields) (count + suc (length fields)) (sets (set numbers count (value_of field)) (suc count) (map value_of fields)) end) e
       ∙ ap₂ (λ n k. fields_where (readable && all_numbers fields && leb n max_fields) n (sets (set numbers count (value_of field)) k (map value_of fields)) end) one (sym (add-one count))
 
-reading_ends : (count : ℕ) (numbers : List ℕ) (at : ℕ) → count ≤ max_fields → rest_if true count numbers [] (at + 0) ≡ record { readable = true; count = count; numbers = numbers; end = at }
+reading_ends : (count : ℕ) (numbers : List ℕ) (at : ℕ) → count ≤ max_fields → rest_if true count numbers [] (at + 0) ≡ Some (record { count = count; numbers = numbers; end = at })
 unfolding rest_if all_numbers fields_where
 reading_ends count numbers at l =
     let none : count + 0 ≡ count = omega arith in
@@ -126,11 +127,11 @@ module _ (count : ℕ) (numbers : List ℕ) (at : ℕ) (bytes : List ℕ) where
   unfolding read_from field_ends has_line_feed any_of line_text bytes_before fields_after end
   at-comma = ap (λ fields. rest_if (has_line_feed bytes) count numbers fields end) (line_fields bytes)
 
-  comma-too-many : count ≡ max_fields → read_from count numbers at (comma ∷ bytes) ≡ no_fields
+  comma-too-many : count ≡ max_fields → read_from count numbers at (comma ∷ bytes) ≡ None
   comma-too-many e = at-comma ∙ one-too-many _ count numbers _ _ _ e
 
   -- digits that are no number are no field
-  comma-no-number : is_number (leading_digits bytes) ≡ false → read_from count numbers at (comma ∷ bytes) ≡ no_fields
+  comma-no-number : is_number (leading_digits bytes) ≡ false → read_from count numbers at (comma ∷ bytes) ≡ None
   unfolding leading_digits
   comma-no-number e = at-comma ∙ field-refused _ count numbers _ _ _ (go (decided (is_number (first_field bytes))))
     where
@@ -175,50 +176,43 @@ byte_inside rest at b some e = go (decided (ltb at (length rest)))
         let none : get_or rest at 0 ≡ 0 = get_or-eq_default rest 0 {n = at} (ltb-false at (length rest) t) in
         absurd (let z : ⊥ = omega (arith, e) in z)
 
--- what the test of the loop over the fields says where it passes, and of the byte that stands there where it does not
-pub field_follows : (byte count : ℕ) → (eqb byte comma && ltb count max_fields) ≡ true → (byte ≡ comma) × (count < max_fields)
-field_follows byte count t = let both = and_both (eqb byte comma) (ltb count max_fields) t in (eqb-true byte comma both.0, ltb-true count max_fields both.1)
-
-pub none_follows : (byte there count : ℕ) → byte ≡ there → (eqb byte comma && ltb count max_fields) ≡ false → (eqb there comma && ltb count max_fields) ≡ false
-none_follows byte there count is t = ap (λ n. eqb n comma && ltb count max_fields) (sym is) ∙ t
-
 -- a turn of the reading: from one comma of a line to the next
 module _ (rest : List ℕ) (start at count : ℕ) (numbers : List ℕ) (passed : fields_read start (drop start rest) ≡ read_from count numbers at (drop at rest)) where
   here : (b : ℕ) → at < length rest → get_or rest at 0 ≡ b → fields_read start (drop start rest) ≡ read_from count numbers at (b ∷ drop (at + 1) rest)
   here b l e = passed ∙ at_byte (read_from count numbers at) rest at l ∙ ap (λ b. read_from count numbers at (b ∷ drop (at + 1) rest)) e
 
-  pub line_ends : at < length rest → get_or rest at 0 ≡ line_feed → count ≤ max_fields → record { readable = true; count = count; numbers = numbers; end = at } ≡ fields_read start (drop start rest)
+  pub line_ends : at < length rest → get_or rest at 0 ≡ line_feed → count ≤ max_fields → Some (record { count = count; numbers = numbers; end = at }) ≡ fields_read start (drop start rest)
   unfolding read_from field_ends has_line_feed any_of line_text bytes_before fields_after
   line_ends l e few = sym (here line_feed l e ∙ reading_ends count numbers at few)
 
-  stops-at-byte : at < length rest → (get_or rest at 0 ≡ line_feed → ⊥) → (get_or rest at 0 ≡ comma → ⊥) → no_fields ≡ fields_read start (drop start rest)
+  stops-at-byte : at < length rest → (get_or rest at 0 ≡ line_feed → ⊥) → (get_or rest at 0 ≡ comma → ⊥) → None ≡ fields_read start (drop start rest)
   unfolding read_from field_ends
   stops-at-byte l p q =
       let b = get_or rest at 0 in
       let other : (eqb b comma || eqb b line_feed) ≡ false = rw (ne_eqb b comma q, ne_eqb b line_feed p) in
       sym (here b l refl ∙ rest_refused _ count numbers _ _ (and_left_false _ other))
 
-  stops-at-end : length rest ≤ at → no_fields ≡ fields_read start (drop start rest)
+  stops-at-end : length rest ≤ at → None ≡ fields_read start (drop start rest)
   unfolding read_from has_line_feed any_of
   stops-at-end l = sym (passed ∙ ap (read_from count numbers at) (drop_of_length-le rest l) ∙ rest_refused _ count numbers _ _ (and_right_false (field_ends []) refl))
 
   -- fields end at a byte that is no LF: another one than a comma, none at all, or a comma after as many as a row has room for
-  pub stops : (get_or rest at 0 ≡ line_feed → ⊥) → (eqb (get_or rest at 0) comma && ltb count max_fields) ≡ false → count ≤ max_fields → no_fields ≡ fields_read start (drop start rest)
-  stops open-still test few = ⊎_elim (λ t. inside (ltb-true at (length rest) t) (eqb (get_or rest at 0) comma) refl test) (λ t. stops-at-end (ltb-false at (length rest) t)) (decided (ltb at (length rest)))
+  pub stops : (get_or rest at 0 ≡ line_feed → ⊥) → (get_or rest at 0 ≡ comma → max_fields ≤ count) → count ≤ max_fields → None ≡ fields_read start (drop start rest)
+  stops open-still full few = ⊎_elim (λ t. inside (ltb-true at (length rest) t) (eqb (get_or rest at 0) comma) refl) (λ t. stops-at-end (ltb-false at (length rest) t)) (decided (ltb at (length rest)))
     where
-      inside : at < length rest → (b : Bool) → eqb (get_or rest at 0) comma ≡ b → (b && ltb count max_fields) ≡ false → no_fields ≡ fields_read start (drop start rest)
-      inside l true e t = let past = ltb-false count max_fields t in sym (here comma l (eqb-true (get_or rest at 0) comma e) ∙ comma-too-many count numbers at _ (omega arith))
-      inside l false e t = stops-at-byte l open-still (eqb-false (get_or rest at 0) comma e)
+      inside : at < length rest → (b : Bool) → eqb (get_or rest at 0) comma ≡ b → None ≡ fields_read start (drop start rest)
+      inside l true e = let past = full (eqb-true (get_or rest at 0) comma e) in sym (here comma l (eqb-true (get_or rest at 0) comma e) ∙ comma-too-many count numbers at _ (omega arith))
+      inside l false e = stops-at-byte l open-still (eqb-false (get_or rest at 0) comma e)
 
   module _ (l : at < length rest) (e : get_or rest at 0 ≡ comma) where
-    module _ (f : Field) (read : f ≡ field_at (at + 1) (drop (at + 1) rest)) where
-      pub stops_at_none : f.valid ≡ false → no_fields ≡ fields_read start (drop start rest)
-      stops_at_none v = sym (here comma l e ∙ comma-no-number count numbers at _ (field_invalid _ _ f read v))
+    pub stops_at_none : None ≡ field_at (at + 1) (drop (at + 1) rest) → None ≡ fields_read start (drop start rest)
+    stops_at_none read = sym (here comma l e ∙ comma-no-number count numbers at _ (field_invalid _ _ read))
 
-      pub continues : f.valid ≡ true → fields_read start (drop start rest) ≡ read_from (count + 1) (set numbers count f.value) f.end (drop f.end rest)
-      continues v =
-          let number = field_valid _ _ f read v in
-          here comma l e
-          ∙ comma-number count numbers at (drop (at + 1) rest) number.0
-          ∙ ap (read_from (count + 1) (set numbers count (value_of (leading_digits (drop (at + 1) rest)))) (at + 1 + length (leading_digits (drop (at + 1) rest)))) (drop-drop _ (at + 1) rest)
-          ∙ ap₂ (λ x n. read_from (count + 1) (set numbers count x) n (drop n rest)) (sym number.1) (sym number.2)
+    pub continues : (f : Token) → Some f ≡ field_at (at + 1) (drop (at + 1) rest) → fields_read start (drop start rest) ≡ read_from (count + 1) (set numbers count f.value) f.end (drop f.end rest)
+    unfolding digits_at
+    continues f read =
+        let number = field_valid _ _ f read in
+        here comma l e
+        ∙ comma-number count numbers at (drop (at + 1) rest) number.0
+        ∙ ap (read_from (count + 1) (set numbers count (value_of (leading_digits (drop (at + 1) rest)))) (at + 1 + length (leading_digits (drop (at + 1) rest)))) (drop-drop _ (at + 1) rest)
+        ∙ ap (λ d. read_from (count + 1) (set numbers count d.value) d.end (drop d.end rest)) (sym number.1)

@@ -2,6 +2,7 @@ pub mod TextLaws
 pub mod LineFields
 pub mod LeadingLaws
 pub mod NumberLaws
+pub mod KindLaws
 pub mod WordLaws
 pub mod FieldLaws
 pub mod BeginLaws

@@ -1,10 +1,10 @@
 -- Laws of the numbers that fields write: what is a digit, how large a value of digits gets, and which fields are numbers. Assumes nothing.
 use Prim.Native.Nat.{ℕ, suc, ◌+◌, ◌-◌, ◌*◌, ◌^◌, ◌≤◌, ◌<◌}
-use mathlib.Core.Path.{◌≡◌, refl, sym, ap, ap₂, ◌∙◌, subst}
+use mathlib.Core.Path.{◌≡◌, refl, sym, ap, ◌∙◌, subst}
 use mathlib.Core.Bool.{Bool, true, false, cond, not, ◌&&◌, ◌||◌, or-true}
 use mathlib.Core.List.{List, [], ◌∷◌}
 use mathlib.Core.Logic.{◌⊎◌, inl, inr}
-use native.Mathlib.Nat.{add-zero, pow-suc, pow-le-pow_right, zero-lt-suc}
+use native.Mathlib.Nat.{add-zero, pow-suc}
 use native.Mathlib.Omega.{arith}
 use borrow.Author.Tests.{le-leb, lt-leb, leb-true, eq-eqb, ne_eqb}
 use lib.ListN.{length, get_or, drop, length-drop}
@@ -12,11 +12,10 @@ use lib.Seq.{get_or-drop, take_all}
 use lib.Dec.{eqb, leb}
 use Rattle.tariff.specs.Ranges.{within}
 use Rattle.tariff.proofs.Tests.{decided, both_ways, and_both, and_join, and_left_false, and_right_false}
-use Rattle.lines.specs.declared.text.Numeral.TheVariants.{Invalid, Value}
 use Rattle.lines.specs.declared.text.Token.{Token}
-use Rattle.lines.specs.declared.text.Field.{Field}
+use Rattle.std.specs.Prelude.{Some, None}
 use Rattle.lines.specs.Text.{line_feed, comma, is_digit, all_digits, max_digits, is_number, value_after, value_of}
-use Rattle.lines.specs.Reading.{reading_limit, leading, leading_digits, digits_at, field_at, no_field, numeral}
+use Rattle.lines.specs.Reading.{reading_limit, leading, leading_digits, digits_at, field_at, numeral}
 use Rattle.lines.proofs.LeadingLaws.{leading_few, leading_within, leading_take, leading_first, leading_all, all_leading, token_from, ReadTo, none_read, one_more, stops_at_other, stops_at_limit}
 
 pub in_range : (low high x : ℕ) → low ≤ x → x ≤ high → within low high x ≡ true
@@ -27,10 +26,6 @@ pub below_range : (low high x : ℕ) → x < low → within low high x ≡ false
 unfolding within
 below_range low high x l = and_left_false (leb x high) (lt-leb low x l)
 
-pub above_range : (low high x : ℕ) → high < x → within low high x ≡ false
-unfolding within
-above_range low high x h = and_right_false (leb low x) (lt-leb x high h)
-
 -- one digit more
 pub power_more : (v d from i : ℕ) → from ≤ i → v < 10 ^ (i - from) → d ≤ 9 → v * 10 + d < 10 ^ (i + 1 - from)
 power_more v d from i q l m =
@@ -39,9 +34,6 @@ power_more v d from i q l m =
 
 pub power_none : (from : ℕ) → 0 < 10 ^ (from - from)
 power_none from = let none : from - from ≡ 0 = omega arith in subst (λ k. 0 < 10 ^ k) (sym none) (omega arith)
-
-pub power_max : (v i n : ℕ) → v < 10 ^ i → i ≤ n → v < 10 ^ n
-power_max v i n l m = let p : 10 ^ i ≤ 10 ^ n = pow-le-pow_right (zero-lt-suc 9) m in omega arith
 
 -- one digit, or a first byte other than 0: no leading zero
 one_digit : (field : List ℕ) → 1 ≤ length field → length field ≤ 1 → (eqb (length field) 1 || not (eqb (get_or field 0 0) 48)) ≡ true
@@ -108,25 +100,21 @@ module _ (bytes : List ℕ) (from i v : ℕ) (so_far : DigitsTo bytes from i v) 
 
 -- the number that digits at a place are
 module _ (from : ℕ) (bytes : List ℕ) (digits : Token) (read : digits ≡ digits_at from bytes) where
-  digits_value : digits.value ≡ value_of (leading_digits bytes)
-  unfolding digits_at
-  digits_value = ap (λ d. d.value) read
-
   digits-length : digits.end ≡ from + length (leading_digits bytes)
   unfolding digits_at
   digits-length = ap (λ d. d.end) read
 
-  refused : is_number (leading_digits bytes) ≡ false → no_field ≡ field_at from bytes
+  refused : is_number (leading_digits bytes) ≡ false → None ≡ field_at from bytes
   unfolding field_at
-  refused e = sym (ap (λ t. cond t (record { valid = true; value = value_of (leading_digits bytes); end = from + length (leading_digits bytes) }) no_field) e)
+  refused e = sym (ap (λ t. cond t (Some (digits_at from bytes)) None) e)
 
-  pub no_digit : digits.end ≡ from → no_field ≡ field_at from bytes
+  pub no_digit : digits.end - from ≡ 0 → None ≡ field_at from bytes
   unfolding is_number
   no_digit e =
       let long = digits-length in
       refused (and_left_false _ (and_left_false (all_digits (leading_digits bytes)) (below_range 1 max_digits (length (leading_digits bytes)) (omega arith))))
 
-  pub zero_leads : 1 < digits.end - from → get_or bytes 0 0 ≡ 48 → no_field ≡ field_at from bytes
+  pub zero_leads : 1 < digits.end - from → get_or bytes 0 0 ≡ 48 → None ≡ field_at from bytes
   unfolding is_number leading_digits
   zero_leads l e =
       let field = leading is_digit max_digits bytes in
@@ -135,7 +123,7 @@ module _ (from : ℕ) (bytes : List ℕ) (digits : Token) (read : digits ≡ dig
       let leads : (eqb (length field) 1 || not (eqb (get_or field 0 0) 48)) ≡ false = rw (ne_eqb (length field) 1 (λ q. omega (arith, q)), eq-eqb (get_or field 0 0) 48 first) in
       refused (and_right_false (within 1 max_digits (length field) && all_digits field) leads)
 
-  number_read : (digits.end ≡ from → ⊥) → (eqb (length (leading_digits bytes)) 1 || not (eqb (get_or (leading_digits bytes) 0 0) 48)) ≡ true → record { valid = true; value = digits.value; end = digits.end } ≡ field_at from bytes
+  number_read : (digits.end - from ≡ 0 → ⊥) → (eqb (length (leading_digits bytes)) 1 || not (eqb (get_or (leading_digits bytes) 0 0) 48)) ≡ true → Some digits ≡ field_at from bytes
   unfolding field_at is_number leading_digits
   number_read some leads =
       let field = leading is_digit max_digits bytes in
@@ -143,23 +131,22 @@ module _ (from : ℕ) (bytes : List ℕ) (digits : Token) (read : digits ≡ dig
       let few = leading_few is_digit max_digits bytes in
       let size : within 1 max_digits (length field) ≡ true = in_range 1 max_digits (length field) (omega arith) few in
       let number = and_join (and_join size (leading_all is_digit all_digits digits_none digits_more max_digits bytes)) leads in
-      ap₂ (λ v n. record { valid = true; value = v; end = n }) digits_value digits-length
-      ∙ sym (ap (λ t. cond t (record { valid = true; value = value_of field; end = from + length field }) no_field) number)
+      ap Some read ∙ sym (ap (λ t. cond t (Some (digits_at from bytes)) None) number)
 
-  pub one_digit_read : (digits.end ≡ from → ⊥) → digits.end - from ≤ 1 → record { valid = true; value = digits.value; end = digits.end } ≡ field_at from bytes
+  pub one_digit_read : (digits.end - from ≡ 0 → ⊥) → digits.end - from ≤ 1 → Some digits ≡ field_at from bytes
   one_digit_read some l =
       let long = digits-length in
       let few : length (leading_digits bytes) ≤ 1 = omega arith in
       number_read some (one_digit (leading_digits bytes) (at_least some) few)
     where
-      at_least : (digits.end ≡ from → ⊥) → 1 ≤ length (leading_digits bytes)
+      at_least : (digits.end - from ≡ 0 → ⊥) → 1 ≤ length (leading_digits bytes)
       at_least some = let long = digits-length in omega (arith, some)
 
-  pub more_digits_read : (digits.end ≡ from → ⊥) → 1 < digits.end - from → (get_or bytes 0 0 ≡ 48 → ⊥) → record { valid = true; value = digits.value; end = digits.end } ≡ field_at from bytes
+  pub other_first_read : (digits.end - from ≡ 0 → ⊥) → (get_or bytes 0 0 ≡ 48 → ⊥) → Some digits ≡ field_at from bytes
   unfolding leading_digits
-  more_digits_read some l other =
+  other_first_read some other =
       let long = digits-length in
-      number_read some (no_zero_leads (leading is_digit max_digits bytes) (λ e. other (sym (leading_first is_digit max_digits bytes (omega arith)) ∙ e)))
+      number_read some (no_zero_leads (leading is_digit max_digits bytes) (λ e. other (sym (leading_first is_digit max_digits bytes (omega (arith, some))) ∙ e)))
 
 -- the first byte from a place on
 pub first_at : (bytes : List ℕ) (from : ℕ) → get_or (drop from bytes) 0 0 ≡ get_or bytes from 0
@@ -175,31 +162,28 @@ digits_within bytes from digits read l =
     (omega arith, omega arith)
 
 -- what is found at a place says whether its digits are a number, and which
-module _ (from : ℕ) (bytes : List ℕ) (f : Field) (read : f ≡ field_at from bytes) where
-  field : Bool → Field
-  field t = cond t (record { valid = true; value = value_of (leading_digits bytes); end = from + length (leading_digits bytes) }) no_field
-
-  pub field_invalid : f.valid ≡ false → is_number (leading_digits bytes) ≡ false
-  unfolding field_at no_field field
-  field_invalid v = go (is_number (leading_digits bytes)) (sym (ap (λ g. g.valid) read) ∙ v)
+module _ (from : ℕ) (bytes : List ℕ) where
+  pub field_invalid : None ≡ field_at from bytes → is_number (leading_digits bytes) ≡ false
+  unfolding field_at
+  field_invalid read = go (is_number (leading_digits bytes)) read
     where
-      go : (t : Bool) → (field t).valid ≡ false → t ≡ false
-      go true e = absurd (both_ways refl e)
+      go : (t : Bool) → None ≡ cond t (Some (digits_at from bytes)) None → t ≡ false
+      go true e = cc
       go false e = refl
 
-  pub field_valid : f.valid ≡ true → (is_number (leading_digits bytes) ≡ true) × (f.value ≡ value_of (leading_digits bytes)) × (f.end ≡ from + length (leading_digits bytes))
-  unfolding field_at no_field field
-  field_valid v = go (is_number (leading_digits bytes)) (sym (ap (λ g. g.valid) read) ∙ v) (ap (λ g. g.value) read) (ap (λ g. g.end) read)
+  pub field_valid : (f : Token) → Some f ≡ field_at from bytes → (is_number (leading_digits bytes) ≡ true) × (f ≡ digits_at from bytes)
+  unfolding field_at
+  field_valid f read = go (is_number (leading_digits bytes)) read
     where
-      go : (t : Bool) → (field t).valid ≡ true → f.value ≡ (field t).value → f.end ≡ (field t).end → (t ≡ true) × (f.value ≡ value_of (leading_digits bytes)) × (f.end ≡ from + length (leading_digits bytes))
-      go true e p q = (refl, p, q)
-      go false e p q = absurd (both_ways e refl)
+      go : (t : Bool) → Some f ≡ cond t (Some (digits_at from bytes)) None → (t ≡ true) × (f ≡ digits_at from bytes)
+      go true e = (refl, cc)
+      go false e = let z : ⊥ = cc in absurd z
 
 -- all digits of a field are read, or it is no number
-module _ (bytes : List ℕ) (f : Field) (read : f ≡ field_at 0 bytes) where
-  none : (is_number bytes ≡ true → ⊥) → Invalid ≡ numeral bytes
+module _ (bytes : List ℕ) where
+  none : (is_number bytes ≡ true → ⊥) → None ≡ numeral bytes
   unfolding numeral
-  none other = sym (ap (λ t. cond t (Value (value_of bytes)) Invalid) (go (decided (is_number bytes))))
+  none other = sym (ap (λ t. cond t (Some (value_of bytes)) None) (go (decided (is_number bytes))))
     where
       go : (is_number bytes ≡ true) ⊎ (is_number bytes ≡ false) → is_number bytes ≡ false
       go (inl is) = absurd (other is)
@@ -210,16 +194,17 @@ module _ (bytes : List ℕ) (f : Field) (read : f ≡ field_at 0 bytes) where
   unfolding leading_digits
   all_digits_lem is = let both = and_both (leb (length bytes) max_digits) (all_digits bytes) (number_fits bytes is) in all_leading is_digit all_digits digits_none digits_more max_digits bytes (leb-true (length bytes) max_digits both.0) both.1
 
-  pub numeral_invalid : f.valid ≡ false → Invalid ≡ numeral bytes
-  numeral_invalid v = none (λ is. both_ways (ap is_number (all_digits_lem is) ∙ is) (field_invalid 0 bytes f read v))
+  pub numeral_none : None ≡ field_at 0 bytes → None ≡ numeral bytes
+  numeral_none read = none (λ is. both_ways (ap is_number (all_digits_lem is) ∙ is) (field_invalid 0 bytes read))
 
-  pub numeral_part : f.valid ≡ true → f.end < length bytes → Invalid ≡ numeral bytes
-  numeral_part v l = none (λ is. let all = ap length (all_digits_lem is) in let end = (field_valid 0 bytes f read v).2 in omega arith)
+  module _ (f : Token) (read : Some f ≡ field_at 0 bytes) where
+    pub numeral_part : f.end < length bytes → None ≡ numeral bytes
+    numeral_part l = none (λ is. let all = ap length (all_digits_lem is) in let end = digits-length 0 bytes f (field_valid 0 bytes f read).1 in omega arith)
 
-  pub numeral_read : f.valid ≡ true → length bytes ≤ f.end → Value f.value ≡ numeral bytes
-  unfolding numeral leading_digits
-  numeral_read v l =
-      let found = field_valid 0 bytes f read v in
-      let end = found.2 in
-      let all : leading is_digit max_digits bytes ≡ bytes = leading_take is_digit max_digits bytes ∙ take_all (length (leading is_digit max_digits bytes)) bytes (omega arith) in
-      ap Value (found.1 ∙ ap value_of all) ∙ sym (ap (λ t. cond t (Value (value_of bytes)) Invalid) (sym (ap is_number all) ∙ found.0))
+    pub numeral_read : length bytes ≤ f.end → Some f.value ≡ numeral bytes
+    unfolding numeral leading_digits digits_at
+    numeral_read l =
+        let found = field_valid 0 bytes f read in
+        let end = digits-length 0 bytes f found.1 in
+        let all : leading is_digit max_digits bytes ≡ bytes = leading_take is_digit max_digits bytes ∙ take_all (length (leading is_digit max_digits bytes)) bytes (omega arith) in
+        ap (λ d. Some d.value) found.1 ∙ ap (λ ds. Some (value_of ds)) all ∙ sym (ap (λ t. cond t (Some (value_of bytes)) None) (sym (ap is_number all) ∙ found.0))

@@ -5,21 +5,25 @@ use mathlib.Core.Bool.{Bool, true, false, cond, ◌&&◌}
 use mathlib.Core.List.{List, ◌∷◌, map}
 use mathlib.Core.Logic.{◌⊎◌, inl, inr}
 use native.Mathlib.Omega.{arith}
-use borrow.Author.Tests.{eq-eqb, ne_eqb, leb-true, leb-false, le-leb}
+use borrow.Author.Tests.{leb-true, leb-false, le-leb}
 use lib.ListN.{length, get_or, drop}
 use lib.Dec.{leb}
 use Rattle.tariff.specs.Sum.{tabulate}
 use Rattle.tariff.proofs.Lists.{length_tabulate, list_is}
-use Rattle.tariff.proofs.Tests.{decided, both_ways, and_both, and_join}
+use Rattle.tariff.proofs.Tests.{decided, and_both, and_join}
+use Rattle.std.specs.Prelude.{Option, Some, None}
 use Rattle.lines.specs.declared.text.Token.{Token}
+use Rattle.lines.specs.declared.rows.LineKind.{LineKind}
+use Rattle.lines.specs.declared.rows.LineKind.TheVariants.{Unreadable}
 use Rattle.lines.specs.declared.rows.Row.{Row}
 use Rattle.lines.specs.declared.rows.Fields.{Fields}
 use Rattle.lines.specs.Text.{line_feed, lines_of, fields_of, value_of}
 use Rattle.lines.specs.Rows.{max_fields, kind_of, all_numbers, row, unread_row, row_if, row_of_fields}
-use Rattle.lines.specs.Reading.{bytes_before, leading, fields_after, line_text, field_ends, has_line_feed, fields_if, fields_read, no_fields, first_row, first_bytes, next_row, unreadable_line}
+use Rattle.lines.specs.Reading.{bytes_before, leading, fields_after, line_text, field_ends, has_line_feed, fields_if, fields_read, first_row, first_bytes, next_row, unreadable_line}
 use Rattle.lines.specs.Words.{max_letters, is_letter, all_letters, letter_key, key_limit, leading_letters, word_at, is_word, word_key}
 use Rattle.lines.proofs.LineFields.{field_length, first_field, first_length, line_fields, feed_after, up_to_after, feed_found}
 use Rattle.lines.proofs.LeadingLaws.{leading_few, leading_all, leading_field, field_continues}
+use Rattle.lines.proofs.KindLaws.{is_same_kind, other_kind}
 use Rattle.lines.proofs.WordLaws.{letter_inside, letters_none, letters_more, key_small, no_form_lem, no_word}
 use Rattle.lines.proofs.BeginLaws.{line_begins}
 use Rattle.lines.proofs.NextRowLaws.{ended_bytes, ended_row, unended_row}
@@ -29,11 +33,11 @@ values : List (List ℕ) → List ℕ
 values fields = tabulate max_fields (λ k. get_or (map value_of fields) k 0)
 
 -- a row of no kind
-no_kind : (unread : Row) (kind : ℕ) (numbers : List ℕ) → 0 ≡ kind → row_if unread kind numbers ≡ unread
+no_kind : (unread : Row) (kind : LineKind) (numbers : List ℕ) → Unreadable ≡ kind → row_if unread kind numbers ≡ unread
 unfolding row_if
-no_kind unread kind numbers e = ap (λ t. cond t unread (row kind numbers)) (eq-eqb kind 0 (sym e))
+no_kind unread kind numbers e = ap (λ t. cond t unread (row kind numbers)) (is_same_kind kind Unreadable (sym e))
 
-no_row : (unread : Row) (word : List ℕ) (fields : List (List ℕ)) → 0 ≡ kind_of word (length fields) → row_of_fields unread (word ∷ fields) ≡ unread
+no_row : (unread : Row) (word : List ℕ) (fields : List (List ℕ)) → Unreadable ≡ kind_of word (length fields) → row_of_fields unread (word ∷ fields) ≡ unread
 unfolding row_of_fields
 no_row unread word fields e = go (all_numbers fields)
   where
@@ -50,33 +54,34 @@ record Readable (readable : Bool) (fields : List (List ℕ)) (end : ℕ) (f : Fi
   valued : f.numbers ≡ values fields
   ended : f.end ≡ end
 
-module _ (readable : Bool) (fields : List (List ℕ)) (end : ℕ) (f : Fields) (read : f ≡ fields_if readable fields end) where
-  found : Bool → Fields
-  found t = cond t (record { readable = true; count = length fields; numbers = values fields; end = end }) no_fields
+module _ (readable : Bool) (fields : List (List ℕ)) (end : ℕ) where
+  found : Bool → Option Fields
+  found t = cond t (Some (record { count = length fields; numbers = values fields; end = end })) None
 
-  are-readable : f.readable ≡ true → Readable readable fields end f
-  unfolding fields_if no_fields values found
-  are-readable r = go (readable && all_numbers fields && leb (length fields) max_fields) refl read
+  are-readable : (f : Fields) → Some f ≡ fields_if readable fields end → Readable readable fields end f
+  unfolding fields_if values found
+  are-readable f read = go (readable && all_numbers fields && leb (length fields) max_fields) refl read
     where
-      go : (t : Bool) → (readable && all_numbers fields && leb (length fields) max_fields) ≡ t → f ≡ found t → Readable readable fields end f
-      go true e q =
+      go : (t : Bool) → (readable && all_numbers fields && leb (length fields) max_fields) ≡ t → Some f ≡ found t → Readable readable fields end f
+      go true e p =
+          let q : f ≡ record { count = length fields; numbers = values fields; end = end } = cc in
           let both = and_both (readable && all_numbers fields) (leb (length fields) max_fields) e in
           let parts = and_both readable (all_numbers fields) both.0 in
           record { before-feed = parts.0; all-numbers = parts.1; few = leb-true (length fields) max_fields both.1; counted = ap (λ g. g.count) q; valued = ap (λ g. g.numbers) q; ended = ap (λ g. g.end) q }
-      go false e q = absurd (both_ways (sym (ap (λ g. g.readable) q) ∙ r) refl)
+      go false e p = let z : ⊥ = cc in absurd z
 
   -- the fields of a line with an LF are no row's
-  are-unreadable : (unread : Row) (word : List ℕ) → readable ≡ true → f.readable ≡ false → row_of_fields unread (word ∷ fields) ≡ unread
-  unfolding fields_if no_fields row_of_fields values found
-  are-unreadable unread word r u = go (all_numbers fields) (leb (length fields) max_fields) refl (read ∙ ap (λ t. found (t && all_numbers fields && leb (length fields) max_fields)) r)
+  are-unreadable : (unread : Row) (word : List ℕ) → readable ≡ true → None ≡ fields_if readable fields end → row_of_fields unread (word ∷ fields) ≡ unread
+  unfolding fields_if row_of_fields values found
+  are-unreadable unread word r read = go (all_numbers fields) (leb (length fields) max_fields) refl (read ∙ ap (λ t. found (t && all_numbers fields && leb (length fields) max_fields)) r)
     where
-      go : (a b : Bool) → leb (length fields) max_fields ≡ b → f ≡ found (a && b) → cond a (row_if unread (kind_of word (length fields)) (map value_of fields)) unread ≡ unread
+      go : (a b : Bool) → leb (length fields) max_fields ≡ b → None ≡ found (a && b) → cond a (row_if unread (kind_of word (length fields)) (map value_of fields)) unread ≡ unread
       go false b q e = refl
       go true false q e = no_kind unread (kind_of word (length fields)) (map value_of fields) (no_form_lem word (length fields) (leb-false (length fields) max_fields q))
-      go true true q e = absurd (both_ways (ap (λ g. g.readable) e) u)
+      go true true q e = let z : ⊥ = cc in absurd z
 
 -- a line whose word is read, and its fields after that
-module _ (rest : List ℕ) (word : Token) (f : Fields) (spelt : word ≡ word_at rest) (read : f ≡ fields_read word.end (drop word.end rest)) where
+module _ (rest : List ℕ) (word : Token) (spelt : word ≡ word_at rest) where
   -- the line's row, where it cannot be read
   unread : Row
   unread = unread_row (line_text rest)
@@ -90,9 +95,9 @@ module _ (rest : List ℕ) (word : Token) (f : Fields) (spelt : word ≡ word_at
   fields : List (List ℕ)
   fields = fields_after (line_text bytes)
 
-  read-there : f ≡ fields_if (field_ends bytes && has_line_feed bytes) fields (length letters + bytes_before line_feed bytes)
+  read-there : fields_read word.end (drop word.end rest) ≡ fields_if (field_ends bytes && has_line_feed bytes) fields (length letters + bytes_before line_feed bytes)
   unfolding word_at leading_letters fields_read letters bytes fields
-  read-there = read ∙ ap (λ n. fields_read n (drop n rest)) (ap (λ t. t.end) spelt)
+  read-there = ap (λ n. fields_read n (drop n rest)) (ap (λ t. t.end) spelt)
 
   pub key_fits : word.value < key_limit
   key_fits = let small = key_small rest in let same = ap (λ t. t.value) spelt in omega arith
@@ -129,18 +134,18 @@ module _ (rest : List ℕ) (word : Token) (f : Fields) (spelt : word ≡ word_at
   unfolding is_word letters bytes
   continues e = ap (row_of_fields unread) (line_fields rest) ∙ no_row unread (first_field rest) _ (no_word (first_field rest) _ (field_continues is_letter letter_inside all_letters letters_more max_letters rest e))
 
-  pub fields_unread : f.readable ≡ false → unreadable_line rest ≡ next_row rest
+  pub fields_unread : None ≡ fields_read word.end (drop word.end rest) → unreadable_line rest ≡ next_row rest
   unfolding unreadable_line next_row unread
   fields_unread r = ap (λ q. record { row = q; consumed = first_bytes (lines_of rest) }) (sym (go (decided (has_line_feed rest)) (decided (field_ends bytes))))
     where
       go : (has_line_feed rest ≡ true) ⊎ (has_line_feed rest ≡ false) → (field_ends bytes ≡ true) ⊎ (field_ends bytes ≡ false) → first_row (lines_of rest) ≡ unread_row rest
       go (inr none) e = unended_row rest none
       go (inl fd) (inr e) = ended_row rest fd ∙ continues e ∙ line_begins rest
-      go (inl fd) (inl e) = ended_row rest fd ∙ ap (row_of_fields unread) (parted e) ∙ are-unreadable _ fields _ f read-there unread letters (and_join e (sym (fed e) ∙ fd)) r ∙ line_begins rest
+      go (inl fd) (inl e) = ended_row rest fd ∙ ap (row_of_fields unread) (parted e) ∙ are-unreadable _ fields _ unread letters (and_join e (sym (fed e) ∙ fd)) (r ∙ read-there) ∙ line_begins rest
 
-  module _ (r : f.readable ≡ true) where
+  module _ (f : Fields) (read : Some f ≡ fields_read word.end (drop word.end rest)) where
     facts : Readable (field_ends bytes && has_line_feed bytes) fields (length letters + bytes_before line_feed bytes) f
-    facts = are-readable _ fields _ f read-there r
+    facts = are-readable _ fields _ f (read ∙ read-there)
 
     ends : field_ends bytes ≡ true
     ends = (and_both (field_ends bytes) (has_line_feed bytes) facts.before-feed).0
@@ -157,7 +162,7 @@ module _ (rest : List ℕ) (word : Token) (f : Fields) (spelt : word ≡ word_at
     pub end_within : f.end < length rest
     end_within = let within = feed_found rest has in let same = at-feed in omega arith
 
-    module _ (kind : ℕ) (known : (w : List ℕ) → word.value ≡ word_key w → kind ≡ kind_of w f.count) where
+    module _ (kind : LineKind) (known : (w : List ℕ) → word.value ≡ word_key w → kind ≡ kind_of w f.count) where
       first : first_row (lines_of rest) ≡ row_if unread kind (map value_of fields)
       unfolding row_of_fields unread
       first =
@@ -166,7 +171,7 @@ module _ (rest : List ℕ) (word : Token) (f : Fields) (spelt : word ≡ word_at
           ∙ ap (λ t. cond t (row_if unread (kind_of letters (length fields)) (map value_of fields)) unread) facts.all-numbers
           ∙ ap (λ k. row_if unread k (map value_of fields)) (sym (known letters key_of ∙ ap (kind_of letters) facts.counted))
 
-      pub word_unknown : kind ≡ 0 → unreadable_line rest ≡ next_row rest
+      pub word_unknown : kind ≡ Unreadable → unreadable_line rest ≡ next_row rest
       unfolding unreadable_line next_row unread
       word_unknown z = ap (λ q. record { row = q; consumed = first_bytes (lines_of rest) }) (sym (first ∙ no_kind unread kind (map value_of fields) (sym z) ∙ line_begins rest))
 
@@ -175,8 +180,8 @@ module _ (rest : List ℕ) (word : Token) (f : Fields) (spelt : word ≡ word_at
       unfolding values
       each = list_is max_fields (λ k. get_or f.numbers k 0) f.numbers (ap length facts.valued ∙ length_tabulate max_fields _) (λ k l. refl)
 
-      pub row_read : (kind ≡ 0 → ⊥) → record { row = record { kind = kind; fields = tabulate max_fields (λ k. get_or f.numbers k 0) }; consumed = f.end + 1 } ≡ next_row rest
+      pub row_read : (kind ≡ Unreadable → ⊥) → record { row = record { kind = kind; fields = tabulate max_fields (λ k. get_or f.numbers k 0) }; consumed = f.end + 1 } ≡ next_row rest
       unfolding next_row row_if row values
       row_read z =
           ap₂ (λ ns n. record { row = record { kind = kind; fields = ns }; consumed = n }) (sym each ∙ facts.valued) (ended_bytes rest f.end at-feed end_within)
-          ∙ ap (λ q. record { row = q; consumed = first_bytes (lines_of rest) }) (sym (first ∙ ap (λ t. cond t unread (row kind (map value_of fields))) (ne_eqb kind 0 z)))
+          ∙ ap (λ q. record { row = q; consumed = first_bytes (lines_of rest) }) (sym (first ∙ ap (λ t. cond t unread (row kind (map value_of fields))) (other_kind kind Unreadable z)))

@@ -7,13 +7,15 @@ use Rattle.tariff.specs.Sum.{tabulate}
 use Rattle.tariff.specs.Ranges.{within}
 use Rattle.tariff.specs.Settings.{settings_numbers, settings_of, fraction_at, present_settings}
 use Rattle.lines.specs.Text.{bytes_of, to_first_line, lines_of, to_first_field, fields_of, is_digit, all_digits, is_number, value_after, value_of}
-use Rattle.lines.specs.Rows.{unreadable_kind, book_line, set_line, broken_set_line, forms, same_bytes, kind_among, kind_of, all_numbers, row, unreadable_row, begins_set, unread_row, row_if, row_of_fields, row_of, rows_of, field, head_count, set_count, settings_on, set_row, settings_of_rows, book_line_count}
+use Rattle.lines.specs.declared.rows.LineKind.{LineKind}
+use Rattle.lines.specs.declared.rows.LineKind.TheVariants.{Unreadable, Book, Set, BrokenSet}
+use Rattle.lines.specs.Rows.{forms, same_bytes, kind_among, kind_of, all_numbers, row, unreadable_row, begins_set, unread_row, row_if, row_of_fields, row_of, rows_of, field, head_count, set_count, settings_on, set_row, settings_of_rows, book_line_count}
 
 -- a line and its LF
 line : String → List ℕ
 line text = bytes_of text ++ (10 ∷ [])
 
-kinds : List ℕ → List ℕ
+kinds : List ℕ → List LineKind
 kinds script = map (λ r. r.kind) (rows_of script)
 
 -- twelve numbers are read; eleven, thirteen, a field that is no number and a line without an end are not; `set` alone and other words are no set line
@@ -28,13 +30,13 @@ line-kinds :
     ++ line "sets,3,4"
     ++ line " set,3,4"
     ++ bytes_of "set,3,4,2,3,1,200,1,50,1,5,1,2")
-    ≡ set_line ∷ broken_set_line ∷ broken_set_line ∷ broken_set_line ∷ broken_set_line ∷ unreadable_kind ∷ unreadable_kind ∷ unreadable_kind ∷ broken_set_line ∷ []
+    ≡ Set ∷ BrokenSet ∷ BrokenSet ∷ BrokenSet ∷ BrokenSet ∷ Unreadable ∷ Unreadable ∷ Unreadable ∷ BrokenSet ∷ []
 unfolding line kinds bytes_of to_first_line lines_of to_first_field fields_of is_digit all_digits is_number value_after value_of within forms same_bytes kind_among kind_of all_numbers row unreadable_row begins_set unread_row row_if row_of_fields row_of rows_of tabulate
 line-kinds = refl
 
 -- how many lines of the book group stand after a head that counts one holder, and the fractions
 group_of : List ℕ → List ℕ
-group_of script = book_line_count (row book_line (1 ∷ [])) (rows_of script) ∷ settings_numbers (settings_of_rows (row book_line (1 ∷ [])) (rows_of script))
+group_of script = book_line_count (row Book (1 ∷ [])) (rows_of script) ∷ settings_numbers (settings_of_rows (row Book (1 ∷ [])) (rows_of script))
 
 -- a set line directly after the holder's is of the group; the present fractions hold where it cannot be read, where another line stands between, and where the script ends
 line-places :

@@ -6,10 +6,14 @@ use mathlib.Core.List.{List, [], ◌∷◌}
 use native.Mathlib.Nat.{not-suc-le-zero, le_of_suc-le-suc}
 use native.Mathlib.Numerals.{add-one}
 use native.Mathlib.Omega.{arith}
-use borrow.Author.Tests.{eq-eqb, ne_eqb}
-use lib.ListN.{length, get_or, take, drop, drop_of_length-le}
+use borrow.Author.Tests.{ltb-false, ne_eqb}
+use lib.ListN.{length, get_or, take, drop}
 use lib.Seq.{drop-cons}
-use lib.Dec.{eqb}
+use lib.Dec.{eqb, ltb}
+use Rattle.std.specs.Prelude.{Some, None, position}
+use Rattle.std.specs.List.{position_or_len}
+use Rattle.std.specs.Option.{unwrap_or}
+use Rattle.std.proofs.lemmas.List.Recursion.{is_position_or_len}
 use Rattle.lines.specs.Text.{line_feed, Line, ended, unended, to_first_line, lines_of}
 use Rattle.lines.specs.Reading.{bytes_before}
 
@@ -27,24 +31,21 @@ module _ {A : Type 0} (f : List ℕ → A) (bytes : List ℕ) (i : ℕ) (l : i <
   pub at_byte : f (drop i bytes) ≡ f (get_or bytes i 0 ∷ drop (i + 1) bytes)
   at_byte = ap f (drop-cons bytes i 0 l ∙ ap (λ n. get_or bytes i 0 ∷ drop n bytes) (sym (add-one i)))
 
--- i bytes are passed, and none of them is the stop
-abbrev pub Passed : ℕ → List ℕ → ℕ → Type 0
-Passed stop bytes i = bytes_before stop bytes ≡ i + bytes_before stop (drop i bytes)
+-- as std counts them
+before_place : (stop : ℕ) (bytes : List ℕ) → bytes_before stop bytes ≡ position_or_len (λ b. eqb b stop) bytes
+unfolding bytes_before
+before_place stop bytes = is_position_or_len (bytes_before stop) (λ b. eqb b stop) refl (λ b rest. ap (λ n. cond (eqb b stop) 0 n) (let more : suc (bytes_before stop rest) ≡ 1 + bytes_before stop rest = omega arith in more)) bytes
 
-module _ (stop : ℕ) (bytes : List ℕ) (i : ℕ) (passed : Passed stop bytes i) where
-  here : (t : Bool) → i < length bytes → eqb (get_or bytes i 0) stop ≡ t → bytes_before stop (drop i bytes) ≡ cond t 0 (suc (bytes_before stop (drop (i + 1) bytes)))
-  unfolding bytes_before
-  here t l e = at_byte (bytes_before stop) bytes i l ∙ ap (λ t. cond t 0 (suc (bytes_before stop (drop (i + 1) bytes)))) e
-
-  pub stop_found : i < length bytes → get_or bytes i 0 ≡ stop → i ≡ bytes_before stop bytes
-  stop_found l e = let zero_left = here true l (eq-eqb _ _ e) in omega arith
-
-  pub passed_more : i < length bytes → (get_or bytes i 0 ≡ stop → ⊥) → Passed stop bytes (i + 1)
-  passed_more l e = let more = here false l (ne_eqb _ _ e) in omega arith
-
-  pub passed_all : length bytes ≤ i → i ≡ bytes_before stop bytes
-  unfolding bytes_before
-  passed_all l = let none_left = ap (bytes_before stop) (drop_of_length-le bytes l) in omega arith
+pub before_position : (stop : ℕ) (bytes : List ℕ) → unwrap_or (position (λ b. eqb b stop) bytes) (length bytes) ≡ bytes_before stop bytes
+before_position stop bytes = go (ltb (position_or_len (λ b. eqb b stop) bytes) (length bytes)) refl ∙ sym (before_place stop bytes)
+  where
+    go : (t : Bool) → ltb (position_or_len (λ b. eqb b stop) bytes) (length bytes) ≡ t → unwrap_or (cond t (Some (position_or_len (λ b. eqb b stop) bytes)) None) (length bytes) ≡ position_or_len (λ b. eqb b stop) bytes
+    go true e = refl
+    go false e =
+        let past = ltb-false (position_or_len (λ b. eqb b stop) bytes) (length bytes) e in
+        let within = up_to_le stop bytes in
+        let same = before_place stop bytes in
+        omega arith
 
 -- the lines of a script in which an LF stands: the bytes before the first, and the lines after it
 pub line_ended : (rest : List ℕ) → bytes_before line_feed rest < length rest → lines_of rest ≡ ended (take (bytes_before line_feed rest) rest) ∷ lines_of (drop (suc (bytes_before line_feed rest)) rest)

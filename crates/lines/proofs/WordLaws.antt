@@ -2,22 +2,21 @@
 use Prim.Native.Nat.{ℕ, suc, ◌+◌, ◌-◌, ◌*◌, ◌^◌, ◌≤◌, ◌<◌, zero-le}
 use mathlib.Core.Path.{◌≡◌, refl, sym, ap, ap₂, ◌∙◌, subst}
 use mathlib.Core.Bool.{Bool, true, false, cond, ◌&&◌, ◌||◌}
-use mathlib.Core.List.{List, [], ◌∷◌, map, reverse, reverse_aux, reverse-reverse}
+use mathlib.Core.List.{List, [], ◌∷◌, reverse, reverse_aux, reverse-reverse}
 use mathlib.Core.Logic.{◌⊎◌, inl, inr}
 use native.Mathlib.Nat.{zero-add, pow-suc, pow-le-pow_right, zero-lt-suc}
 use native.Mathlib.Numerals.{add-one}
 use native.Mathlib.Omega.{arith}
 use borrow.Author.Tests.{eq-eqb, ne_eqb, eqb-true, leb-true}
-use lib.ListN.{length, get_or, drop, get_or-map}
-use lib.Seq.{drop-cons}
+use lib.ListN.{length, get_or}
 use lib.Dec.{eqb, leb}
-use Rattle.tariff.specs.Sum.{all_below}
 use Rattle.tariff.specs.Ranges.{within}
-use Rattle.tariff.proofs.Tests.{and_both, and_join, and_left_false, and_right_false, all_below_lem, both_ways, decided}
+use Rattle.tariff.proofs.Tests.{and_both, and_join, and_left_false, and_right_false, both_ways, decided}
 use Rattle.lines.specs.Text.{bytes_of, line_feed, comma}
+use Rattle.lines.specs.declared.rows.LineKind.TheVariants.{Unreadable}
 use Rattle.lines.specs.Rows.{max_fields, Form, form, forms, same_bytes, kind_among, kind_of}
 use Rattle.lines.specs.Reading.{reading_limit, leading}
-use Rattle.lines.specs.Words.{max_letters, is_letter, all_letters, key_after, letter_key, key_limit, leading_letters, word_at, is_word, word_key, count_limit, form_number}
+use Rattle.lines.specs.Words.{max_letters, is_letter, all_letters, key_after, letter_key, key_limit, leading_letters, word_at, is_word, word_key, count_limit, form_number, kind_in, kind_numbered}
 use Rattle.lines.proofs.LeadingLaws.{leading_few, leading_all, token_from, ReadTo, none_read, one_more, stops_at_other, stops_at_limit}
 
 letter_range : (b : ℕ) → is_letter b ≡ true → (97 ≤ b) × (b ≤ 122)
@@ -165,78 +164,55 @@ key_test word known fit some = go (decided (same_bytes word known)) (decided (le
     go (inr other) (inl w) = ne_eqb (letter_key known) (key word) (λ e. both_ways (ap (λ z. same_bytes z known) (same_key word known (and_both (leb (length word) max_letters) (all_letters word) w).1 (and_both (leb (length known) max_letters) (all_letters known) fit).1 (sym (e ∙ ap (λ t. cond t (letter_key word) 0) w))) ∙ same_bytes_lem known) other) ∙ sym other
     go (inr other) (inr w) = ne_eqb (letter_key known) (key word) (λ e. let none = e ∙ ap (λ t. cond t (letter_key word) 0) w in omega (arith, none)) ∙ sym other
 
--- how many forms there are
-abbrev pub form_count : ℕ
-form_count = 19
+-- every form has a word of letters and few enough fields
+fits : Form → Bool
+fits (form known fields kind) = (is_word (bytes_of known) && leb 1 (letter_key (bytes_of known))) && leb fields max_fields
 
--- every form has a word of letters and few enough fields, and its kind is its place in the table, counted from 1
-no_form : Form
-no_form = form "" 0 0
+all_fit : List Form → Bool
+all_fit [] = true
+all_fit (f ∷ later) = fits f && all_fit later
 
-fits : ℕ → Form → Bool
-unfolding no_form
-fits k (form known fields kind) = (is_word (bytes_of known) && leb 1 (letter_key (bytes_of known))) && leb fields max_fields && eqb kind (k + 1)
-
-forms_fit : (k : ℕ) → k < form_count → fits k (get_or forms k no_form) ≡ true
-unfolding fits forms no_form is_word all_letters is_letter letter_key key_after bytes_of all_below within
-forms_fit = all_below_lem form_count (λ k. fits k (get_or forms k no_form)) refl
+forms_fit : all_fit forms ≡ true
+unfolding all_fit fits forms is_word all_letters is_letter letter_key key_after bytes_of within
+forms_fit = refl
 
 -- a word and a count of fields are the same where their one number is
-number_test : (known key fields count : ℕ) → fields ≤ max_fields → count ≤ max_fields → eqb (known * count_limit + fields) (key * count_limit + count) ≡ (eqb known key && eqb fields count)
+number_test : (known key fields count : ℕ) → fields ≤ max_fields → count ≤ max_fields → eqb (key * count_limit + count) (known * count_limit + fields) ≡ (eqb known key && eqb fields count)
 number_test known key fields count l m = go (decided (eqb known key)) (decided (eqb fields count))
   where
-    go : (eqb known key ≡ true) ⊎ (eqb known key ≡ false) → (eqb fields count ≡ true) ⊎ (eqb fields count ≡ false) → eqb (known * count_limit + fields) (key * count_limit + count) ≡ (eqb known key && eqb fields count)
-    go (inl p) (inl q) = eq-eqb _ _ (ap₂ (λ k n. k * count_limit + n) (eqb-true known key p) (eqb-true fields count q)) ∙ sym (and_join p q)
-    go (inr p) q = ne_eqb (known * count_limit + fields) (key * count_limit + count) (λ e. both_ways (eq-eqb known key (omega (arith, e))) p) ∙ sym (and_left_false (eqb fields count) p)
-    go (inl p) (inr q) = ne_eqb (known * count_limit + fields) (key * count_limit + count) (λ e. both_ways (eq-eqb fields count (omega (arith, e))) q) ∙ sym (and_right_false (eqb known key) q)
+    go : (eqb known key ≡ true) ⊎ (eqb known key ≡ false) → (eqb fields count ≡ true) ⊎ (eqb fields count ≡ false) → eqb (key * count_limit + count) (known * count_limit + fields) ≡ (eqb known key && eqb fields count)
+    go (inl p) (inl q) = eq-eqb _ _ (sym (ap₂ (λ k n. k * count_limit + n) (eqb-true known key p) (eqb-true fields count q))) ∙ sym (and_join p q)
+    go (inr p) q = ne_eqb (key * count_limit + count) (known * count_limit + fields) (λ e. both_ways (eq-eqb known key (omega (arith, e))) p) ∙ sym (and_left_false (eqb fields count) p)
+    go (inl p) (inr q) = ne_eqb (key * count_limit + count) (known * count_limit + fields) (λ e. both_ways (eq-eqb fields count (omega (arith, e))) q) ∙ sym (and_right_false (eqb known key) q)
 
 -- a line has a form where the numbers say so
-form_test : (word : List ℕ) (count k : ℕ) (f : Form) (later : List Form) → count ≤ max_fields → fits k f ≡ true → kind_among word count (f ∷ later) ≡ cond (eqb (form_number f) (word_key word * count_limit + count)) (k + 1) (kind_among word count later)
-unfolding form_number kind_among fits
-form_test word count k (form known fields kind) later few e =
-    let both = and_both ((is_word (bytes_of known) && leb 1 (letter_key (bytes_of known))) && leb fields max_fields) (eqb kind (k + 1)) e in
-    let parts = and_both (is_word (bytes_of known) && leb 1 (letter_key (bytes_of known))) (leb fields max_fields) both.0 in
+form_test : (word : List ℕ) (count : ℕ) (f : Form) (later : List Form) → count ≤ max_fields → fits f ≡ true → kind_among word count (f ∷ later) ≡ cond (eqb (word_key word * count_limit + count) (form_number f)) (kind_in f) (kind_among word count later)
+unfolding form_number kind_among fits kind_in
+form_test word count (form known fields kind) later few e =
+    let parts = and_both (is_word (bytes_of known) && leb 1 (letter_key (bytes_of known))) (leb fields max_fields) e in
     let letters = and_both (is_word (bytes_of known)) (leb 1 (letter_key (bytes_of known))) parts.0 in
-    ap₂ (λ t n. cond (t && eqb fields count) n (kind_among word count later)) (sym (key_test word (bytes_of known) letters.0 (leb-true 1 (letter_key (bytes_of known)) letters.1))) (eqb-true kind (k + 1) both.1)
-    ∙ ap (λ t. cond t (k + 1) (kind_among word count later)) (sym (number_test (letter_key (bytes_of known)) (word_key word) fields count (leb-true fields max_fields parts.1) few))
+    ap (λ t. cond (t && eqb fields count) kind (kind_among word count later)) (sym (key_test word (bytes_of known) letters.0 (leb-true 1 (letter_key (bytes_of known)) letters.1)))
+    ∙ ap (λ t. cond t kind (kind_among word count later)) (sym (number_test (letter_key (bytes_of known)) (word_key word) fields count (leb-true fields max_fields parts.1) few))
 
--- those before number k are passed
-abbrev pub SoughtTo : List ℕ → ℕ → ℕ → Type 0
-SoughtTo word count k = kind_of word count ≡ kind_among word count (drop k forms)
+among_numbered : (word : List ℕ) (count : ℕ) (known : List Form) → count ≤ max_fields → all_fit known ≡ true → kind_among word count known ≡ kind_numbered (word_key word * count_limit + count) known
+unfolding kind_among kind_numbered all_fit
+among_numbered word count [] few e = refl
+among_numbered word count (f ∷ later) few e =
+    let both = and_both (fits f) (all_fit later) e in
+    form_test word count f later few both.0
+    ∙ ap (λ kind. cond (eqb (word_key word * count_limit + count) (form_number f)) (kind_in f) kind) (among_numbered word count later few both.1)
 
-pub none_sought : (word : List ℕ) (count : ℕ) → SoughtTo word count 0
+-- a line's kind is that of its number
+pub kind_is : (word : List ℕ) (count key : ℕ) → key ≡ word_key word → count ≤ max_fields → kind_numbered (key * count_limit + count) forms ≡ kind_of word count
 unfolding kind_of
-none_sought word count = refl
-
--- one form more: the kind is found, or sought among the later ones
-module _ (word : List ℕ) (count k key : ℕ) (l : k < form_count) (few : count ≤ max_fields) (is : key ≡ word_key word) (so_far : SoughtTo word count k) where
-  opened : kind_of word count ≡ cond (eqb (get_or (map form_number forms) k 0) (key * count_limit + count)) (k + 1) (kind_among word count (drop (suc k) forms))
-  unfolding kind_among forms form_number no_form bytes_of letter_key key_after
-  opened =
-      so_far
-      ∙ ap (kind_among word count) (drop-cons forms k no_form l)
-      ∙ form_test word count k (get_or forms k no_form) (drop (suc k) forms) few (forms_fit k l)
-      ∙ sym (λ i. cond (eqb (get_or-map form_number forms k no_form i) (is i * count_limit + count)) (k + 1) (kind_among word count (drop (suc k) forms)))
-
-  pub form_found : get_or (map form_number forms) k 0 ≡ key * count_limit + count → k + 1 ≡ kind_of word count
-  form_found e = sym (opened ∙ ap (λ t. cond t (k + 1) (kind_among word count (drop (suc k) forms))) (eq-eqb _ _ e))
-
-  pub form_passed : (get_or (map form_number forms) k 0 ≡ key * count_limit + count → ⊥) → SoughtTo word count (k + 1)
-  form_passed e =
-      opened
-      ∙ ap (λ t. cond t (k + 1) (kind_among word count (drop (suc k) forms))) (ne_eqb _ _ e)
-      ∙ ap (λ j. kind_among word count (drop j forms)) (sym (add-one k))
-
-pub all_sought : (word : List ℕ) (count k : ℕ) → k ≤ form_count → form_count ≤ k → SoughtTo word count k → 0 ≡ kind_of word count
-unfolding kind_among forms
-all_sought word count k l m so_far = sym (so_far ∙ ap (λ j. kind_among word count (drop j forms)) (let last : k ≡ form_count = omega arith in last))
+kind_is word count key is few = ap (λ k. kind_numbered (k * count_limit + count) forms) is ∙ sym (among_numbered word count forms few forms_fit)
 
 -- every form has a word, and no more fields than a row
 proper : List Form → Bool
 proper [] = true
 proper (form known fields kind ∷ later) = is_word (bytes_of known) && leb fields max_fields && proper later
 
-none_among : (word : List ℕ) (count : ℕ) (known : List Form) → proper known ≡ true → ((name : List ℕ) (fields : ℕ) → is_word name ≡ true → fields ≤ max_fields → (same_bytes word name && eqb fields count) ≡ false) → kind_among word count known ≡ 0
+none_among : (word : List ℕ) (count : ℕ) (known : List Form) → proper known ≡ true → ((name : List ℕ) (fields : ℕ) → is_word name ≡ true → fields ≤ max_fields → (same_bytes word name && eqb fields count) ≡ false) → kind_among word count known ≡ Unreadable
 unfolding proper kind_among
 none_among word count [] e other = refl
 none_among word count (form name fields kind ∷ later) e other =
@@ -250,12 +226,12 @@ unfolding proper forms is_word all_letters is_letter bytes_of within
 proper_forms = refl
 
 -- no line has more fields than a row
-pub no_form_lem : (word : List ℕ) (count : ℕ) → max_fields < count → 0 ≡ kind_of word count
+pub no_form_lem : (word : List ℕ) (count : ℕ) → max_fields < count → Unreadable ≡ kind_of word count
 unfolding kind_of
 no_form_lem word count l = sym (none_among word count forms proper_forms (λ name fields w few. and_right_false (same_bytes word name) (ne_eqb fields count (λ same. omega (arith, same)))))
 
 -- bytes that are no word begin no line
-pub no_word : (word : List ℕ) (count : ℕ) → is_word word ≡ false → 0 ≡ kind_of word count
+pub no_word : (word : List ℕ) (count : ℕ) → is_word word ≡ false → Unreadable ≡ kind_of word count
 unfolding kind_of
 no_word word count e = sym (none_among word count forms proper_forms (λ name fields w few. and_left_false (eqb fields count) (other name w (decided (same_bytes word name)))))
   where

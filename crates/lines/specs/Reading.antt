@@ -1,10 +1,7 @@
 -- How a script is read, line by line, out of its bytes: where a line or a field ends, and what the next line says (01, Script and host).
-use Rattle.std.specs.Prelude.{ℕ, zero, suc, ◌+◌, ◌-◌, Bool, true, false, cond, ◌&&◌, ◌||◌, List, [], ◌∷◌, map, length, get_or, take, eqb, leb, ltb}
+use Rattle.std.specs.Prelude.{ℕ, zero, suc, ◌+◌, ◌-◌, Bool, true, cond, ◌&&◌, ◌||◌, Option, Some, None, List, [], ◌∷◌, map, length, get_or, take, eqb, leb, ltb}
 use Rattle.tariff.specs.Sum.{tabulate, any_of}
-use Rattle.lines.specs.declared.text.Numeral.{Numeral}
-use Rattle.lines.specs.declared.text.Numeral.TheVariants.{Invalid, Value}
 use Rattle.lines.specs.declared.text.Token.{Token}
-use Rattle.lines.specs.declared.text.Field.{Field}
 use Rattle.lines.specs.declared.rows.Row.{Row}
 use Rattle.lines.specs.declared.rows.Fields.{Fields}
 use Rattle.lines.specs.declared.lines.NextRow.{NextRow}
@@ -26,8 +23,8 @@ abbrev pub chunk_bytes : ℕ
 chunk_bytes = 128
 
 -- what a field writes: a number, or none
-unfoldable pub numeral : List ℕ → Numeral
-numeral field = cond (is_number field) (Value (value_of field)) Invalid
+unfoldable pub numeral : List ℕ → Option ℕ
+numeral field = cond (is_number field) (Some (value_of field)) None
 
 -- where a reading of at most so many bytes from a place on stops: after so many, or with the bytes
 unfoldable pub reading_limit : ℕ → ℕ → ℕ → ℕ
@@ -47,12 +44,9 @@ leading_digits bytes = leading is_digit max_digits bytes
 unfoldable pub digits_at : ℕ → List ℕ → Token
 digits_at from bytes = record { value = value_of (leading_digits bytes); end = from + length (leading_digits bytes) }
 
-unfoldable pub no_field : Field
-no_field = record { valid = false; value = 0; end = 0 }
-
 -- the number at a place, if its digits are one
-unfoldable pub field_at : ℕ → List ℕ → Field
-field_at from bytes = cond (is_number (leading_digits bytes)) (record { valid = true; value = value_of (leading_digits bytes); end = from + length (leading_digits bytes) }) no_field
+unfoldable pub field_at : ℕ → List ℕ → Option Token
+field_at from bytes = cond (is_number (leading_digits bytes)) (Some (digits_at from bytes)) None
 
 -- the fields of what stands after a line's word: nothing, or a comma and fields
 unfoldable pub fields_after : List ℕ → List (List ℕ)
@@ -71,18 +65,15 @@ field_ends (b ∷ bytes) = eqb b comma || eqb b line_feed
 unfoldable pub has_line_feed : List ℕ → Bool
 has_line_feed bytes = any_of bytes (λ b. eqb b line_feed)
 
-unfoldable pub no_fields : Fields
-no_fields = record { readable = false; count = 0; numbers = tabulate max_fields (λ k. 0); end = 0 }
-
 -- fields, if each of them is a number and a row has room for them: how many, their values, 0 past the last, and where their line ends
-unfoldable pub fields_if : Bool → List (List ℕ) → ℕ → Fields
+unfoldable pub fields_if : Bool → List (List ℕ) → ℕ → Option Fields
 fields_if readable fields end =
     cond (readable && all_numbers fields && leb (length fields) max_fields)
-    (record { readable = true; count = length fields; numbers = tabulate max_fields (λ k. get_or (map value_of fields) k 0); end = end })
-    no_fields
+    (Some (record { count = length fields; numbers = tabulate max_fields (λ k. get_or (map value_of fields) k 0); end = end }))
+    None
 
 -- the fields from a place on, where a word has ended, if an LF ends their line
-unfoldable pub fields_read : ℕ → List ℕ → Fields
+unfoldable pub fields_read : ℕ → List ℕ → Option Fields
 fields_read start bytes = fields_if (field_ends bytes && has_line_feed bytes) (fields_after (line_text bytes)) (start + bytes_before line_feed bytes)
 
 -- the row of the first line; where there is none, that of a line that cannot be read

@@ -1,8 +1,10 @@
 -- Words as numbers, by which they are looked for: every word of a line has at most eight letters from a to z.
-use Rattle.std.specs.Prelude.{ℕ, ◌+◌, ◌-◌, ◌*◌, Bool, true, cond, ◌&&◌, List, [], ◌∷◌, length, leb}
+use Rattle.std.specs.Prelude.{ℕ, ◌+◌, ◌-◌, ◌*◌, Bool, true, cond, ◌&&◌, List, [], ◌∷◌, length, eqb, leb}
 use Rattle.tariff.specs.Ranges.{within}
 use Rattle.lines.specs.Text.{bytes_of}
 use Rattle.lines.specs.declared.text.Token.{Token}
+use Rattle.lines.specs.declared.rows.LineKind.{LineKind}
+use Rattle.lines.specs.declared.rows.LineKind.TheVariants.{Unreadable}
 use Rattle.lines.specs.Rows.{Form, form}
 use Rattle.lines.specs.Reading.{leading}
 
@@ -53,3 +55,11 @@ count_limit = 16
 -- what the table has of a form: the number of its word and its count of fields as one
 unfoldable pub form_number : Form → ℕ
 form_number (form known fields kind) = letter_key (bytes_of known) * count_limit + fields
+
+unfoldable pub kind_in : Form → LineKind
+kind_in (form known fields kind) = kind
+
+-- the kind of the form that has this number
+unfoldable pub kind_numbered : ℕ → List Form → LineKind
+kind_numbered n [] = Unreadable
+kind_numbered n (f ∷ later) = cond (eqb n (form_number f)) (kind_in f) (kind_numbered n later)

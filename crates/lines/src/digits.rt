@@ -6,6 +6,7 @@ ghost use Rattle.lines.specs.Writing.{written_at};
 use crate::output::write_bytes;
 
 // The byte of a digit.
+#[tactic(auto, unfolding(crate::specs::Text::digit))]
 pub fn digit_byte(d: u64) -> u8
     requires { d < 10 }
     ensures { result ≡ digit d }

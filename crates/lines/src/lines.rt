@@ -2,7 +2,7 @@
 ghost use Rattle.std.specs.Prelude.{◌≡◌};
 ghost use Rattle.lines.specs.Reading.{next_row, unreadable_line};
 
-use crate::rows::{Row, UNREADABLE_KIND, read_fields, unread_row};
+use crate::rows::{LineKind, Row, read_fields, unread_row};
 use crate::text::line_length;
 use crate::words::{kind_of, read_word};
 
@@ -36,12 +36,11 @@ pub fn next_row(rest: &[u8]) -> NextRow
     ensures { result ≡ next_row rest.now }
 {
     let word = read_word(rest);
-    let fields = read_fields(rest, word.end);
-    if !fields.readable {
+    let Some(fields) = read_fields(rest, word.end) else {
         return unreadable_line(rest);
-    }
+    };
     let kind = kind_of(word.value, fields.count);
-    if kind == UNREADABLE_KIND {
+    if kind == LineKind::Unreadable {
         return unreadable_line(rest);
     }
     // Number by number, out of registers: a copy of the whole array would wait for the numbers that were just stored in it.

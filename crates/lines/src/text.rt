@@ -1,7 +1,7 @@
 // The bytes of a script: where a line or a field ends, how many lines there are, and the number that a field writes (01, Script and host).
 ghost use Rattle.std.specs.Prelude.{◌≡◌, ◌≤◌, length, drop};
 ghost use Rattle.lines.specs.Text.{line_feed, lines_of};
-ghost use Rattle.lines.specs.Reading.{chunk_bytes, line_feeds_in, bytes_before, numeral, reading_limit, digits_at, field_at, no_field};
+ghost use Rattle.lines.specs.Reading.{chunk_bytes, line_feeds_in, bytes_before, numeral, reading_limit, digits_at, field_at};
 
 // The most bytes that a run takes.
 pub const MAX_BYTES: usize = 65536;
@@ -20,24 +20,9 @@ pub const LINE_FEED: u8 = 10;
 // The bytes whose LFs are counted together: few enough for a count of one byte.
 const CHUNK_BYTES: usize = 128;
 
-// What a field writes: a number, or none.
-#[derive(Clone, Copy)]
-pub enum Numeral {
-    Invalid,
-    Value(u64),
-}
-
 // Letters or digits that stand at a place: the number that they write, and where they end.
 #[derive(Clone, Copy)]
 pub struct Token {
-    pub value: u64,
-    pub end: usize,
-}
-
-// A number that stands at a place: whether there is one, its value, and where it ends.
-#[derive(Clone, Copy)]
-pub struct Field {
-    pub valid: bool,
     pub value: u64,
     pub end: usize,
 }
@@ -46,14 +31,9 @@ pub struct Field {
 pub fn bytes_before(rest: &[u8], stop: u8) -> usize
     ensures { result ≡ bytes_before stop rest.now }
 {
-    let mut i = 0;
-    while i < rest.len() {
-        if rest[i] == stop {
-            return i;
-        }
-        i += 1;
-    }
-    i
+    rest.iter()
+        .position(|&byte| byte == stop)
+        .unwrap_or(rest.len())
 }
 
 // How many bytes stand before the first LF.
@@ -69,12 +49,10 @@ fn line_feeds_in(chunk: &[u8]) -> u8
     ensures { result ≡ line_feeds_in chunk.now }
 {
     let mut feeds: u8 = 0;
-    let mut i = 0;
-    while i < chunk.len() {
-        if chunk[i] == LINE_FEED {
+    for &byte in chunk {
+        if byte == LINE_FEED {
             feeds += 1;
         }
-        i += 1;
     }
     feeds
 }
@@ -84,12 +62,12 @@ fn count_line_feeds(script: &[u8]) -> u64
     ensures { result ≡ line_feeds_in script.now }
 {
     let mut feeds: u64 = 0;
-    let mut i = 0;
-    while CHUNK_BYTES <= script.len() - i {
-        feeds += line_feeds_in(&script[i..i + CHUNK_BYTES]) as u64;
-        i += CHUNK_BYTES;
+    let mut rest = script;
+    while let Some((chunk, after)) = rest.split_first_chunk::<CHUNK_BYTES>() {
+        feeds += line_feeds_in(chunk) as u64;
+        rest = after;
     }
-    feeds + line_feeds_in(&script[i..]) as u64
+    feeds + line_feeds_in(rest) as u64
 }
 
 // How many lines a script has: one to each LF, and one more if bytes follow the last LF.
@@ -108,14 +86,12 @@ pub fn count_lines(script: &[u8]) -> u64
 }
 
 // Where a reading of at most so many bytes from a place on stops.
+#[tactic(auto, unfolding(crate::specs::Reading::reading_limit))]
 pub fn reading_limit(length: usize, from: usize, most: usize) -> usize
     requires { from ≤ length }
     ensures { result ≡ reading_limit length from most }
 {
-    if most < length - from {
-        return from + most;
-    }
-    length
+    from + most.min(length - from)
 }
 
 // The digits from a place on, at most 9: so no value of more is worked out.
@@ -125,63 +101,40 @@ fn read_digits(bytes: &[u8], from: usize) -> Token
 {
     let limit = reading_limit(bytes.len(), from, MAX_DIGITS);
     let mut value: u64 = 0;
-    let mut i = from;
-    while i < limit {
+    for i in from..limit {
         let byte = bytes[i];
-        if byte < b'0' {
-            return Token { value, end: i };
-        }
-        if b'9' < byte {
+        if !byte.is_ascii_digit() {
             return Token { value, end: i };
         }
         value = value * 10 + (byte - b'0') as u64;
-        i += 1;
     }
-    Token { value, end: i }
+    Token { value, end: limit }
 }
 
-fn no_field() -> Field
-    ensures { result ≡ no_field }
-{
-    Field {
-        valid: false,
-        value: 0,
-        end: 0,
-    }
-}
-
-// The number whose digits start at a place: 1 to 9 of them, and no leading zero but 0 itself.
-pub fn read_field(bytes: &[u8], from: usize) -> Field
+// The number whose digits start at a place, if they are one: 1 to 9 of them, and no leading zero but 0 itself.
+pub fn read_field(bytes: &[u8], from: usize) -> Option<Token>
     requires { from ≤ length bytes.now }
     ensures { result ≡ field_at from (drop from bytes.now) }
 {
     let digits = read_digits(bytes, from);
-    let end = digits.end;
-    if end == from {
-        return no_field();
+    let length = digits.end - from;
+    if length == 0 {
+        return None;
     }
-    if 1 < end - from {
-        if bytes[from] == b'0' {
-            return no_field();
-        }
+    let zero_leads = bytes[from] == b'0';
+    if zero_leads && 1 < length {
+        return None;
     }
-    Field {
-        valid: true,
-        value: digits.value,
-        end,
-    }
+    Some(digits)
 }
 
-// The number that the bytes of a field write.
-pub fn read_number(field: &[u8]) -> Numeral
+// The number that the bytes of a field write, if they are one.
+pub fn read_number(field: &[u8]) -> Option<u64>
     ensures { result ≡ numeral field.now }
 {
-    let number = read_field(field, 0);
-    if !number.valid {
-        return Numeral::Invalid;
-    }
+    let number = read_field(field, 0)?;
     if number.end < field.len() {
-        return Numeral::Invalid;
+        return None;
     }
-    Numeral::Value(number.value)
+    Some(number.value)
 }

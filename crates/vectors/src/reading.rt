@@ -1,7 +1,7 @@
 // Lines and numbers of the vectors' format.
 ghost use Rattle.std.specs.Prelude.{◌≤◌, ◌<◌, length};
 
-use lines::text::{Numeral, line_length, read_number};
+use lines::text::{line_length, read_number};
 
 // What a line says to the program.
 #[derive(Clone, Copy)]
@@ -73,10 +73,7 @@ pub fn next_vector(text: &[u8], start: usize) -> usize
 
 // The number that a field writes, as in a script; 0 where it writes none.
 pub fn number_of(field: &[u8]) -> usize {
-    match read_number(field) {
-        Numeral::Invalid => 0,
-        Numeral::Value(value) => value as usize,
-    }
+    read_number(field).map_or(0, |number| number as usize)
 }
 
 // The number that stands from a place to the end of its line; 0 where none does.

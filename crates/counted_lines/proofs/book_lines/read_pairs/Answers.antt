@@ -1,5 +1,7 @@
 -- `counted_lines::book_lines::read_pairs` meets its contract: so far it has read the first k of the lines. Assumes nothing.
 use borrow.Author.Rules.{rules}
+use mathlib.Core.Path.{◌∙◌}
+use Rattle.lines.proofs.KindLaws.{kinds_compared}
 use Rattle.counted_lines.proofs.PairLaws.{no_pairs, pair_within, one_pair_more, pairs_cut, all_pairs}
 use Rattle.counted_lines.proofs.book_lines.read_pairs.Goals as goal
 
@@ -15,7 +17,8 @@ overflow_add-consumed c =
     search rules
 
 pub loop-k-preserved : goal.loop-k-preserved
-loop-k-preserved c = one_pair_more _ _ _ _ _ _ _ _ c.loop-k.invariant c.if-rest-consumed.false _ c.next_row-next.ensures c.loop-k-test.true _ _ c.place-next_firsts.ensures c.place-next_seconds.ensures
+loop-k-preserved c =
+    rw (c.eq-complete.ensures ∙ kinds_compared c.next_row-next.result.row.kind c.args.kind) (one_pair_more _ _ _ _ _ _ _ _ c.loop-k.invariant c.if-rest-consumed.false _ c.next_row-next.ensures c.loop-k-test.true _ _ c.place-next_firsts.ensures c.place-next_seconds.ensures)
 
 pub returns : goal.returns
 returns c = all_pairs _ _ _ _ _ _ _ _ c.loop-k.invariant c.loop-k-test.false

@@ -5,6 +5,7 @@ use borrow.Author.Rules.{rules}
 use Rattle.counted_lines.specs.Counted.{with_lines}
 use Rattle.counted_lines.proofs.CountedLaws.{none_read, turn, turn_kept, turn_within, rows_cut, rows_read, cut_short, all_read}
 use Rattle.counted_lines.proofs.KeptLines.{none_kept}
+use Rattle.lines.proofs.KindLaws.{kinds_compared}
 use Rattle.counted_lines.proofs.counted.read_counted.Goals as goal
 
 pub loop-k-init : goal.loop-k-init
@@ -28,7 +29,7 @@ loop-k-preserved g c =
     let some = c.if-rest-consumed.false in
     let read = c.next_row-next.ensures in
     let counts = c.loop-k-test.true in
-    (turn _ _ _ _ _ _ inv.0 some _ read counts, turn_kept _ _ _ _ _ _ inv.0 some _ read _ _ _ _ _ c.from_row.ensures inv.1 c.keep.ensures)
+    (rw (c.eq-complete.ensures ∙ kinds_compared c.next_row-next.result.row.kind c.args.kind) (turn _ _ _ _ _ _ inv.0 some _ read counts), turn_kept _ _ _ _ _ _ inv.0 some _ read _ _ _ _ _ c.from_row.ensures inv.1 c.keep.ensures)
 
 pub returns : goal.returns
 returns g c =

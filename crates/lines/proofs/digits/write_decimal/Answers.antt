@@ -22,21 +22,6 @@ loop-rest-init c =
     let twenty-digits : c.args.v < 100000000000000000000 = omega (arith, c.ranges.v.fits) in
     (omega arith, refl, twenty-digits, append-nil (digits_of 20 c.args.v))
 
-pub digit_byte-requires : goal.digit_byte-requires
-digit_byte-requires c = omega arith
-
-pub bounds-digits-first : goal.bounds-digits-first
-bounds-digits-first c = omega arith
-
-pub overflow_sub-first : goal.overflow_sub-first
-overflow_sub-first c = let loop = c.loop-rest in (place_left loop.first loop.rest loop.invariant.2 (omega arith)).0
-
-pub loop-rest-smaller : goal.loop-rest-smaller
-loop-rest-smaller c =
-    let loop = c.loop-rest in
-    let low = (place_left loop.first loop.rest loop.invariant.2 (omega arith)).0 in
-    omega arith
-
 pub loop-rest-preserved : goal.loop-rest-preserved
 loop-rest-preserved c =
     let loop = c.loop-rest in
@@ -46,21 +31,6 @@ loop-rest-preserved c =
       left.1,
       digit_found loop.digits loop.first loop.rest c.digit_byte.result left.0 (omega arith) (omega arith) c.digit_byte.ensures ∙ loop.invariant.3,
     )
-
-pub digit_byte-requires-2 : goal.digit_byte-requires-2
-digit_byte-requires-2 c = omega arith
-
-pub bounds-digits-first-2 : goal.bounds-digits-first-2
-bounds-digits-first-2 c = omega arith
-
-pub slice_bounds-write_bytes-count : goal.slice_bounds-write_bytes-count
-slice_bounds-write_bytes-count c = omega arith
-
-pub slice_bounds-write_bytes-end : goal.slice_bounds-write_bytes-end
-slice_bounds-write_bytes-end c =
-    let loop = c.loop-rest in
-    let all : 20 ≤ length (set loop.digits loop.first c.digit_byte-2.result) = simp length-set (omega arith) in
-    all
 
 pub write_bytes-requires : goal.write_bytes-requires
 write_bytes-requires c =

@@ -1,17 +1,19 @@
--- `lines::text::bytes_before` meets its contract: none of the bytes passed so far is the stop. Assumes nothing.
-use Prim.Native.Nat.{zero-le}
-use native.Mathlib.Omega.{arith}
-use Rattle.lines.proofs.TextLaws.{stop_found, passed_more, passed_all}
+-- `lines::text::bytes_before` meets its contract. Assumes nothing.
+use mathlib.Core.Path.{◌≡◌, ap, ◌∙◌}
+use lib.Dec.{eqb}
+use lib.ListN.{length}
+use Rattle.std.proofs.Common.{rules, tests}
+use Rattle.std.proofs.lemmas.Iterator.{YieldsList-from_slice}
+use Rattle.std.proofs.lemmas.Iterator.Search.{position_from_yields_List}
+use Rattle.std.specs.Prelude.{position}
+use Rattle.std.specs.Option.{unwrap_or}
+use Rattle.lines.proofs.TextLaws.{before_position}
 use Rattle.lines.proofs.text.bytes_before.Goals as goal
 
-pub loop-i-init : goal.loop-i-init
-loop-i-init c = (zero-le, omega arith)
-
-pub returns-then-rest-i : goal.returns-then-rest-i
-returns-then-rest-i c = stop_found _ _ _ c.loop-i.invariant.1 c.loop-i-test.true c.if-rest-i.true
-
-pub loop-i-preserved : goal.loop-i-preserved
-loop-i-preserved c = (omega arith, passed_more _ _ _ c.loop-i.invariant.1 c.loop-i-test.true c.if-rest-i.false)
-
 pub returns : goal.returns
-returns c = passed_all _ _ _ c.loop-i.invariant.1 c.loop-i-test.false
+returns c =
+    let rest = c.args.rest.now in
+    let found : c.position.result ≡ position (λ b. eqb b c.args.stop) rest =
+    position_from_yields_List (λ b. eqb b c.args.stop) _ _ c.position.result c.position.ensures.ran (YieldsList-from_slice rest c.iter.ensures.rest) (λ x b q k. search (rules, tests))
+    in
+    c.unwrap_or.ensures ∙ ap (λ place. unwrap_or place (length rest)) found ∙ before_position c.args.stop rest

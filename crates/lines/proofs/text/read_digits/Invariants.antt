@@ -6,7 +6,4 @@ use Rattle.lines.proofs.NumberLaws.{DigitsTo}
 use Rattle.lines.proofs.text.read_digits.Given as goal
 
 abbrev pub invariant-loop-i : goal.invariant-loop-i
-invariant-loop-i l = (l.from ≤ l.i) × (l.i ≤ l.limit) × (l.limit ≤ length l.bytes) × (l.limit ≤ l.from + max_digits) × (l.value < 10 ^ (l.i - l.from)) × DigitsTo l.bytes l.from l.i l.value
-
-abbrev pub decreases-loop-i : goal.decreases-loop-i
-decreases-loop-i l = l.limit - l.i
+invariant-loop-i l = (l.i ≤ l.limit) × (l.limit ≤ length l.bytes) × (l.limit ≤ l.from + max_digits) × (l.value < 10 ^ (l.i - l.from)) × DigitsTo l.bytes l.from l.i l.value

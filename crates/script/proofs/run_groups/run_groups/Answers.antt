@@ -1,5 +1,4 @@
 -- `script::run_groups::run_groups` meets its contract: so far it has answered the groups up to a place. Assumes nothing.
-use Prim.Native.Nat.{◌-◌}
 use mathlib.Core.Path.{sym}
 use native.Mathlib.Omega.{arith}
 use borrow.Author.Rules.{rules}
