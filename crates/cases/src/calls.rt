@@ -7,10 +7,11 @@ ghost use Rattle.book.specs.Reachable.{Reachable};
 use crate::write::answer;
 use book::book::{Book, Outcome};
 use book::opened::open_book;
+use load_metric::block::Block;
 use netting::netting::ClassLine;
 use source_evidence::filing::Filing;
 use std::io;
-use tariff::settings::present_settings;
+use tariff::settings::Settings;
 
 // The answer written, and the next book.
 fn write_outcome(rt: &impl Print, outcome: Outcome) -> io::Result<Book>
@@ -48,7 +49,7 @@ pub fn open(
             &sink_parents,
             path_sources,
             path_sinks,
-            present_settings(),
+            Settings::present(),
         ),
     )
 }
@@ -61,14 +62,12 @@ pub fn load(
     term: u64,
     contract: u64,
     n: u64,
-    firsts: &[u64],
-    hours: &[u64],
-    kws: &[u64],
+    blocks: &[Block],
 ) -> io::Result<Book>
     requires { Reachable b }
     ensures { IfOk result Reachable }
 {
-    write_outcome(rt, b.load(h, s, term, contract, n, firsts, hours, kws))
+    write_outcome(rt, b.load(h, s, term, contract, n, blocks))
 }
 
 pub fn carry(rt: &impl Print, b: Book, h: u64, p: u64, kw: u64) -> io::Result<Book>

@@ -8,6 +8,7 @@ use crate::calls::{
 };
 use crate::write::case;
 use book::book::Book;
+use load_metric::block::Block;
 use netting::netting::ClassLine;
 use source_evidence::filing::Filing;
 use std::io;
@@ -28,15 +29,18 @@ fn with_path(rt: &impl Print, kinds: &[u64], sink_kind: u64) -> io::Result<Book>
     open(rt, kinds, sink_kind, &zero, &zero)
 }
 
+// Hours from one on with one load.
+fn block(first: u64, hours: u64, kw: u64) -> Block {
+    Block { first, hours, kw }
+}
+
 // A load of kw in each of 100 hours, at sink 0.
 fn steady_load(rt: &impl Print, b: Book, h: u64, term: u64, kw: u64) -> io::Result<Book>
     requires { Reachable b }
     ensures { IfOk result Reachable }
 {
-    let firsts = [0u64];
-    let hours = [100u64];
-    let kws = [kw];
-    load(rt, b, h, 0, term, 0, 100, &firsts, &hours, &kws)
+    let blocks = [block(0, 100, kw)];
+    load(rt, b, h, 0, term, 0, 100, &blocks)
 }
 
 // A tier that opens and closes with nothing nominated.
@@ -67,10 +71,8 @@ fn first_tier_1(rt: &impl Print) -> io::Result<Book>
     let sources = [0u64, 1];
     let sinks = [0u64; 2];
     let b = open(rt, &kinds, 1, &sources, &sinks)?;
-    let firsts = [0u64, 398];
-    let hours = [398u64, 2];
-    let kws = [1000u64, 5000];
-    let b = load(rt, b, 0, 0, 0, 0, 400, &firsts, &hours, &kws)?;
+    let blocks = [block(0, 398, 1000), block(398, 2, 5000)];
+    let b = load(rt, b, 0, 0, 0, 0, 400, &blocks)?;
     let b = carry(rt, b, 0, 0, 100)?;
     let b = prior(rt, b, 0, 1, 300, 20)?;
     open_tier(rt, b, 1)
@@ -101,11 +103,9 @@ pub fn case_1(rt: &impl Print) -> io::Result<()> {
 pub fn case_2(rt: &impl Print) -> io::Result<()> {
     case(rt, 2)?;
     let kinds = [1u64];
-    let firsts = [0u64, 397];
-    let hours = [397u64, 3];
-    let kws = [1000u64, 5000];
+    let blocks = [block(0, 397, 1000), block(397, 3, 5000)];
     let b = without_paths(rt, &kinds)?;
-    let b = load(rt, b, 0, 0, 1, 0, 400, &firsts, &hours, &kws)?;
+    let b = load(rt, b, 0, 0, 1, 0, 400, &blocks)?;
     let b = pass_tier(rt, b, 1)?;
     let b = pass_tier(rt, b, 2)?;
     let b = pass_tier(rt, b, 3)?;
@@ -117,13 +117,11 @@ pub fn case_2(rt: &impl Print) -> io::Result<()> {
 pub fn case_3(rt: &impl Print) -> io::Result<()> {
     case(rt, 3)?;
     let kinds = [1u64, 1];
-    let firsts = [0u64];
-    let two_missing = [98u64];
-    let three_missing = [97u64];
-    let kws = [1000u64];
+    let two_missing = [block(0, 98, 1000)];
+    let three_missing = [block(0, 97, 1000)];
     let b = without_paths(rt, &kinds)?;
-    let b = load(rt, b, 0, 0, 0, 0, 100, &firsts, &two_missing, &kws)?;
-    let b = load(rt, b, 1, 0, 0, 0, 100, &firsts, &three_missing, &kws)?;
+    let b = load(rt, b, 0, 0, 0, 0, 100, &two_missing)?;
+    let b = load(rt, b, 1, 0, 0, 0, 100, &three_missing)?;
     Ok(())
 }
 
@@ -131,11 +129,9 @@ pub fn case_3(rt: &impl Print) -> io::Result<()> {
 pub fn case_4(rt: &impl Print) -> io::Result<()> {
     case(rt, 4)?;
     let kinds = [1u64];
-    let firsts = [0u64];
-    let hours = [100u64];
-    let kws = [1000u64];
+    let blocks = [block(0, 100, 1000)];
     let b = without_paths(rt, &kinds)?;
-    let b = load(rt, b, 0, 0, 1, 1200, 100, &firsts, &hours, &kws)?;
+    let b = load(rt, b, 0, 0, 1, 1200, 100, &blocks)?;
     let b = pass_tier(rt, b, 1)?;
     let b = pass_tier(rt, b, 2)?;
     let b = pass_tier(rt, b, 3)?;

@@ -72,7 +72,8 @@ fn read_pairs(rest: &[u8], kind: LineKind, count: u64) -> Pairs
         let next = next_row(&rest[consumed..]);
         let row = next.row;
         let fields = row.fields;
-        complete = complete & (row.kind == kind);
+        let same = row.kind == kind;
+        complete = complete & same;
         let next_firsts = place(firsts, k, fields[0]);
         let next_seconds = place(seconds, k, fields[1]);
         firsts = next_firsts;

@@ -1,5 +1,5 @@
 -- Two kinds of lines are compared by their numbers. Assumes nothing.
-use mathlib.Core.Path.{◌≡◌, refl, ap, ap₂, ◌∙◌}
+use mathlib.Core.Path.{◌≡◌, refl, ap, ap₂}
 use mathlib.Core.Bool.{Bool, true, false}
 use borrow.Author.Tests.{eq-eqb}
 use denote.Enum.Bare.{sameb, same_true}

@@ -1,4 +1,4 @@
--- Laws of words: letters as a number, two words with the same number, and a word sought in the table of forms. Assumes nothing.
+-- Laws of words: letters as a number, two words with the same number, and the kind of a form's number. Assumes nothing.
 use Prim.Native.Nat.{ℕ, suc, ◌+◌, ◌-◌, ◌*◌, ◌^◌, ◌≤◌, ◌<◌, zero-le}
 use mathlib.Core.Path.{◌≡◌, refl, sym, ap, ap₂, ◌∙◌, subst}
 use mathlib.Core.Bool.{Bool, true, false, cond, ◌&&◌, ◌||◌}

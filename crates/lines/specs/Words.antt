@@ -52,7 +52,7 @@ word_key word = cond (is_word word) (letter_key word) 0
 abbrev pub count_limit : ℕ
 count_limit = 16
 
--- what the table has of a form: the number of its word and its count of fields as one
+-- a form as one number: its word's and its count of fields
 unfoldable pub form_number : Form → ℕ
 form_number (form known fields kind) = letter_key (bytes_of known) * count_limit + fields
 

@@ -13,14 +13,14 @@ use records::kinds::OBAALSE;
 use records::setup::{holder_kind, unknown_holder};
 
 // A line that names a holder who is not in the book.
-pub fn names_unknown(o: &[u64], from: u64, to: u64) -> bool
+pub(crate) fn names_unknown(o: &[u64], from: u64, to: u64) -> bool
     ensures { result ≡ (unknown_holder (opening_of o.entry) from || unknown_holder (opening_of o.entry) to) }
 {
     unknown_holder(o, from) || unknown_holder(o, to)
 }
 
 // Whether some line names a holder who is not in the book.
-pub fn any_unknown(o: &[u64], columns: ClassColumns) -> bool
+pub(crate) fn any_unknown(o: &[u64], columns: ClassColumns) -> bool
     requires { SameLengthsIn columns }
     ensures { result ≡ unknown_holder_in (opening_of o.entry) (lines_in columns.entry) }
 {
@@ -28,7 +28,7 @@ pub fn any_unknown(o: &[u64], columns: ClassColumns) -> bool
 }
 
 // Whether some line has a field outside its range.
-pub fn any_out_of_range(columns: ClassColumns) -> bool
+pub(crate) fn any_out_of_range(columns: ClassColumns) -> bool
     requires { SameLengthsIn columns }
     ensures { result ≡ any_of (lines_in columns.entry) class_line_out_of_range }
 {
@@ -43,7 +43,7 @@ fn not_between_lses(o: &[u64], from: u64, to: u64) -> bool
 }
 
 // Whether some line is not between two different LSEs.
-pub fn any_not_between_lses(o: &[u64], columns: ClassColumns) -> bool
+pub(crate) fn any_not_between_lses(o: &[u64], columns: ClassColumns) -> bool
     requires { SameLengthsIn columns }
     ensures { result ≡ any_of (lines_in columns.entry) (line_not_between_lses (opening_of o.entry)) }
 {

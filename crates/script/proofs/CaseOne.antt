@@ -11,7 +11,8 @@ use Rattle.ledger.specs.Marked.{up_to, one_sink, block, opening1, requests1, res
 use Rattle.ledger.proofs.Marked.{marked_cases_lem}
 use Rattle.lines.specs.Text.{bytes_of, to_first_line, lines_of, to_first_field, fields_of, is_digit, all_digits, is_number, value_after, value_of, digit, digits_of, decimal}
 use Rattle.lines.specs.Rows.{forms, same_bytes, kind_among, kind_of, all_numbers, row, row_if, row_of_fields, row_of, rows_of, field, all_of_kind, counted, holder_rows, sink_rows, path_rows, begins_set, unread_row, head_count, set_count, not_broken, settings_on, set_row, set_readable, settings_of_rows, book_line_count}
-use Rattle.groups.specs.Groups.{request, block_of, lookup, lines_counted, when_complete, request_of, groups_from, groups_of, book_readable, opening_of_rows, call_rows}
+use Rattle.counted_lines.specs.Counted.{block_of}
+use Rattle.groups.specs.Groups.{request, lookup, lines_counted, when_complete, request_of, groups_from, groups_of, book_readable, opening_of_rows, call_rows}
 use Rattle.script.specs.Answers.{value_field, value_fields, text_of, texts_of}
 use Rattle.script.specs.Run.{answers_text}
 use Rattle.script.proofs.RequestLaws.{RowsOfSeason, season_script}

@@ -1,5 +1,5 @@
 // The settings of a book, whose fractions are all legal, and what they give of a load (01, Limits; 02, 1/14 and 3/14).
-ghost use Rattle.std.specs.Prelude.{◌≡◌, true};
+ghost use Rattle.std.specs.Prelude.{◌≡◌, true, false, IfSome, IsSome, IsNone};
 ghost use Rattle.tariff.specs.Settings.{part_of, settings_legal};
 ghost use Rattle.tariff.specs.Eligible.{seasonal_eligible, priority_eligible, eligible_without_evidence, eligible_with_evidence};
 
@@ -9,6 +9,20 @@ use crate::settings::Settings;
 pub struct LegalSettings {
     pub settings: Settings,
     ghost legal: { settings_legal settings ≡ true },
+}
+
+impl Settings {
+    // These settings as a book's, if they are legal.
+    pub fn legal(self) -> Option<LegalSettings>
+        ensures legal { settings_legal self ≡ true → IfSome result (λ s. s.settings ≡ self) × IsSome result }
+        ensures illegal { settings_legal self ≡ false → IsNone result }
+    {
+        if self.is_legal() {
+            Some(LegalSettings { settings: self })
+        } else {
+            None
+        }
+    }
 }
 
 impl LegalSettings {

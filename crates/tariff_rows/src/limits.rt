@@ -1,15 +1,11 @@
 // Eligible quantities and limits.
-ghost use Rattle.std.specs.Prelude.{◌<◌, ◌≡◌, true};
-ghost use Rattle.tariff.specs.Settings.{settings_legal};
+ghost use Rattle.std.specs.Prelude.{◌<◌};
 
 use crate::rows::{at, settings_at};
 use crate::{limit_rows, write};
 use std::io;
-use tariff::limit::{
-    Sums, eligible_with_evidence, eligible_without_evidence, limit_of_sums, priority_eligible,
-    seasonal_eligible,
-};
-use tariff::settings::{Settings, settings_legal};
+use tariff::legal_settings::LegalSettings;
+use tariff::limit::Sums;
 use tariff::terms::term_of;
 
 // How many numbers a row of loads has.
@@ -18,14 +14,12 @@ pub const LOAD_WIDTH: usize = 2;
 // How many numbers a row has.
 pub const WIDTH: usize = 11;
 
-fn write_parts(rt: &impl Print, settings: Settings, load: u64) -> io::Result<()>
-    requires { settings_legal settings ≡ true }
-{
+fn write_parts(rt: &impl Print, settings: LegalSettings, load: u64) -> io::Result<()> {
     write::word(rt, "eligible")?;
-    write::field(rt, seasonal_eligible(settings, load))?;
-    write::field(rt, priority_eligible(settings, load))?;
-    write::field(rt, eligible_without_evidence(settings, load))?;
-    write::field(rt, eligible_with_evidence(settings, load))?;
+    write::field(rt, settings.seasonal_eligible(load))?;
+    write::field(rt, settings.priority_eligible(load))?;
+    write::field(rt, settings.eligible_without_evidence(load))?;
+    write::field(rt, settings.eligible_with_evidence(load))?;
     write::end(rt)
 }
 
@@ -37,10 +31,9 @@ pub fn write_eligible(rt: &impl Print, row: usize) -> io::Result<()>
     let last = from + 1;
     let rows = &limit_rows::LOADS;
     let settings = settings_at(&limit_rows::SETS, at(rows, last));
-    if settings_legal(settings) {
-        write_parts(rt, settings, at(rows, from))
-    } else {
-        write::illegal(rt)
+    match settings.legal() {
+        Some(legal) => write_parts(rt, legal, at(rows, from)),
+        None => write::illegal(rt),
     }
 }
 
@@ -61,13 +54,11 @@ fn sums_from(rows: &[u64], from: usize) -> Sums
     }
 }
 
-fn write_limit(rt: &impl Print, settings: Settings, tier: u64, sums: Sums) -> io::Result<()>
-    requires { settings_legal settings ≡ true }
-{
+fn write_limit(rt: &impl Print, settings: LegalSettings, tier: u64, sums: Sums) -> io::Result<()> {
     write::word(rt, "limit")?;
     write::field(rt, tier)?;
     write::field(rt, term_of(tier))?;
-    write::field(rt, limit_of_sums(settings, tier, sums))?;
+    write::field(rt, settings.limit_of_sums(tier, sums))?;
     write::end(rt)
 }
 
@@ -79,9 +70,8 @@ pub fn write_row(rt: &impl Print, row: usize) -> io::Result<()>
     let last = from + 10;
     let rows = &limit_rows::ROWS;
     let settings = settings_at(&limit_rows::SETS, at(rows, last));
-    if settings_legal(settings) {
-        write_limit(rt, settings, at(rows, from), sums_from(rows, from))
-    } else {
-        write::illegal(rt)
+    match settings.legal() {
+        Some(legal) => write_limit(rt, legal, at(rows, from), sums_from(rows, from)),
+        None => write::illegal(rt),
     }
 }

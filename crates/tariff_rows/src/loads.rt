@@ -1,51 +1,44 @@
 // Block lists: the load posted, or the refusal.
-ghost use Rattle.std.specs.Prelude.{◌<◌, ◌≡◌, true};
-ghost use Rattle.tariff.specs.Settings.{settings_legal};
+ghost use Rattle.std.specs.Prelude.{◌<◌};
 
 use crate::rows::{at, part, settings_at};
 use crate::{load_rows, write};
-use load_metric::load::{Metering, load_posted};
+use load_metric::block::Block;
+use load_metric::load::{BlockError, load_posted};
 use std::io;
-use tariff::settings::{Settings, settings_legal};
+use tariff::legal_settings::LegalSettings;
 
 // How many numbers a row has.
 pub const WIDTH: usize = 7;
 
-// The blocks of a row, lent as three slices that start at one place.
-fn posted(
-    settings: Settings,
-    n: u64,
-    contract: u64,
-    start: u64,
-    firsts: u64,
-    hours: u64,
-    kws: u64,
-) -> Metering
-    requires { settings_legal settings ≡ true }
-{
-    load_posted(
-        settings,
-        part(&load_rows::FIRSTS, start, firsts),
-        part(&load_rows::HOURS, start, hours),
-        part(&load_rows::KWS, start, kws),
-        n,
-        contract,
-    )
+// The most blocks that a row has.
+const MAX_BLOCKS: usize = 2_209;
+
+// The blocks of three parts of the tables, side by side as far as the shortest goes, and how many they are.
+fn paired(firsts: &[u64], hours: &[u64], kws: &[u64]) -> [Block; MAX_BLOCKS] {
+    std::array::from_fn(|k| Block {
+        first: at(firsts, k),
+        hours: at(hours, k),
+        kw: at(kws, k),
+    })
 }
 
-// What the row that starts at a place gives.
-fn row_posted(settings: Settings, rows: &[u64], from: usize) -> Metering
-    requires { (settings_legal settings ≡ true) × (from < 1048576) }
+// What the row that starts at a place gives: nothing where its three parts have unequal lengths, and are no blocks.
+fn row_posted(settings: LegalSettings, rows: &[u64], from: usize) -> Option<Result<u64, BlockError>>
+    requires { from < 1048576 }
 {
-    posted(
-        settings,
-        at(rows, from),
-        at(rows, from + 1),
-        at(rows, from + 2),
-        at(rows, from + 3),
-        at(rows, from + 4),
-        at(rows, from + 5),
-    )
+    let start = at(rows, from + 2);
+    let firsts = part(&load_rows::FIRSTS, start, at(rows, from + 3));
+    let hours = part(&load_rows::HOURS, start, at(rows, from + 4));
+    let kws = part(&load_rows::KWS, start, at(rows, from + 5));
+    if firsts.len() != hours.len() || hours.len() != kws.len() {
+        return None;
+    }
+    let blocks = paired(firsts, hours, kws);
+    let count = firsts.len().min(MAX_BLOCKS);
+    let n = at(rows, from);
+    let contract = at(rows, from + 1);
+    Some(load_posted(settings, &blocks[..count], n, contract))
 }
 
 fn write_refusal(rt: &impl Print, number: u64) -> io::Result<()> {
@@ -53,13 +46,13 @@ fn write_refusal(rt: &impl Print, number: u64) -> io::Result<()> {
     write::field(rt, number)
 }
 
-fn write_posted(rt: &impl Print, posted: Metering) -> io::Result<()> {
+fn write_posted(rt: &impl Print, posted: Option<Result<u64, BlockError>>) -> io::Result<()> {
     write::word(rt, "load")?;
     match posted {
-        Metering::Unequal => write_refusal(rt, 1)?,
-        Metering::Broken => write_refusal(rt, 6)?,
-        Metering::Missing => write_refusal(rt, 7)?,
-        Metering::Kw(kw) => write::field(rt, kw)?,
+        None => write_refusal(rt, 1)?,
+        Some(Err(BlockError::Broken)) => write_refusal(rt, 6)?,
+        Some(Err(BlockError::Missing)) => write_refusal(rt, 7)?,
+        Some(Ok(kw)) => write::field(rt, kw)?,
     }
     write::end(rt)
 }
@@ -72,9 +65,8 @@ pub fn write_row(rt: &impl Print, row: usize) -> io::Result<()>
     let last = from + 6;
     let rows = &load_rows::ROWS;
     let settings = settings_at(&load_rows::SETS, at(rows, last));
-    if settings_legal(settings) {
-        write_posted(rt, row_posted(settings, rows, from))
-    } else {
-        write::illegal(rt)
+    match settings.legal() {
+        Some(legal) => write_posted(rt, row_posted(legal, rows, from)),
+        None => write::illegal(rt),
     }
 }

@@ -4,7 +4,7 @@ ghost use Rattle.tariff.specs.Sizes.{setting_count};
 ghost use Rattle.tariff.specs.Settings.{settings_of};
 ghost use Rattle.tariff_rows.specs.Tables.{part_of};
 
-use tariff::settings::{Settings, settings_of};
+use tariff::settings::Settings;
 use tariff::sizes::SETTING_COUNT;
 
 // The number at a place.
@@ -30,5 +30,5 @@ pub fn settings_at(table: &[u64], place: u64) -> Settings
     ensures { result ≡ settings_of (part_of table.now place setting_count) }
 {
     let pairs = part(table, place, SETTING_COUNT as u64);
-    settings_of(std::array::from_fn(|k| at(pairs, k)))
+    Settings::from(std::array::from_fn(|k| at(pairs, k)))
 }

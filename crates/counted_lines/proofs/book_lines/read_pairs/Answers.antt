@@ -18,7 +18,7 @@ overflow_add-consumed c =
 
 pub loop-k-preserved : goal.loop-k-preserved
 loop-k-preserved c =
-    rw (c.eq-complete.ensures ∙ kinds_compared c.next_row-next.result.row.kind c.args.kind) (one_pair_more _ _ _ _ _ _ _ _ c.loop-k.invariant c.if-rest-consumed.false _ c.next_row-next.ensures c.loop-k-test.true _ _ c.place-next_firsts.ensures c.place-next_seconds.ensures)
+    rw (c.eq-same.ensures ∙ kinds_compared c.next_row-next.result.row.kind c.args.kind) (one_pair_more _ _ _ _ _ _ _ _ c.loop-k.invariant c.if-rest-consumed.false _ c.next_row-next.ensures c.loop-k-test.true _ _ c.place-next_firsts.ensures c.place-next_seconds.ensures)
 
 pub returns : goal.returns
 returns c = all_pairs _ _ _ _ _ _ _ _ c.loop-k.invariant c.loop-k-test.false

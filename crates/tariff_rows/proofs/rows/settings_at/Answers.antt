@@ -11,6 +11,6 @@ pub returns : goal.returns
 returns c =
     let pairs : List ℕ = c.part-pairs.result.now in
     let made = made_list _ _ (λ k. get_or pairs k 0) (λ k y q called. search rules) 12 _ c.from_fn.ensures.items in
-    c.settings_of.ensures
+    c.from.ensures
     ∙ settings_ext c.from_fn.result pairs (λ k l. ap (λ xs. get_or xs k 0) made ∙ at_tabulate 12 (λ q. get_or pairs q 0) 0 k l)
     ∙ ap settings_of c.part-pairs.ensures
