@@ -7,7 +7,6 @@ use mathlib.Core.Logic.{◌⊎◌, inl, inr}
 use native.Mathlib.Nat.{le_refl, add-le-add}
 use native.Mathlib.Omega.{arith}
 use lib.Dec.{leb, ltb, eqb}
-use lib.ListN.{length, get_or}
 use borrow.Author.Tests.{leb-true, ltb-true, ltb-false, eqb-false, le-leb, lt-leb, lt-ltb, le-ltb}
 use Rattle.tariff.specs.Sum.{when_true, sum_over, any_of}
 use Rattle.load_metric.specs.declared.block.Block.{Block}

@@ -1,18 +1,17 @@
 -- What blocks in order tell, block by block: the tests of one block, and the hours that all of them cover. Assumes nothing.
-use Prim.Native.Nat.{ℕ, ◌+◌, ◌≤◌, ◌<◌}
-use mathlib.Core.Path.{◌≡◌, refl, ap, ◌∙◌}
+use Prim.Native.Nat.{ℕ, ◌+◌, ◌≤◌}
+use mathlib.Core.Path.{◌≡◌, refl}
 use mathlib.Core.Bool.{Bool, true, false, ◌&&◌}
 use mathlib.Core.List.{List, [], ◌∷◌}
 use native.Mathlib.Omega.{arith}
 use Rattle.std.specs.Prelude.{Some, None}
-use lib.Dec.{leb, eqb}
-use lib.ListN.{length, get_or}
-use borrow.Author.Tests.{leb-true, le-leb, lt-leb, ne_eqb}
+use lib.Dec.{leb}
+use borrow.Author.Tests.{leb-true, ne_eqb}
 use Rattle.load_metric.specs.declared.block.Block.{Block}
 use Rattle.tariff.specs.Sum.{sum_over, any_of}
 use Rattle.load_metric.specs.Load.{in_order, present_hours}
 use Rattle.load_metric.specs.Levels.{ordered_hours, EachHasHours}
-use Rattle.tariff.proofs.Tests.{and_both, and_left_false, and_right_false}
+use Rattle.tariff.proofs.Tests.{and_both, and_left_false}
 
 module _ (n from : ℕ) (b : Block) (bs : List Block) where
   -- the tests of a block, taken apart

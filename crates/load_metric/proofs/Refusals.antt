@@ -5,20 +5,18 @@ use mathlib.Core.Bool.{Bool, true, false, cond, ◌||◌}
 use mathlib.Core.List.{List, [], ◌∷◌}
 use native.Mathlib.Nat.{div-lt_iff_lt-mul, le-div_iff_mul-le}
 use native.Mathlib.Omega.{arith}
-use lib.Dec.{eqb}
 use lib.ListN.{length}
-use borrow.Author.Tests.{eq-eqb, eqb-true, lt-ltb, le-ltb}
+use borrow.Author.Tests.{lt-ltb, le-ltb}
 use Rattle.tariff.specs.declared.settings.Fraction.{Fraction}
 use Rattle.tariff.specs.declared.settings.Settings.{Settings}
 use Rattle.tariff.specs.Settings.{part_of, settings_legal}
-use Rattle.std.specs.Prelude.{Option, Some, None, Result, Ok, Err}
+use Rattle.std.specs.Prelude.{Some, None, Result, Ok, Err}
 use Rattle.load_metric.specs.declared.block.Block.{Block}
 use Rattle.load_metric.specs.declared.load.BlockError.{BlockError}
 use Rattle.load_metric.specs.declared.load.BlockError.TheVariants.{Broken, Missing}
 use Rattle.load_metric.specs.Load.{in_order, is_empty, blocks_broken, present_hours, missing_hours, too_many_missing, exceedance_hours, smallest_within, metric, load_posted}
 use Rattle.load_metric.specs.Metering.{unless_refused, metric_or_cause, load_or_cause, metering_by, block_refusal}
 use Rattle.load_metric.specs.Levels.{ordered_hours, MetricInputs}
-use Rattle.tariff.proofs.Tests.{and_join, and_both}
 use Rattle.tariff.proofs.Fractions.{fraction_facts, each_legal}
 use Rattle.load_metric.proofs.Ordered.{order_within, each_has_hours_lem}
 
