@@ -2,7 +2,7 @@
 use Rattle.std.specs.Prelude.{ℕ, Bool, cond, List}
 use Rattle.netting.specs.declared.netting.ClassColumns.{ClassColumns}
 use Rattle.netting.specs.Netting.{class_lines_of, same_counts}
-use Rattle.ledger.specs.Call.{Call, Query, load, migrate}
+use Rattle.ledger.specs.Call.{Call, Query, migrate}
 use Rattle.ledger.specs.Numbers.{unreadable}
 use Rattle.ledger.specs.Season as season
 use Rattle.records.specs.declared.answers.Answer.{Answer}

@@ -6,7 +6,7 @@ use mathlib.Core.Bool.{Bool, true, false, ◌&&◌}
 use mathlib.Core.List.{List, [], ◌∷◌, ◌++◌, map, map-append}
 use native.Mathlib.Numerals.{add-one}
 use native.Mathlib.Omega.{arith}
-use lib.ListN.{length, take, drop, set, length-map, length-take, length-drop, drop_of_length-le}
+use lib.ListN.{length, take, drop, set, length-map, length-drop, drop_of_length-le}
 use lib.Seq.{drop-drop, length-take-le, take_all}
 use borrow.Author.Tests.{eq-eqb, ne_eqb}
 use Rattle.tariff.proofs.Tests.{and_left_false}

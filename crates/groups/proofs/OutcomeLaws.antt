@@ -1,7 +1,7 @@
 -- What a head with the lines that it counts comes to. Assumes nothing.
-use Prim.Native.Nat.{ℕ, ◌+◌, ◌-◌, ◌/◌, ◌≤◌, ◌<◌}
+use Prim.Native.Nat.{ℕ, ◌+◌, ◌-◌, ◌≤◌}
 use mathlib.Core.Path.{◌≡◌, sym, ap, ◌∙◌, subst}
-use mathlib.Core.Bool.{Bool, true, false, cond}
+use mathlib.Core.Bool.{Bool, true, false}
 use mathlib.Core.List.{List, map}
 use native.Mathlib.Nat.{add-zero, le_trans, le_of_eq}
 use native.Mathlib.Omega.{arith}
@@ -10,13 +10,10 @@ use lib.Dec.{eqb}
 use borrow.Author.Tests.{eqb-true}
 use Rattle.tariff.proofs.Tests.{and_both, both_ways}
 use Rattle.ledger.specs.Numbers.{unreadable}
-use Rattle.ledger.specs.Call.{load, migrate}
-use Rattle.ledger.specs.Season.{Request, call}
+use Rattle.ledger.specs.Season.{Request}
 use Rattle.book.specs.declared.book.Book.{Book}
 use Rattle.records.specs.declared.answers.Answer.{Answer}
 use Rattle.records.specs.declared.answers.Answer.TheVariants.{Refused}
-use Rattle.book.specs.declared.book.Outcome.{Outcome}
-use Rattle.book.specs.Outcomes.{refused_with, outcome_of}
 use Rattle.lines.specs.declared.rows.Row.{Row}
 use Rattle.counted_lines.specs.declared.counted.CountedLines.{CountedLines}
 use Rattle.lines.specs.declared.lines.NextRow.{NextRow}

@@ -4,9 +4,8 @@ use mathlib.Core.Path.{◌≡◌, sym, ap, ap₂, ◌∙◌}
 use mathlib.Core.Bool.{Bool, true, false, cond, ◌||◌}
 use mathlib.Core.List.{List}
 use native.Mathlib.Omega.{arith}
-use lib.ListN.{length, take, drop}
-use lib.Dec.{eqb}
-use borrow.Author.Tests.{eqb-true, eq-eqb, ne_eqb}
+use lib.ListN.{take, drop}
+use borrow.Author.Tests.{eq-eqb, ne_eqb}
 use Rattle.tariff.specs.declared.settings.Settings.{Settings}
 use Rattle.std.proofs.Common.{Result, Ok, Err}
 use Rattle.load_metric.specs.declared.load.BlockError.{BlockError}

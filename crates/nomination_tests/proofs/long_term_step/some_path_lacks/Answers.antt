@@ -1,7 +1,6 @@
 -- `nomination_tests::long_term_step::some_path_lacks` meets its contract: no path passed so far passes the test, and the first that does ends the search. Assumes nothing.
-use Prim.Native.Nat.{◌-◌, zero-le}
+use Prim.Native.Nat.{zero-le}
 use mathlib.Core.Path.{refl, sym, ◌∙◌}
-use mathlib.Core.Bool.{false}
 use native.Mathlib.Omega.{arith}
 use Rattle.tariff.specs.Sum.{any_below}
 use Rattle.tariff.proofs.Tests.{none_more}

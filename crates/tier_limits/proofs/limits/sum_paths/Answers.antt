@@ -1,5 +1,4 @@
 -- `tier_limits::limits::sum_paths` meets its contract: before path p the sums are those of the paths below p. Assumes nothing.
-use Prim.Native.Nat.{◌-◌}
 use native.Mathlib.Omega.{arith}
 use Rattle.slots.proofs.PathSums.{base_inputs}
 use Rattle.tier_limits.proofs.PathSumLaws.{sums_none, sums_more, sums_whole, path_fits}

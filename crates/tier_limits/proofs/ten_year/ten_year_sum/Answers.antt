@@ -1,5 +1,4 @@
 -- `tier_limits::ten_year::ten_year_sum` meets its contract: before source s the sum is that of the sources below s. Assumes nothing.
-use Prim.Native.Nat.{◌-◌}
 use mathlib.Core.Path.{refl}
 use native.Mathlib.Omega.{arith}
 use Rattle.tariff.specs.Sum.{sum_to}
