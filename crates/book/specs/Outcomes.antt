@@ -27,13 +27,6 @@ outcome_of b c =
 unfoldable pub query_answer_in : Book → Query → Answer
 query_answer_in b q = answer_of (season.answer (opening_of_book b) (ledger_of b) (season.query q))
 
--- an answer beside a book with these figures, and with these postings too
-unfoldable pub with_postings : Book → Answer → List ℕ → List Bool → Outcome
-with_postings b answer figures posted = record { answer = answer; book = book_in b.opening figures posted b.evidence }
-
-unfoldable pub with_figures : Book → Answer → List ℕ → Outcome
-with_figures b answer figures = with_postings b answer figures b.posted
-
 -- slices of unequal length are no class lines: the call is refused as unreadable, and the book stays as it was
 unfoldable pub outcome_of_lines : Book → ℕ → ℕ → List ℕ → List ℕ → List ℕ → List ℕ → List ℕ → Outcome
 outcome_of_lines b term sink froms tos classes customers watts =

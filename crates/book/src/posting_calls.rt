@@ -5,7 +5,7 @@ ghost use Rattle.verify.specs.Decision.{verify_of};
 ghost use Rattle.book.specs.Outcomes.{outcome_of, outcome_of_columns};
 ghost use Rattle.book.specs.Reachable.{Reachable};
 
-use crate::book::{Book, Outcome, with_figures, with_postings};
+use crate::book::{Book, Outcome};
 use load::load::load;
 use load_metric::block::Block;
 use migrate::class_lines::migrate_lines;
@@ -18,17 +18,22 @@ use verify::verify::verify_and_file;
 
 impl Book {
     // Posts the load of a holder at a sink in a term.
-    pub fn load(self, h: u64, s: u64, term: u64, contract: u64, n: u64, blocks: &[Block]) -> Outcome
+    pub fn load(
+        mut self,
+        h: u64,
+        s: u64,
+        term: u64,
+        contract: u64,
+        n: u64,
+        blocks: &[Block],
+    ) -> Outcome
         requires { Reachable self }
         ensures { result ≡ outcome_of self (load h s term contract n blocks.now) }
     {
-        let opening = self.opening;
-        let mut figures = self.figures;
-        let mut posted = self.posted;
         let answer = load(
-            &opening,
-            &mut figures,
-            &mut posted,
+            &self.opening,
+            &mut self.figures,
+            &mut self.posted,
             h,
             s,
             term,
@@ -36,81 +41,67 @@ impl Book {
             n,
             blocks,
         );
-        with_postings(self, answer, figures, posted)
+        Outcome { answer, book: self }
     }
 
     // Carries kw in for a holder on a path.
-    pub fn carry(self, h: u64, p: u64, kw: u64) -> Outcome
+    pub fn carry(mut self, h: u64, p: u64, kw: u64) -> Outcome
         requires { Reachable self }
         ensures { result ≡ outcome_of self (carry h p kw) }
     {
-        let opening = self.opening;
-        let mut figures = self.figures;
-        let mut posted = self.posted;
-        let answer = carry(&opening, &mut figures, &mut posted, h, p, kw);
-        with_postings(self, answer, figures, posted)
+        let answer = carry(&self.opening, &mut self.figures, &mut self.posted, h, p, kw);
+        Outcome { answer, book: self }
     }
 
     // Posts the prior of a holder on a path.
-    pub fn prior(self, h: u64, p: u64, a: u64, l: u64) -> Outcome
+    pub fn prior(mut self, h: u64, p: u64, a: u64, l: u64) -> Outcome
         requires { Reachable self }
         ensures { result ≡ outcome_of self (prior h p a l) }
     {
-        let opening = self.opening;
-        let mut figures = self.figures;
-        let mut posted = self.posted;
-        let answer = prior(&opening, &mut figures, &mut posted, h, p, a, l);
-        with_postings(self, answer, figures, posted)
+        let answer = prior(
+            &self.opening,
+            &mut self.figures,
+            &mut self.posted,
+            h,
+            p,
+            a,
+            l,
+        );
+        Outcome { answer, book: self }
     }
 
     // Files evidence of a holder for a source; the mark says whether it runs for ten years.
-    pub fn verify(self, h: u64, s: u64, filing: Filing) -> Outcome
+    pub fn verify(mut self, h: u64, s: u64, filing: Filing) -> Outcome
         requires { Reachable self }
         ensures { result ≡ outcome_of self (verify_of h s filing) }
     {
-        let opening = self.opening;
-        let mut figures = self.figures;
-        let mut posted = self.posted;
-        let mut evidence = self.evidence;
         let answer = verify_and_file(
-            &opening,
-            &mut figures,
-            &mut posted,
-            &mut evidence,
+            &self.opening,
+            &mut self.figures,
+            &mut self.posted,
+            &mut self.evidence,
             h,
             s,
             filing,
         );
-        Outcome {
-            answer,
-            book: Book {
-                opening,
-                figures,
-                posted,
-                evidence,
-            },
-        }
+        Outcome { answer, book: self }
     }
 
     // Moves loads, rights and last year's allocations with the customers of class lines, whose fields stand in five slices.
-    pub fn migrate(self, term: u64, sink: u64, columns: ClassColumns) -> Outcome
+    pub fn migrate(mut self, term: u64, sink: u64, columns: ClassColumns) -> Outcome
         requires { Reachable self }
         ensures { result ≡ outcome_of_columns self term sink columns.entry }
     {
-        let opening = self.opening;
-        let mut figures = self.figures;
-        let answer = migrate(&opening, &mut figures, term, sink, columns);
-        with_figures(self, answer, figures)
+        let answer = migrate(&self.opening, &mut self.figures, term, sink, columns);
+        Outcome { answer, book: self }
     }
 
     // Moves loads, rights and last year's allocations with the customers of the class lines lent.
-    pub fn migrate_lines(self, term: u64, sink: u64, lines: &[ClassLine]) -> Outcome
+    pub fn migrate_lines(mut self, term: u64, sink: u64, lines: &[ClassLine]) -> Outcome
         requires { Reachable self }
         ensures { result ≡ outcome_of self (migrate term sink lines.now) }
     {
-        let opening = self.opening;
-        let mut figures = self.figures;
-        let answer = migrate_lines(&opening, &mut figures, term, sink, lines);
-        with_figures(self, answer, figures)
+        let answer = migrate_lines(&self.opening, &mut self.figures, term, sink, lines);
+        Outcome { answer, book: self }
     }
 }

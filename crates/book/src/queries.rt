@@ -15,9 +15,7 @@ impl Book {
         requires { Reachable self }
         ensures { result ≡ query_answer_in self (limit_of h s) }
     {
-        let opening = self.opening;
-        let figures = self.figures;
-        limit(&opening, &figures, h, s)
+        limit(&self.opening, &self.figures, h, s)
     }
 
     // What a holder holds on a path in a month.
@@ -25,9 +23,7 @@ impl Book {
         requires { Reachable self }
         ensures { result ≡ query_answer_in self (held_on h p month) }
     {
-        let opening = self.opening;
-        let figures = self.figures;
-        held(&opening, &figures, h, p, month)
+        held(&self.opening, &self.figures, h, p, month)
     }
 
     // What all holders hold on a path in a month.
@@ -35,8 +31,6 @@ impl Book {
         requires { Reachable self }
         ensures { result ≡ query_answer_in self (net_on p month) }
     {
-        let opening = self.opening;
-        let figures = self.figures;
-        net(&opening, &figures, p, month)
+        net(&self.opening, &self.figures, p, month)
     }
 }

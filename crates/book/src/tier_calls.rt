@@ -4,51 +4,45 @@ ghost use Rattle.ledger.specs.Call.{open_tier, nominate, award, close_tier};
 ghost use Rattle.book.specs.Outcomes.{outcome_of};
 ghost use Rattle.book.specs.Reachable.{Reachable};
 
-use crate::book::{Book, Outcome, with_figures};
+use crate::book::{Book, Outcome};
 use awards::award::award;
 use awards::open_close::{close_tier, open_tier};
 use nominations::nominate::nominate;
 
 impl Book {
     // Opens a tier.
-    pub fn open_tier(self, tier: u64) -> Outcome
+    pub fn open_tier(mut self, tier: u64) -> Outcome
         requires { Reachable self }
         ensures { result ≡ outcome_of self (open_tier tier) }
     {
-        let mut figures = self.figures;
-        let answer = open_tier(&mut figures, tier);
-        with_figures(self, answer, figures)
+        let answer = open_tier(&mut self.figures, tier);
+        Outcome { answer, book: self }
     }
 
     // Nominates kw for a holder on a path in the open tier.
-    pub fn nominate(self, h: u64, p: u64, kw: u64) -> Outcome
+    pub fn nominate(mut self, h: u64, p: u64, kw: u64) -> Outcome
         requires { Reachable self }
         ensures { result ≡ outcome_of self (nominate h p kw) }
     {
-        let opening = self.opening;
-        let mut figures = self.figures;
-        let answer = nominate(&opening, &mut figures, h, p, kw);
-        with_figures(self, answer, figures)
+        let answer = nominate(&self.opening, &mut self.figures, h, p, kw);
+        Outcome { answer, book: self }
     }
 
     // Awards kw to a holder on a path in the open tier.
-    pub fn award(self, h: u64, p: u64, kw: u64) -> Outcome
+    pub fn award(mut self, h: u64, p: u64, kw: u64) -> Outcome
         requires { Reachable self }
         ensures { result ≡ outcome_of self (award h p kw) }
     {
-        let opening = self.opening;
-        let mut figures = self.figures;
-        let answer = award(&opening, &mut figures, h, p, kw);
-        with_figures(self, answer, figures)
+        let answer = award(&self.opening, &mut self.figures, h, p, kw);
+        Outcome { answer, book: self }
     }
 
     // Closes the open tier: what was not awarded is dropped.
-    pub fn close_tier(self) -> Outcome
+    pub fn close_tier(mut self) -> Outcome
         requires { Reachable self }
         ensures { result ≡ outcome_of self close_tier }
     {
-        let mut figures = self.figures;
-        let answer = close_tier(&mut figures);
-        with_figures(self, answer, figures)
+        let answer = close_tier(&mut self.figures);
+        Outcome { answer, book: self }
     }
 }

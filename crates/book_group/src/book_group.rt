@@ -8,6 +8,7 @@ ghost use Rattle.book_group.specs.BookGroup.{is_done, FullLists, opening_kept, b
 use counted_lines::book_lines::{BookLists, read_book_lines};
 use lines::lines::next_row;
 use lines::rows::{LineKind, Row};
+use opening::book_setup::BookSetup;
 use opening::opening::open;
 use records::answers::Answer;
 use records::numbers::UNREADABLE;
@@ -38,28 +39,24 @@ fn open_from_lists(o: &mut [u64], head: Row, lists: BookLists) -> Answer
     ensures answer { result ≡ opening_answer (opening_kept head lists) }
     ensures opening { o.new ≡ opening_array (resulting_opening (opening_kept head lists)) }
 {
-    let fields = head.fields;
-    let holders = lent_length(fields[0]);
-    let sinks = lent_length(fields[2]);
-    let paths = lent_length(fields[3]);
-    let holder_kinds = lists.holder_kinds;
-    let sink_kinds = lists.sink_kinds;
-    let sink_parents = lists.sink_parents;
-    let path_sources = lists.path_sources;
-    let path_sinks = lists.path_sinks;
-    let settings = lists.settings;
+    let counts = head.fields;
+    let holders = lent_length(counts[0]);
+    let sinks = lent_length(counts[2]);
+    let paths = lent_length(counts[3]);
     open(
         o,
-        fields[0],
-        fields[1],
-        fields[2],
-        fields[3],
-        &holder_kinds[..holders],
-        &sink_kinds[..sinks],
-        &sink_parents[..sinks],
-        &path_sources[..paths],
-        &path_sinks[..paths],
-        settings,
+        BookSetup {
+            holders: counts[0],
+            sources: counts[1],
+            sinks: counts[2],
+            paths: counts[3],
+            holder_kinds: &lists.holder_kinds[..holders],
+            sink_kinds: &lists.sink_kinds[..sinks],
+            sink_parents: &lists.sink_parents[..sinks],
+            path_sources: &lists.path_sources[..paths],
+            path_sinks: &lists.path_sinks[..paths],
+            settings: lists.settings,
+        },
     )
 }
 

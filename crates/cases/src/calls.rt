@@ -9,6 +9,7 @@ use book::book::{Book, Outcome};
 use book::opened::open_book;
 use load_metric::block::Block;
 use netting::netting::ClassLine;
+use opening::book_setup::BookSetup;
 use source_evidence::filing::Filing;
 use std::io;
 use tariff::settings::Settings;
@@ -37,21 +38,19 @@ pub fn open(
     let sink_parents = [0u64];
     let holders = kinds.len() as u64;
     let paths = path_sources.len() as u64;
-    write_outcome(
-        rt,
-        open_book(
-            holders,
-            paths,
-            1,
-            paths,
-            kinds,
-            &sink_kinds,
-            &sink_parents,
-            path_sources,
-            path_sinks,
-            Settings::present(),
-        ),
-    )
+    let setup = BookSetup {
+        holders,
+        sources: paths,
+        sinks: 1,
+        paths,
+        holder_kinds: kinds,
+        sink_kinds: &sink_kinds,
+        sink_parents: &sink_parents,
+        path_sources,
+        path_sinks,
+        settings: Settings::present(),
+    };
+    write_outcome(rt, open_book(setup))
 }
 
 pub fn load(

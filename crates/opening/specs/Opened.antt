@@ -3,7 +3,13 @@ use Rattle.std.specs.Prelude.{cond}
 use Rattle.ledger.specs.Opening.{Opening, legal, opening_refusal}
 use Rattle.records.specs.declared.answers.Answer.{Answer}
 use Rattle.records.specs.declared.answers.Answer.TheVariants.{Done, Refused}
-use Rattle.records.specs.Opening.{empty_opening}
+use Rattle.records.specs.Opening.{empty_opening, opening_from}
+use Rattle.opening.specs.declared.book_setup.BookSetup.{BookSetup}
+
+-- the opening that a caller asks for
+abbrev pub opening_asked : BookSetup → Opening
+opening_asked s =
+    opening_from s.holders s.sources s.sinks s.paths s.holder_kinds.now s.sink_kinds.now s.sink_parents.now s.path_sources.now s.path_sinks.now s.settings
 
 -- a legal opening is done, any other refused
 unfoldable pub opening_answer : Opening → Answer

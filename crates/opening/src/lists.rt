@@ -1,11 +1,12 @@
 // The counts, lists and settings that a book is opened with, kept in an array (01, The book; 02, 3/14).
-ghost use Rattle.std.specs.Prelude.{◌≡◌, ◌++◌, ℕ, length, get_or, take, drop};
-ghost use Rattle.tariff.specs.declared.settings.Settings.{Settings};
+ghost use Rattle.std.specs.Prelude.{◌≡◌, ◌++◌, length, get_or, take, drop};
 ghost use Rattle.tariff.specs.Settings.{settings_numbers};
 ghost use Rattle.tariff.specs.Sum.{tabulate};
 ghost use Rattle.ledger.specs.Opening.{lists_fit};
-ghost use Rattle.records.specs.Opening.{opening_count, settings_at, bases_at, opening_in, opening_of, opening_lists, path_bases, opening_array, opening_from, empty_opening};
+ghost use Rattle.records.specs.Opening.{opening_count, settings_at, bases_at, opening_in, opening_of, opening_lists, path_bases, opening_array, empty_opening};
+ghost use Rattle.opening.specs.Opened.{opening_asked};
 
+use crate::book_setup::BookSetup;
 use records::lists::clear;
 use records::setup::{
     BASES_AT, HOLDER_KINDS_AT, OPENING_COUNT, PATH_SINKS_AT, PATH_SOURCES_AT, SETTINGS_AT,
@@ -26,30 +27,19 @@ fn copy_into(to: &mut [u64], from: &[u64])
 }
 
 // The counts and lists that a book is opened with, kept in an array.
-pub fn keep_opening(
-    o: &mut [u64],
-    holders: u64,
-    sources: u64,
-    sinks: u64,
-    paths: u64,
-    holder_kinds: &[u64],
-    sink_kinds: &[u64],
-    sink_parents: &[u64],
-    path_sources: &[u64],
-    path_sinks: &[u64],
-)
+pub fn keep_opening(o: &mut [u64], setup: BookSetup)
     requires { length o.old ≡ opening_count }
-    ensures { (settings : Settings) → take settings_at o.new ≡ opening_lists (opening_from holders sources sinks paths holder_kinds.now sink_kinds.now sink_parents.now path_sources.now path_sinks.now settings) }
+    ensures { take settings_at o.new ≡ opening_lists (opening_asked setup.entry) }
 {
-    o[0] = holders;
-    o[1] = sources;
-    o[2] = sinks;
-    o[3] = paths;
-    copy_into(&mut o[HOLDER_KINDS_AT..SINK_KINDS_AT], holder_kinds);
-    copy_into(&mut o[SINK_KINDS_AT..SINK_PARENTS_AT], sink_kinds);
-    copy_into(&mut o[SINK_PARENTS_AT..PATH_SOURCES_AT], sink_parents);
-    copy_into(&mut o[PATH_SOURCES_AT..PATH_SINKS_AT], path_sources);
-    copy_into(&mut o[PATH_SINKS_AT..SETTINGS_AT], path_sinks);
+    o[0] = setup.holders;
+    o[1] = setup.sources;
+    o[2] = setup.sinks;
+    o[3] = setup.paths;
+    copy_into(&mut o[HOLDER_KINDS_AT..SINK_KINDS_AT], setup.holder_kinds);
+    copy_into(&mut o[SINK_KINDS_AT..SINK_PARENTS_AT], setup.sink_kinds);
+    copy_into(&mut o[SINK_PARENTS_AT..PATH_SOURCES_AT], setup.sink_parents);
+    copy_into(&mut o[PATH_SOURCES_AT..PATH_SINKS_AT], setup.path_sources);
+    copy_into(&mut o[PATH_SINKS_AT..SETTINGS_AT], setup.path_sinks);
 }
 
 // The settings kept after the lists.
@@ -93,22 +83,13 @@ pub fn keep_bases(o: &mut [u64])
 }
 
 // Each list has as many entries as are counted.
-pub fn lists_fit(
-    holders: u64,
-    sinks: u64,
-    paths: u64,
-    holder_kinds: &[u64],
-    sink_kinds: &[u64],
-    sink_parents: &[u64],
-    path_sources: &[u64],
-    path_sinks: &[u64],
-) -> bool
-    ensures { (sources : ℕ) (settings : Settings) → result ≡ lists_fit (opening_from holders sources sinks paths holder_kinds.now sink_kinds.now sink_parents.now path_sources.now path_sinks.now settings) }
+#[tactic(auto, unfolding(ledger::specs::Opening::lists_fit, records::specs::Opening::opening_from))]
+pub fn lists_fit(setup: BookSetup) -> bool
+    ensures { result ≡ lists_fit (opening_asked setup.entry) }
 {
-    let of_holders = holder_kinds.len() as u64 == holders;
-    let of_kinds = sink_kinds.len() as u64 == sinks;
-    let of_parents = sink_parents.len() as u64 == sinks;
-    let of_sources = path_sources.len() as u64 == paths;
-    let of_sinks = path_sinks.len() as u64 == paths;
-    of_holders & of_kinds & of_parents & of_sources & of_sinks
+    setup.holder_kinds.len() as u64 == setup.holders
+        && setup.sink_kinds.len() as u64 == setup.sinks
+        && setup.sink_parents.len() as u64 == setup.sinks
+        && setup.path_sources.len() as u64 == setup.paths
+        && setup.path_sinks.len() as u64 == setup.paths
 }

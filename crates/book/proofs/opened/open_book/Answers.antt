@@ -6,4 +6,4 @@ use Rattle.book.proofs.opened.open_book.Goals as goal
 
 pub returns : goal.returns
 unfolding opening_outcome book_of book_in
-returns c = λ i. record { answer = c.open-answer.ensures.answered i; book = record { opening = c.open-answer.ensures.kept i; figures = empty_figures i; posted = empty_posted i; evidence = c.no_evidence-evidence.ensures i } }
+returns c = λ i. record { answer = c.open-answer.ensures.answered i; book = record { opening = c.open-answer.ensures.kept i; figures = empty_figures i; posted = empty_posted i; evidence = c.no_evidence.ensures i } }

@@ -10,15 +10,13 @@ use Rattle.opening.proofs.opening.open.Goals as goal
 pub returns-then-lists-is_legal : goal.returns-then-lists-is_legal
 unfolding opening_from
 returns-then-lists-is_legal c =
-    let start = c.args in
-    let first = c.keep_opening.ensures start.settings in
+    let first = c.keep_opening.ensures in
     let keeps = ap (take bases_at) c.keep_settings.ensures ∙ numbers_kept _ c.keep_opening.new.o (search rules) first in
-    let done = opened_done _ _ keeps (c.lists_fit-lists.ensures start.sources start.settings) c.is_legal.ensures _ c.if-lists-is_legal.true c.keep_bases.ensures in record { answered = done.0; kept = done.1 }
+    let done = opened_done _ _ keeps c.lists_fit-lists.ensures c.is_legal.ensures _ c.if-lists-is_legal.true c.keep_bases.ensures in record { answered = done.0; kept = done.1 }
 
 pub returns : goal.returns
 unfolding opening_from
 returns c =
-    let start = c.args in
-    let first = c.keep_opening.ensures start.settings in
+    let first = c.keep_opening.ensures in
     let keeps = ap (take bases_at) c.keep_settings.ensures ∙ numbers_kept _ c.keep_opening.new.o (search rules) first in
-    let done = opened_refused _ _ keeps (c.lists_fit-lists.ensures start.sources start.settings) c.is_legal.ensures _ c.if-lists-is_legal.false c.keep_nothing.ensures in record { answered = done.0; kept = done.1 }
+    let done = opened_refused _ _ keeps c.lists_fit-lists.ensures c.is_legal.ensures _ c.if-lists-is_legal.false c.keep_nothing.ensures in record { answered = done.0; kept = done.1 }

@@ -1,7 +1,5 @@
 -- `book::Book::open_tier` meets its contract: the next book has the figures that were lent. Assumes nothing.
-use mathlib.Core.Path.{◌∙◌}
 use Rattle.book.specs.Reading.{book_in}
-use Rattle.book.specs.Outcomes.{with_figures, with_postings}
 use Rattle.book.proofs.OutcomeBooks.{outcome_book}
 use Rattle.book.proofs.book.Book.open_tier.Goals as goal
 
@@ -9,5 +7,5 @@ pub open_tier-answer-requires : goal.open_tier-answer-requires
 open_tier-answer-requires c = record { opening = _; posted = _; evidence = _; reachable = c.requires }
 
 pub returns : goal.returns
-unfolding book_in with_figures with_postings
-returns c = c.with_figures.ensures ∙ outcome_book _ _ _ _ _ _ _ _ _ (c.open_tier-answer.ensures _ _ _ c.requires)
+unfolding book_in
+returns c = outcome_book _ _ _ _ _ _ _ _ _ (c.open_tier-answer.ensures _ _ _ c.requires)

@@ -1,10 +1,8 @@
 -- `book::Book::prior` meets its contract: the next book has the figures and the postings that were lent. Assumes nothing.
-use mathlib.Core.Path.{◌∙◌}
 use Rattle.book.specs.Reading.{book_in}
-use Rattle.book.specs.Outcomes.{with_postings}
 use Rattle.book.proofs.OutcomeBooks.{outcome_book}
 use Rattle.book.proofs.book.Book.prior.Goals as goal
 
 pub returns : goal.returns
-unfolding book_in with_postings
-returns c = c.with_postings.ensures ∙ outcome_book _ _ _ _ _ _ _ _ _ (c.prior-answer.ensures _ c.requires)
+unfolding book_in
+returns c = outcome_book _ _ _ _ _ _ _ _ _ (c.prior-answer.ensures _ c.requires)
