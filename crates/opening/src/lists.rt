@@ -6,7 +6,6 @@ ghost use Rattle.tariff.specs.Sum.{tabulate};
 ghost use Rattle.ledger.specs.Opening.{lists_fit};
 ghost use Rattle.records.specs.Opening.{opening_count, settings_at, bases_at, opening_in, opening_of, opening_lists, path_bases, opening_array, opening_from, empty_opening};
 
-use records::lists::clear;
 use records::setup::{
     BASES_AT, HOLDER_KINDS_AT, OPENING_COUNT, PATH_SINKS_AT, PATH_SOURCES_AT, SETTINGS_AT,
     SINK_KINDS_AT, SINK_PARENTS_AT, base_by_sink,
@@ -18,11 +17,10 @@ use tariff::sizes::{MAX_PLACES, SETTING_COUNT};
 fn copy_into(to: &mut [u64], from: &[u64])
     ensures { to.new ≡ tabulate (length to.old) (λ k. get_or from.now k 0) }
 {
-    let mut k = 0;
-    while k < to.len() {
-        to[k] = if k < from.len() { from[k] } else { 0 };
-        k += 1;
-    }
+    let n = to.len().min(from.len());
+    let (front, rest) = to.split_at_mut(n);
+    front.copy_from_slice(&from[..n]);
+    rest.fill(0);
 }
 
 // The counts and lists that a book is opened with, kept in an array.
@@ -66,7 +64,7 @@ pub fn keep_nothing(o: &mut [u64])
     requires { length o.old ≡ opening_count }
     ensures { o.new ≡ opening_array empty_opening }
 {
-    clear(o);
+    o.fill(0);
     keep_settings(o, Settings::present());
 }
 
@@ -74,13 +72,7 @@ pub fn keep_nothing(o: &mut [u64])
 fn path_bases(o: &[u64]) -> [u64; MAX_PLACES]
     ensures { result ≡ path_bases (opening_of o.entry) }
 {
-    let mut bases = [0u64; MAX_PLACES];
-    let mut p = 0;
-    while p < MAX_PLACES {
-        bases[p] = base_by_sink(o, p as u64);
-        p += 1;
-    }
-    bases
+    std::array::from_fn(|p| base_by_sink(o, p as u64))
 }
 
 // The bases kept after the settings.
@@ -93,6 +85,7 @@ pub fn keep_bases(o: &mut [u64])
 }
 
 // Each list has as many entries as are counted.
+#[tactic(auto, unfolding(ledger::specs::Opening::lists_fit, records::specs::Opening::opening_from))]
 pub fn lists_fit(
     holders: u64,
     sinks: u64,
@@ -105,10 +98,9 @@ pub fn lists_fit(
 ) -> bool
     ensures { (sources : ℕ) (settings : Settings) → result ≡ lists_fit (opening_from holders sources sinks paths holder_kinds.now sink_kinds.now sink_parents.now path_sources.now path_sinks.now settings) }
 {
-    let of_holders = holder_kinds.len() as u64 == holders;
-    let of_kinds = sink_kinds.len() as u64 == sinks;
-    let of_parents = sink_parents.len() as u64 == sinks;
-    let of_sources = path_sources.len() as u64 == paths;
-    let of_sinks = path_sinks.len() as u64 == paths;
-    of_holders & of_kinds & of_parents & of_sources & of_sinks
+    holder_kinds.len() as u64 == holders
+        && sink_kinds.len() as u64 == sinks
+        && sink_parents.len() as u64 == sinks
+        && path_sources.len() as u64 == paths
+        && path_sinks.len() as u64 == paths
 }

@@ -50,7 +50,7 @@ pub fn open(
         path_sources,
         path_sinks,
     );
-    if lists & is_legal(o) {
+    if lists && is_legal(o) {
         keep_bases(o);
         return Answer::Done;
     }
