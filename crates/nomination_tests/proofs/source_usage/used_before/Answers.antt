@@ -1,5 +1,4 @@
 -- `nomination_tests::source_usage::used_before` meets its contract: before tier n the sum is that of the tiers below n. Assumes nothing.
-use Prim.Native.Nat.{◌-◌}
 use mathlib.Core.Path.{refl}
 use native.Mathlib.Omega.{arith}
 use Rattle.tariff.specs.Sum.{sum_to}
