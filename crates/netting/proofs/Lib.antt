@@ -5,4 +5,3 @@ pub mod Pairs
 pub mod FitLines
 pub mod NettedLines
 pub mod ShareCells
-pub mod FromFn

@@ -1,16 +1,14 @@
 -- What a holder uses of its evidence for a source: sums over the paths and over the tiers before, and their bounds. Assumes nothing.
 use Prim.Native.Nat.{ℕ, ◌+◌, ◌*◌, ◌≤◌, ◌<◌}
 use mathlib.Core.Path.{◌≡◌, refl, sym, ap, ◌∙◌}
-use mathlib.Core.Bool.{Bool, true, false, not, cond, ◌&&◌, ◌||◌}
+use mathlib.Core.Bool.{Bool, true, false, not, cond}
 use mathlib.Core.List.{List}
 use native.Mathlib.Nat.{le_trans, le_of_eq, mul-le-mul_right}
 use native.Mathlib.Omega.{arith}
-use lib.Dec.{leb, eqb}
 use borrow.Author.Tests.{eq-eqb, not-true, not-false}
-use Rattle.tariff.specs.Sizes.{long_term_step, last_season_tier}
+use Rattle.tariff.specs.Sizes.{long_term_step}
 use Rattle.source_evidence.specs.declared.evidence.Entry.{Entry}
 use Rattle.tariff.specs.Sum.{when_true, sum_to}
-use Rattle.tariff.specs.Terms.{term_of}
 use Rattle.tariff.proofs.Sums.{when_is_true, when_is_false, when_le, sum_ext, sum_bound, sum_part_le}
 use Rattle.ledger.specs.Opening.{Opening, has_source}
 use Rattle.ledger.specs.Ledger.{Ledger}
@@ -24,11 +22,6 @@ use Rattle.slots.proofs.Reachable.{counts, sound}
 use Rattle.slots.proofs.Figures.{from_zero, summable}
 use Rattle.slots.proofs.PathSums.{source_sum_fits}
 use Rattle.nomination_tests.specs.Usage.{awards_used}
-
--- the test, as code makes it
-pub same_evidence : (tier n one two : ℕ) → one ≡ term_of n → two ≡ term_of tier → (leb 1 n && (eqb one two || leb n last_season_tier)) ≡ uses_same_evidence tier n
-unfolding uses_same_evidence
-same_evidence tier n one two e f = λ i. leb 1 n && (eqb (e i) (f i) || leb n last_season_tier)
 
 -- the open tier's nominations stand by themselves
 pub nominated_now : (f : List ℕ) (m : List Bool) (x : List Entry) (h p : ℕ) → h < 8 → p < 16 → read_at figure_slots 0 f h p nominated_slot ≡ (ledger_in f m x).tiers.nominated h p (ledger_in f m x).tiers.current_tier

@@ -23,7 +23,7 @@ pub fn exceeds_tier_1_award(o: &[u64], f: &[u64], h: u64, p: u64, kw: u64) -> bo
 {
     let award = read(f, h, p, AWARDS_SLOT + 1);
     let wanted = read(f, h, p, NOMINATED_SLOT) + kw;
-    (current_tier(f) == LONG_TERM_STEP) & (award < wanted)
+    current_tier(f) == LONG_TERM_STEP && award < wanted
 }
 
 // Whether ten-year evidence is needed: by an OBAALSE always, by another holder where with kw more its nominations at the base, and its carried
@@ -49,8 +49,7 @@ fn needs_evidence_at(o: &[u64], f: &[u64], h: u64, p: u64, q: u64) -> bool
     if q == p {
         return true;
     }
-    let same_base = path_base(o, q) == path_base(o, p);
-    same_base & (1 <= read(f, h, q, NOMINATED_SLOT))
+    path_base(o, q) == path_base(o, p) && 1 <= read(f, h, q, NOMINATED_SLOT)
 }
 
 // Whether it is needed at the source of path q, which has none.
@@ -58,9 +57,7 @@ fn lacks_evidence_at(o: &[u64], f: &[u64], h: u64, p: u64, q: u64) -> bool
     requires { PathPair o.now f.now h p q }
     ensures { InFigures o.now f.now (λ O L. result ≡ (needs_evidence_at O L L.tiers.current_tier h p q && not (has_ten_year L h (path_source O q)))) }
 {
-    let needed = needs_evidence_at(o, f, h, p, q);
-    let has = has_ten_year(o, f, h, path_source(o, q));
-    needed & !has
+    needs_evidence_at(o, f, h, p, q) && !has_ten_year(o, f, h, path_source(o, q))
 }
 
 // Whether there is such a path.
@@ -68,15 +65,7 @@ fn some_path_lacks(o: &[u64], f: &[u64], h: u64, p: u64) -> bool
     requires { PathInputs o.now f.now h p }
     ensures { InFigures o.now f.now (λ O L. result ≡ any_below O.paths (λ q. needs_evidence_at O L L.tiers.current_tier h p q && not (has_ten_year L h (path_source O q)))) }
 {
-    let past = paths(o);
-    let mut q: u64 = 0;
-    while q < past {
-        if lacks_evidence_at(o, f, h, p, q) {
-            return true;
-        }
-        q += 1;
-    }
-    false
+    (0..paths(o)).any(|q| lacks_evidence_at(o, f, h, p, q))
 }
 
 // Cause 18: in the step, ten-year evidence is needed at a source that has none.

@@ -21,7 +21,7 @@ pub fn has_evidence(o: &[u64], f: &[u64], h: u64, s: u64) -> bool
 {
     let ownership = COVERAGE_SLOT + term_of(current_tier(f));
     let contract = ownership + TERMS;
-    is_covered(f, h, s, ownership) | is_covered(f, h, s, contract)
+    is_covered(f, h, s, ownership) || is_covered(f, h, s, contract)
 }
 
 // What a holder has verified of a source for the open tier's term: ownership and contract add.
@@ -35,10 +35,11 @@ pub fn verified_kw(o: &[u64], f: &[u64], h: u64, s: u64) -> u64
 }
 
 // Whether the awards of tier n, before this tier, use the same evidence.
+#[tactic(auto, unfolding(ledger::specs::Verification::uses_same_evidence))]
 fn uses_same_evidence(tier: u64, n: u64) -> bool
     ensures { result ≡ uses_same_evidence tier n }
 {
-    (1 <= n) & ((term_of(n) == term_of(tier)) | (n <= LAST_SEASON_TIER))
+    1 <= n && (term_of(n) == term_of(tier) || n <= LAST_SEASON_TIER)
 }
 
 // What a holder's awards from a source in tier n use of its evidence for a later tier. Awards that use none are not summed.

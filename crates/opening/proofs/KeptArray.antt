@@ -1,11 +1,17 @@
 -- The array that keeps an opening: its counts are stored, and its lists are copied in one after another. Assumes nothing.
-use Prim.Native.Nat.{ℕ, ◌+◌, ◌≤◌}
+use Prim.Native.Nat.{ℕ, ◌+◌, ◌-◌, ◌≤◌, ◌<◌, min}
+use mathlib.Core.Bool.{true, false}
+use mathlib.Core.Logic.{◌⊎◌, inl, inr}
+use lib.Dec.{ltb}
+use borrow.Author.Tests.{ltb-true, ltb-false}
+use Rattle.tariff.proofs.Tests.{decided}
+use Rattle.std.proofs.lemmas.List.{length-replicate, get_or-replicate, get_or-append_right, get_or_past}
 use mathlib.Core.Path.{◌≡◌, refl, sym, ap, ◌∙◌}
 use mathlib.Core.List.{List, [], ◌∷◌, ◌++◌, append_assoc}
 use native.Mathlib.Nat.{le_of_eq}
 use native.Mathlib.Omega.{arith}
-use lib.ListN.{length, get_or, take, drop, set, length-append, length-set, length-drop}
-use lib.Seq.{length-take-le, take_all, take_at, drop-drop}
+use lib.ListN.{length, get_or, take, drop, set, replicate, length-append, length-set, length-drop, get_or-append}
+use lib.Seq.{get_or-take, length-take-le, take_all, take_at, drop-drop}
 use borrow.Rule.Slice.PartMut.{mid_of, post_of, put_mid, same_len_mid}
 use Rattle.tariff.specs.Sum.{tabulate}
 use Rattle.tariff.proofs.Lists.{length_tabulate, list_is}
@@ -22,6 +28,27 @@ counts_first (a ∷ []) holders sources sinks paths l = absurd (omega arith)
 counts_first (a ∷ b ∷ []) holders sources sinks paths l = absurd (omega arith)
 counts_first (a ∷ b ∷ c ∷ []) holders sources sinks paths l = absurd (omega arith)
 counts_first (a ∷ b ∷ c ∷ d ∷ rest) holders sources sinks paths l = refl
+
+-- a list copied in front, as much as there is room for, and 0 behind it
+pub copied_in : (to from front back : List ℕ) (n room : ℕ) → n ≡ min (length to) (length from) → front ≡ take n from → room + n ≡ length to → back ≡ replicate room 0 → front ++ back ≡ tabulate (length to) (λ k. get_or from k 0)
+copied_in to from front back n room fits f e b = list_is (length to) (λ k. get_or from k 0) (front ++ back) (omega (arith, length-append front back, long, behind)) (λ k l. go k l (decided (ltb k n)))
+  where
+    long : length front ≡ n
+    long = ap length f ∙ length-take-le n from (omega arith)
+
+    behind : length back ≡ room
+    behind = ap length b ∙ length-replicate room 0
+
+    go : (k : ℕ) → k < length to → (ltb k n ≡ true) ⊎ (ltb k n ≡ false) → get_or (front ++ back) k 0 ≡ get_or from k 0
+    go k l (inl t) =
+        let below = ltb-true k n t in
+        get_or-append front back 0 k (omega (arith, long)) ∙ ap (λ xs. get_or xs k 0) f ∙ get_or-take n from k 0 below
+    go k l (inr t) =
+        let above = ltb-false k n t in
+        get_or-append_right front back n k 0 long above
+        ∙ ap (λ xs. get_or xs (k - n) 0) b
+        ∙ get_or-replicate room (k - n) 0 0 (omega arith)
+        ∙ sym (get_or_past from k 0 (omega arith))
 
 -- a list copied in after what stands there
 module _ (a k : ℕ) (xs from ys : List ℕ) (size : length xs ≡ opening_count) (fits : a + k ≤ opening_count) (copied : ys ≡ with_room (length (mid_of a k xs)) from) where
@@ -130,6 +157,6 @@ numbers_kept o before size keeps =
     ∙ ap (λ xs. xs ++ settings_numbers o.settings) keeps
 
 -- an array with nothing but 0 and the present settings keeps the opening with nothing in it
-pub empty_kept : (zeros : List ℕ) → zeros ≡ tabulate opening_count (λ k. 0) → take settings_at zeros ++ (settings_numbers present_settings ++ drop bases_at zeros) ≡ opening_array empty_opening
+pub empty_kept : (zeros : List ℕ) → zeros ≡ replicate opening_count 0 → take settings_at zeros ++ (settings_numbers present_settings ++ drop bases_at zeros) ≡ opening_array empty_opening
 unfolding opening_array opening_numbers opening_lists path_bases path_base base path_sink empty_opening tabulate present_settings settings_of fraction_at settings_numbers
 empty_kept zeros e = ap (λ zs. take settings_at zs ++ (settings_numbers present_settings ++ drop bases_at zs)) e

@@ -3,6 +3,7 @@ use Prim.Native.Nat.{ℕ, ◌≤◌}
 use mathlib.Core.Path.{◌≡◌, refl, sym, ap, ◌∙◌}
 use mathlib.Core.Bool.{Bool, true, false, cond, ◌&&◌}
 use mathlib.Core.List.{List, ◌++◌}
+use mathlib.Core.Logic.{◌⊎◌, inl, inr}
 use native.Mathlib.Omega.{arith}
 use lib.ListN.{length, get_or, take, drop}
 use lib.Seq.{length-take-le}
@@ -10,7 +11,7 @@ use borrow.Author.Tests.{eq-eqb}
 use borrow.Rule.Slice.PartMut.{mid_len}
 use Rattle.tariff.specs.Sum.{all_below}
 use Rattle.tariff.specs.Settings.{settings_legal}
-use Rattle.tariff.proofs.Tests.{and_join, and_right_false}
+use Rattle.tariff.proofs.Tests.{decided, and_join, and_right_false}
 use Rattle.ledger.specs.Opening.{Opening, counts_fit, lists_fit, holder_legal, sink_legal, path_legal, path_new, legal, opening_refusal}
 use Rattle.ledger.proofs.LegalFacts.{legal_facts}
 use Rattle.records.specs.declared.answers.Answer.TheVariants.{Done, Refused}
@@ -19,7 +20,7 @@ use Rattle.records.proofs.OpeningLaws.{counts_small, opening_before, opening_by_
 use Rattle.opening.specs.Opened.{opening_answer, resulting_opening}
 
 -- an opening whose counts or lists do not fit is not legal
-pub unfit_counts : (o : Opening) → counts_fit o ≡ false → legal o ≡ false
+unfit_counts : (o : Opening) → counts_fit o ≡ false → legal o ≡ false
 unfolding legal
 unfit_counts o e = rw e
 
@@ -45,10 +46,14 @@ array_lists o size e =
     (eq-eqb _ _ (counted (get_or o 3 0) 16 (take 16 (drop 44 o)) (mid_len 44 60 o (omega arith)) n.2)))
     (eq-eqb _ _ (counted (get_or o 3 0) 16 (take 16 (drop 60 o)) (mid_len 60 76 o (omega arith)) n.2))
 
--- where the counts fit, an array is legal by its holders, sinks and paths, and its settings
-pub legal_by_lines : (o : List ℕ) → length o ≡ opening_count → counts_fit (opening_in o) ≡ true → (all_below (opening_in o).holders (holder_legal (opening_in o)) && all_below (opening_in o).sinks (sink_legal (opening_in o)) && all_below (opening_in o).paths (path_legal (opening_in o)) && all_below (opening_in o).paths (path_new (opening_in o)) && settings_legal (opening_in o).settings) ≡ legal (opening_in o)
+-- an array is legal by its counts, its holders, sinks and paths, and its settings
+pub legal_by_lines : (o : List ℕ) → length o ≡ opening_count → legal (opening_in o) ≡ (counts_fit (opening_in o) && all_below (opening_in o).holders (holder_legal (opening_in o)) && all_below (opening_in o).sinks (sink_legal (opening_in o)) && all_below (opening_in o).paths (path_legal (opening_in o)) && all_below (opening_in o).paths (path_new (opening_in o)) && settings_legal (opening_in o).settings)
 unfolding legal opening_in
-legal_by_lines o size e = rw (e, array_lists o size e)
+legal_by_lines o size = go (decided (counts_fit (opening_in o)))
+  where
+    go : (counts_fit (opening_in o) ≡ true) ⊎ (counts_fit (opening_in o) ≡ false) → legal (opening_in o) ≡ (counts_fit (opening_in o) && all_below (opening_in o).holders (holder_legal (opening_in o)) && all_below (opening_in o).sinks (sink_legal (opening_in o)) && all_below (opening_in o).paths (path_legal (opening_in o)) && all_below (opening_in o).paths (path_new (opening_in o)) && settings_legal (opening_in o).settings)
+    go (inl e) = rw (e, array_lists o size e)
+    go (inr e) = rw e
 
 -- an array keeps the counts as they are
 counts_same : (o : Opening) → counts_fit (opening_in (opening_numbers o)) ≡ counts_fit o

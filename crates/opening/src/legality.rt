@@ -12,137 +12,112 @@ use records::setup::{
 use tariff::sizes::{MAX_HOLDERS, MAX_PLACES};
 
 // At most 8 holders, 16 sources, 16 sinks and 16 paths.
+#[tactic(auto, unfolding(ledger::specs::Opening::counts_fit))]
 fn counts_fit(o: &[u64]) -> bool
     ensures { result ≡ counts_fit (opening_of o.entry) }
 {
-    let few_holders = holders(o) <= MAX_HOLDERS as u64;
-    let few_sources = sources(o) <= MAX_PLACES as u64;
-    let few_sinks = sinks(o) <= MAX_PLACES as u64;
-    let few_paths = paths(o) <= MAX_PLACES as u64;
-    few_holders & few_sources & few_sinks & few_paths
+    holders(o) <= MAX_HOLDERS as u64
+        && sources(o) <= MAX_PLACES as u64
+        && sinks(o) <= MAX_PLACES as u64
+        && paths(o) <= MAX_PLACES as u64
 }
 
 // A holder is of kind 1 or 2.
+#[tactic(auto, unfolding(ledger::specs::Opening::holder_legal))]
 fn holder_legal(o: &[u64], h: u64) -> bool
     ensures { result ≡ holder_legal (opening_of o.entry) h }
 {
     let kind = holder_kind(o, h);
-    (kind == LSE) | (kind == OBAALSE)
+    kind == LSE || kind == OBAALSE
 }
 
 // A Sub-LAP's parent has a lower number and is a Default LAP.
+#[tactic(auto, unfolding(ledger::specs::Opening::parent_legal))]
 fn parent_legal(o: &[u64], s: u64) -> bool
     ensures { result ≡ parent_legal (opening_of o.entry) s }
 {
     let parent = sink_base(o, s);
-    let parent_kind = sink_kind(o, parent);
-    (parent < s) & (parent_kind == DEFAULT_LAP)
+    parent < s && sink_kind(o, parent) == DEFAULT_LAP
 }
 
 // A sink is of kind 1 to 4; a Sub-LAP has a parent, any other sink names itself.
+#[tactic(auto, unfolding(ledger::specs::Opening::sink_legal))]
 fn sink_legal(o: &[u64], s: u64) -> bool
     ensures { result ≡ sink_legal (opening_of o.entry) s }
 {
     let kind = sink_kind(o, s);
-    let kind_fits = (DEFAULT_LAP <= kind) & (kind <= SCHEDULING_POINT);
-    if kind == SUB_LAP {
-        return kind_fits & parent_legal(o, s);
+    if !(DEFAULT_LAP..=SCHEDULING_POINT).contains(&kind) {
+        return false;
     }
-    kind_fits & (sink_base(o, s) == s)
+    if kind == SUB_LAP {
+        return parent_legal(o, s);
+    }
+    sink_base(o, s) == s
 }
 
 // A path's source and sink are in the book.
+#[tactic(auto, unfolding(ledger::specs::Opening::path_legal))]
 fn path_legal(o: &[u64], p: u64) -> bool
     ensures { result ≡ path_legal (opening_of o.entry) p }
 {
-    let source = path_source(o, p);
-    let sink = path_sink(o, p);
-    (source < sources(o)) & (sink < sinks(o))
+    path_source(o, p) < sources(o) && path_sink(o, p) < sinks(o)
 }
 
 // Two paths share both source and sink.
+#[tactic(auto, unfolding(ledger::specs::Opening::paths_alike))]
 fn paths_alike(o: &[u64], p: u64, q: u64) -> bool
     ensures { result ≡ paths_alike (opening_of o.entry) p q }
 {
-    let same_source = path_source(o, p) == path_source(o, q);
-    let same_sink = path_sink(o, p) == path_sink(o, q);
-    same_source & same_sink
+    path_source(o, p) == path_source(o, q) && path_sink(o, p) == path_sink(o, q)
 }
 
 // Every holder is legal.
 fn holders_legal(o: &[u64]) -> bool
     ensures { result ≡ all_below (opening_of o.entry).holders (holder_legal (opening_of o.entry)) }
 {
-    let past = holders(o);
-    let mut h: u64 = 0;
-    while h < past {
-        if !holder_legal(o, h) {
-            return false;
-        }
-        h += 1;
-    }
-    true
+    (0..holders(o)).all(|h| holder_legal(o, h))
 }
 
 // Every sink is legal.
 fn sinks_legal(o: &[u64]) -> bool
     ensures { result ≡ all_below (opening_of o.entry).sinks (sink_legal (opening_of o.entry)) }
 {
-    let past = sinks(o);
-    let mut s: u64 = 0;
-    while s < past {
-        if !sink_legal(o, s) {
-            return false;
-        }
-        s += 1;
-    }
-    true
+    (0..sinks(o)).all(|s| sink_legal(o, s))
 }
 
 // Every path is legal.
 fn paths_legal(o: &[u64]) -> bool
     ensures { result ≡ all_below (opening_of o.entry).paths (path_legal (opening_of o.entry)) }
 {
-    let past = paths(o);
-    let mut p: u64 = 0;
-    while p < past {
-        if !path_legal(o, p) {
-            return false;
-        }
-        p += 1;
-    }
-    true
+    (0..paths(o)).all(|p| path_legal(o, p))
 }
 
 // No two paths share both source and sink. The first pair that does ends the search.
 fn paths_differ(o: &[u64]) -> bool
     ensures { result ≡ all_below (opening_of o.entry).paths (path_new (opening_of o.entry)) }
 {
-    let past = paths(o);
     let mut differ = true;
-    let mut p: u64 = 0;
-    'pairs: while p < past {
-        let mut q: u64 = 0;
-        while q < p {
+    'pairs: for p in 0..paths(o) {
+        for q in 0..p {
             if paths_alike(o, p, q) {
                 differ = false;
                 break 'pairs;
             }
-            q += 1;
         }
-        p += 1;
     }
     differ
 }
 
 // The opening breaks no rule. The counts come first, as they bound the loops of the rest.
+#[tactic(auto, using(crate::proofs::KeptOpening::legal_by_lines))]
 pub fn is_legal(o: &[u64]) -> bool
     requires { length o.now ≡ opening_count }
     ensures { result ≡ legal (opening_of o.entry) }
 {
-    if !counts_fit(o) {
-        return false;
-    }
-    let lines = holders_legal(o) & sinks_legal(o) & paths_legal(o) & paths_differ(o);
-    lines & settings(o).is_legal()
+    counts_fit(o)
+        && holders_legal(o)
+        && sinks_legal(o)
+        && paths_legal(o)
+        && paths_differ(o)
+        && settings(o).is_legal()
 }

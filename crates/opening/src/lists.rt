@@ -7,7 +7,6 @@ ghost use Rattle.records.specs.Opening.{opening_count, settings_at, bases_at, op
 ghost use Rattle.opening.specs.Opened.{opening_asked};
 
 use crate::book_setup::BookSetup;
-use records::lists::clear;
 use records::setup::{
     BASES_AT, HOLDER_KINDS_AT, OPENING_COUNT, PATH_SINKS_AT, PATH_SOURCES_AT, SETTINGS_AT,
     SINK_KINDS_AT, SINK_PARENTS_AT, base_by_sink,
@@ -19,11 +18,10 @@ use tariff::sizes::{MAX_PLACES, SETTING_COUNT};
 fn copy_into(to: &mut [u64], from: &[u64])
     ensures { to.new ≡ tabulate (length to.old) (λ k. get_or from.now k 0) }
 {
-    let mut k = 0;
-    while k < to.len() {
-        to[k] = if k < from.len() { from[k] } else { 0 };
-        k += 1;
-    }
+    let n = to.len().min(from.len());
+    let (front, rest) = to.split_at_mut(n);
+    front.copy_from_slice(&from[..n]);
+    rest.fill(0);
 }
 
 // The counts and lists that a book is opened with, kept in an array.
@@ -56,7 +54,7 @@ pub fn keep_nothing(o: &mut [u64])
     requires { length o.old ≡ opening_count }
     ensures { o.new ≡ opening_array empty_opening }
 {
-    clear(o);
+    o.fill(0);
     keep_settings(o, Settings::present());
 }
 
@@ -64,13 +62,7 @@ pub fn keep_nothing(o: &mut [u64])
 fn path_bases(o: &[u64]) -> [u64; MAX_PLACES]
     ensures { result ≡ path_bases (opening_of o.entry) }
 {
-    let mut bases = [0u64; MAX_PLACES];
-    let mut p = 0;
-    while p < MAX_PLACES {
-        bases[p] = base_by_sink(o, p as u64);
-        p += 1;
-    }
-    bases
+    std::array::from_fn(|p| base_by_sink(o, p as u64))
 }
 
 // The bases kept after the settings.

@@ -18,7 +18,7 @@ pub fn open(o: &mut [u64], setup: BookSetup) -> Answer
     keep_opening(o, setup);
     keep_settings(o, setup.settings);
     let lists = lists_fit(setup);
-    if lists & is_legal(o) {
+    if lists && is_legal(o) {
         keep_bases(o);
         return Answer::Done;
     }

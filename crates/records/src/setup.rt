@@ -34,78 +34,91 @@ pub const BASES_AT: usize = 88;
 // How many numbers keep an opening.
 pub const OPENING_COUNT: usize = 104;
 
+#[tactic(auto, unfolding(crate::specs::Opening::opening_in))]
 pub fn holders(o: &[u64]) -> u64
     ensures { result ≡ (opening_of o.entry).holders }
 {
     number_at(o, 0)
 }
 
+#[tactic(auto, unfolding(crate::specs::Opening::opening_in))]
 pub fn sources(o: &[u64]) -> u64
     ensures { result ≡ (opening_of o.entry).sources }
 {
     number_at(o, 1)
 }
 
+#[tactic(auto, unfolding(crate::specs::Opening::opening_in))]
 pub fn sinks(o: &[u64]) -> u64
     ensures { result ≡ (opening_of o.entry).sinks }
 {
     number_at(o, 2)
 }
 
+#[tactic(auto, unfolding(crate::specs::Opening::opening_in))]
 pub fn paths(o: &[u64]) -> u64
     ensures { result ≡ (opening_of o.entry).paths }
 {
     number_at(o, 3)
 }
 
+#[tactic(auto, unfolding(ledger::specs::Ranges::unknown_holder))]
 pub fn unknown_holder(o: &[u64], h: u64) -> bool
     ensures { result ≡ unknown_holder (opening_of o.entry) h }
 {
     holders(o) <= h
 }
 
+#[tactic(auto, unfolding(ledger::specs::Ranges::unknown_source))]
 pub fn unknown_source(o: &[u64], s: u64) -> bool
     ensures { result ≡ unknown_source (opening_of o.entry) s }
 {
     sources(o) <= s
 }
 
+#[tactic(auto, unfolding(ledger::specs::Ranges::unknown_sink))]
 pub fn unknown_sink(o: &[u64], s: u64) -> bool
     ensures { result ≡ unknown_sink (opening_of o.entry) s }
 {
     sinks(o) <= s
 }
 
+#[tactic(auto, unfolding(ledger::specs::Ranges::unknown_path))]
 pub fn unknown_path(o: &[u64], p: u64) -> bool
     ensures { result ≡ unknown_path (opening_of o.entry) p }
 {
     paths(o) <= p
 }
 
+#[tactic(auto, unfolding(crate::specs::Opening::opening_in, ledger::specs::Opening::holder_kind))]
 pub fn holder_kind(o: &[u64], h: u64) -> u64
     ensures { result ≡ holder_kind (opening_of o.entry) h }
 {
     list_entry(o, HOLDER_KINDS_AT, MAX_HOLDERS as u64, holders(o), h)
 }
 
+#[tactic(auto, unfolding(crate::specs::Opening::opening_in, ledger::specs::Opening::sink_kind))]
 pub fn sink_kind(o: &[u64], s: u64) -> u64
     ensures { result ≡ sink_kind (opening_of o.entry) s }
 {
     list_entry(o, SINK_KINDS_AT, MAX_PLACES as u64, sinks(o), s)
 }
 
+#[tactic(auto, unfolding(crate::specs::Opening::opening_in, ledger::specs::Opening::base))]
 pub fn sink_base(o: &[u64], s: u64) -> u64
     ensures { result ≡ base (opening_of o.entry) s }
 {
     list_entry(o, SINK_PARENTS_AT, MAX_PLACES as u64, sinks(o), s)
 }
 
+#[tactic(auto, unfolding(crate::specs::Opening::opening_in, ledger::specs::Opening::path_source))]
 pub fn path_source(o: &[u64], p: u64) -> u64
     ensures { result ≡ path_source (opening_of o.entry) p }
 {
     list_entry(o, PATH_SOURCES_AT, MAX_PLACES as u64, paths(o), p)
 }
 
+#[tactic(auto, unfolding(crate::specs::Opening::opening_in, ledger::specs::Opening::path_sink))]
 pub fn path_sink(o: &[u64], p: u64) -> u64
     ensures { result ≡ path_sink (opening_of o.entry) p }
 {
@@ -113,6 +126,7 @@ pub fn path_sink(o: &[u64], p: u64) -> u64
 }
 
 // The base of a path's sink, looked up by way of the sink.
+#[tactic(auto, unfolding(ledger::specs::Opening::path_base))]
 pub fn base_by_sink(o: &[u64], p: u64) -> u64
     ensures { result ≡ path_base (opening_of o.entry) p }
 {
@@ -141,6 +155,7 @@ fn fraction_at(o: &[u64], k: usize) -> Fraction
 }
 
 // The fractions that the book was opened with.
+#[tactic(auto, unfolding(crate::specs::Opening::opening_in, tariff::specs::Settings::settings_of))]
 pub fn settings(o: &[u64]) -> Settings
     ensures { result ≡ (opening_of o.entry).settings }
 {
@@ -165,6 +180,7 @@ pub fn legal_settings(o: &[u64]) -> LegalSettings
 }
 
 // Cause 10 by kinds: a scheduling point is not for an LSE, and nothing else is for an OBAALSE.
+#[tactic(auto, unfolding(ledger::specs::Causes::kind_ineligible))]
 pub fn kind_ineligible(o: &[u64], h: u64, s: u64) -> bool
     ensures { result ≡ kind_ineligible (opening_of o.entry) h s }
 {
@@ -175,6 +191,7 @@ pub fn kind_ineligible(o: &[u64], h: u64, s: u64) -> bool
     !scheduling_point
 }
 
+#[tactic(auto, unfolding(ledger::specs::Causes::is_sub_lap))]
 pub fn is_sub_lap(o: &[u64], s: u64) -> bool
     ensures { result ≡ is_sub_lap (opening_of o.entry) s }
 {

@@ -2,7 +2,7 @@
 -- one stored cell changes the function in one place. One law for every width. Assumes nothing.
 use Prim.Native.Nat.{ℕ, suc, ◌+◌, ◌-◌, ◌*◌, ◌/◌, ◌%◌, ◌≤◌, ◌<◌}
 use mathlib.Core.Path.{◌≡◌, refl, sym, ap, ◌∙◌}
-use mathlib.Core.Bool.{true, false, cond, ◌&&◌}
+use mathlib.Core.Bool.{true, false, cond}
 use mathlib.Core.List.{List, ◌++◌}
 use mathlib.Core.Logic.{◌⊎◌, inl, inr}
 use native.Mathlib.Nat.{mul-add-div_right, div-eq_of_lt, mul-add-mod_self_right, mod-eq_of_lt, div-lt_iff_lt-mul, mod-lt, div-add-mod', mul-le-mul_right, suc-mul}
@@ -10,13 +10,13 @@ use native.Mathlib.Omega.{arith}
 use lib.ListN.{length, get_or, set, length-set, length-append, get_or-append}
 use lib.Seq.{ext_get_or, get_or-set_same, get_or-set_other, get_or-append-add}
 use lib.Dec.{ltb}
-use borrow.Author.Tests.{ltb-true, ltb-false, lt-ltb, le-ltb, eq-eqb}
+use borrow.Author.Tests.{ltb-true, ltb-false, eq-eqb}
 use Rattle.tariff.specs.Sum.{tabulate}
-use Rattle.tariff.proofs.Tests.{and_join, and_right_false, decided, both_ways}
+use Rattle.tariff.proofs.Tests.{and_join, decided, both_ways}
 use Rattle.tariff.proofs.Lists.{length_tabulate, at_tabulate}
 use Rattle.ledger.specs.Effects.{same3}
 use Rattle.ledger.proofs.TiersSound.{same_place}
-use Rattle.slots.specs.Cells.{rows, cell_of, HasCell, read_at, look_at, stored_at, added_at, array_of, Shows}
+use Rattle.slots.specs.Cells.{rows, cell_of, HasCell, read_at, stored_at, added_at, array_of, Shows}
 use Rattle.slots.specs.Layout.{figure_slots}
 
 -- a row and a slot in it, from the number of the cell
@@ -168,37 +168,6 @@ module _ {A : Type 0} where
 pub cell_small : (width h p slot : ℕ) → width ≤ figure_slots → HasCell width h p slot → (h * 16 + p) * width + slot < 8192
 unfolding cell_of
 cell_small width h p slot w c = let l = cell_below width h p slot c in omega arith
-
-module _ {A : Type 0} (width : ℕ) (none : A) (cells : List A) (h p slot : ℕ) where
-  -- a cell that is looked for: there, or not
-  pub look_here : HasCell width h p slot → read_at width none cells h p slot ≡ look_at width none cells h p slot
-  unfolding look_at
-  look_here c = sym (ap (λ t. cond t (read_at width none cells h p slot) none) (and_join (and_join (lt-ltb h 8 c.holder) (lt-ltb p 16 c.place)) (lt-ltb slot width c.in_row)))
-
-  pub look_unknown_holder : 8 ≤ h → none ≡ look_at width none cells h p slot
-  unfolding look_at
-  look_unknown_holder l = sym (ap (λ t. cond (t && ltb p 16 && ltb slot width) (read_at width none cells h p slot) none) (le-ltb h 8 l))
-
-  pub look_no_place : 16 ≤ p → none ≡ look_at width none cells h p slot
-  unfolding look_at
-  look_no_place l = sym (ap (λ t. cond (t && ltb slot width) (read_at width none cells h p slot) none) (and_right_false (ltb h 8) (le-ltb p 16 l)))
-
-  pub look_no_slot : width ≤ slot → none ≡ look_at width none cells h p slot
-  unfolding look_at
-  look_no_slot l = sym (ap (λ t. cond t (read_at width none cells h p slot) none) (and_right_false (ltb h 8 && ltb p 16) (le-ltb slot width l)))
-
-  -- a cell read or stored by its number
-  pub read_is : (at : ℕ) → at ≡ cell_of width h p slot → get_or cells at none ≡ read_at width none cells h p slot
-  unfolding read_at
-  read_is at e = ap (λ i. get_or cells i none) e
-
-  pub stored_is : (v : A) (at : ℕ) → at ≡ cell_of width h p slot → set cells at v ≡ stored_at width cells h p slot v
-  unfolding stored_at
-  stored_is v at e = ap (λ i. set cells i v) e
-
-pub added_is : (width : ℕ) (cells next : List ℕ) (h p slot kw v : ℕ) → next ≡ stored_at width cells h p slot (v + kw) → v ≡ read_at width 0 cells h p slot → next ≡ added_at width cells h p slot kw
-unfolding added_at
-added_is width cells next h p slot kw v e r = e ∙ ap (λ u. stored_at width cells h p slot (u + kw)) r
 
 -- an addition leaves the array's length, and the other slots of its row
 pub added_long : (width : ℕ) (cells : List ℕ) (h p slot kw : ℕ) → length (added_at width cells h p slot kw) ≡ length cells

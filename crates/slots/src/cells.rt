@@ -7,6 +7,7 @@ use crate::layout::{FIGURE_SLOTS, POSTED_SLOTS, ROWS};
 use tariff::sizes::{MAX_HOLDERS, MAX_PLACES};
 
 // The cell of a holder, a place and a slot.
+#[tactic(auto, using(crate::proofs::CellLaws::cell_small, crate::proofs::CellLaws::cell_below), unfolding(crate::specs::Cells::cell_of))]
 pub fn cell(width: u64, h: u64, p: u64, slot: u64) -> usize
     requires { (width ≤ figure_slots) × HasCell width h p slot }
     ensures { IsCell width h p slot result }
@@ -15,24 +16,25 @@ pub fn cell(width: u64, h: u64, p: u64, slot: u64) -> usize
 }
 
 // What stands in a slot of the figures.
+#[tactic(auto, unfolding(crate::specs::Cells::read_at))]
 pub fn read(f: &[u64], h: u64, p: u64, slot: u64) -> u64
     requires { HasCell figure_slots h p slot × (length f.now ≡ figure_count) }
     ensures { result ≡ read_at figure_slots 0 f.now h p slot }
 {
-    let at = cell(FIGURE_SLOTS, h, p, slot);
-    f[at]
+    f[cell(FIGURE_SLOTS, h, p, slot)]
 }
 
 // A number stored in a slot of the figures.
+#[tactic(auto, unfolding(crate::specs::Cells::stored_at))]
 pub fn store(f: &mut [u64], h: u64, p: u64, slot: u64, v: u64)
     requires { HasCell figure_slots h p slot × (length f.old ≡ figure_count) }
     ensures { f.new ≡ stored_at figure_slots f.old h p slot v }
 {
-    let at = cell(FIGURE_SLOTS, h, p, slot);
-    f[at] = v;
+    f[cell(FIGURE_SLOTS, h, p, slot)] = v;
 }
 
 // kw more in a slot of the figures.
+#[tactic(auto, unfolding(crate::specs::Cells::added_at))]
 pub fn add(f: &mut [u64], h: u64, p: u64, slot: u64, kw: u64)
     requires { HasCell figure_slots h p slot × (length f.old ≡ figure_count) × (read_at figure_slots 0 f.old h p slot + kw < 2 ^ 64) }
     ensures { f.new ≡ added_at figure_slots f.old h p slot kw }
@@ -42,30 +44,24 @@ pub fn add(f: &mut [u64], h: u64, p: u64, slot: u64, kw: u64)
 }
 
 // Whether something was posted, by holder, place and slot; where there is no slot, nothing was.
+#[tactic(auto, unfolding(crate::specs::Cells::look_at, crate::specs::Cells::read_at))]
 pub fn is_posted(posted: &[bool], h: u64, p: u64, slot: u64) -> bool
     requires { length posted.now ≡ posted_count }
     ensures { result ≡ look_at posted_slots false posted.now h p slot }
 {
-    if h >= MAX_HOLDERS as u64 {
-        return false;
-    }
-    if p >= MAX_PLACES as u64 {
-        return false;
-    }
-    if slot >= POSTED_SLOTS {
-        return false;
-    }
-    let at = cell(POSTED_SLOTS, h, p, slot);
-    posted[at]
+    h < MAX_HOLDERS as u64
+        && p < MAX_PLACES as u64
+        && slot < POSTED_SLOTS
+        && posted[cell(POSTED_SLOTS, h, p, slot)]
 }
 
 // Something noted as posted.
+#[tactic(auto, unfolding(crate::specs::Cells::stored_at))]
 pub fn set_posted(posted: &mut [bool], h: u64, p: u64, slot: u64)
     requires { HasCell posted_slots h p slot × (length posted.old ≡ posted_count) }
     ensures { posted.new ≡ stored_at posted_slots posted.old h p slot true }
 {
-    let at = cell(POSTED_SLOTS, h, p, slot);
-    posted[at] = true;
+    posted[cell(POSTED_SLOTS, h, p, slot)] = true;
 }
 
 // A slot of the figures put to 0 for every holder at every place.
@@ -73,10 +69,7 @@ pub fn clear(f: &mut [u64], slot: u64)
     requires { (slot < figure_slots) × (length f.old ≡ figure_count) }
     ensures { f.new ≡ cleared_to figure_slots slot f.old rows }
 {
-    let mut row: u64 = 0;
-    while row < ROWS {
-        let at = (row * FIGURE_SLOTS + slot) as usize;
-        f[at] = 0;
-        row += 1;
+    for row in 0..ROWS {
+        f[(row * FIGURE_SLOTS + slot) as usize] = 0;
     }
 }

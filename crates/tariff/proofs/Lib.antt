@@ -9,3 +9,5 @@ pub mod Entering
 pub mod Products
 pub mod Formulas
 pub mod Lists
+pub mod FromFn
+pub mod Counted

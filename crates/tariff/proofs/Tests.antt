@@ -39,6 +39,19 @@ and_right_false false p = refl
 pub or_left_true : {a : Bool} (b : Bool) → a ≡ true → (a || b) ≡ true
 or_left_true b p = rw p
 
+-- a joined test whose first part is known
+pub and_after_true : {a b v : Bool} → a ≡ true → (a && b) ≡ v → b ≡ v
+and_after_true {a} {b} p e = sym (ap (λ t. t && b) p) ∙ e
+
+pub and_after_false : {a v : Bool} (b : Bool) → a ≡ false → (a && b) ≡ v → a ≡ v
+and_after_false b p e = p ∙ sym (ap (λ t. t && b) p) ∙ e
+
+pub or_after_true : {a v : Bool} (b : Bool) → a ≡ true → (a || b) ≡ v → a ≡ v
+or_after_true b p e = p ∙ sym (ap (λ t. t || b) p) ∙ e
+
+pub or_after_false : {a b v : Bool} → a ≡ false → (a || b) ≡ v → b ≡ v
+or_after_false {a} {b} p e = sym (ap (λ t. t || b) p) ∙ e
+
 -- a test is true or false
 pub decided : (t : Bool) → (t ≡ true) ⊎ (t ≡ false)
 decided true = inl refl

@@ -1,6 +1,6 @@
 -- `migrate::class_lines::taken_apart` meets its contract: each column is made of one field of the lines. Assumes nothing.
 use Rattle.std.proofs.Common.{get_or, rules}
-use Rattle.netting.proofs.FromFn.{made_list}
+use Rattle.tariff.proofs.FromFn.{made_list}
 use Rattle.migrate.specs.ClassLines.{no_line, column_of, taken_apart}
 use Rattle.migrate.proofs.class_lines.taken_apart.Goals as goal
 

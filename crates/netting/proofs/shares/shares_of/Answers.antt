@@ -1,7 +1,7 @@
 -- `netting::shares::shares_of` meets its contract: each cell holds its share. Assumes nothing.
 use Rattle.std.proofs.Common.{◌∙◌, rules}
 use Rattle.netting.proofs.ShareCells.{share_cell, share_cells_lem, product_fits}
-use Rattle.netting.proofs.FromFn.{made_list, made_callable}
+use Rattle.tariff.proofs.FromFn.{made_list, made_callable}
 use Rattle.netting.proofs.shares.shares_of.Goals as goal
 
 pub from_fn-requires : goal.from_fn-requires

@@ -2,7 +2,7 @@
 use Rattle.std.proofs.Common.{◌∙◌, rules}
 use Rattle.netting.specs.Netting.{transferred_entry}
 use Rattle.netting.proofs.ShareCells.{all_entries}
-use Rattle.netting.proofs.FromFn.{made_list, made_callable}
+use Rattle.tariff.proofs.FromFn.{made_list, made_callable}
 use Rattle.netting.proofs.shares.transferred_column.Goals as goal
 
 pub from_fn-requires : goal.from_fn-requires

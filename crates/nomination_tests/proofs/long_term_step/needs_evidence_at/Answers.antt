@@ -1,6 +1,9 @@
 -- `nomination_tests::long_term_step::needs_evidence_at` meets its contract. Assumes nothing.
 use native.Mathlib.Nat.{le_trans}
 use native.Mathlib.Omega.{arith}
+use mathlib.Core.Path.{refl}
+use borrow.Author.Tests.{eq-eqb, ne_eqb}
+use Rattle.tariff.proofs.Tests.{and_after_true, and_after_false}
 use Rattle.slots.proofs.Reachable.{bases_known, counts, figures_long}
 use Rattle.nomination_tests.proofs.StepCauses.{needed_here, needed_there}
 use Rattle.nomination_tests.proofs.long_term_step.needs_evidence_at.Goals as goal
@@ -20,8 +23,14 @@ read-requires c =
     let few = counts _ _ _ _ k.figures.reachable in
     (record { holder = le_trans k.holder few.0; place = le_trans k.path few.3; in_row = omega arith }, figures_long _ _ _ _ k.figures.reachable)
 
-pub returns : goal.returns
-returns c m x r =
+pub returns-then-path_base : goal.returns-then-path_base
+returns-then-path_base c m x r =
     let k = c.requires.second in
     let few = counts _ _ m x r in
-    needed_there _ _ m x _ _ _ _ _ _ (le_trans k.holder few.0) (le_trans k.path few.3) c.if-q-p.false c.path_base.ensures c.path_base-2.ensures c.read.ensures
+    and_after_true (eq-eqb _ _ c.if-path_base.true) (needed_there _ _ m x _ _ _ _ _ _ (le_trans k.holder few.0) (le_trans k.path few.3) c.if-q-p.false c.path_base.ensures c.path_base-2.ensures c.read.ensures)
+
+pub returns-else-path_base : goal.returns-else-path_base
+returns-else-path_base c m x r =
+    let k = c.requires.second in
+    let few = counts _ _ m x r in
+    and_after_false _ (ne_eqb _ _ c.if-path_base.false) (needed_there _ _ m x _ _ _ _ _ _ (le_trans k.holder few.0) (le_trans k.path few.3) c.if-q-p.false c.path_base.ensures c.path_base-2.ensures refl)

@@ -1,28 +1,17 @@
--- `nomination_tests::long_term_step::some_path_lacks` meets its contract: no path passed so far passes the test, and the first that does ends the search. Assumes nothing.
-use Prim.Native.Nat.{zero-le}
-use mathlib.Core.Path.{refl, sym, ◌∙◌}
-use native.Mathlib.Omega.{arith}
+-- `nomination_tests::long_term_step::some_path_lacks` meets its contract: the search ends at the first path whose source has none. Assumes nothing.
+use Rattle.std.proofs.Common.{ℕ, not, ◌&&◌, ap, ◌∙◌, rules}
 use Rattle.tariff.specs.Sum.{any_below}
-use Rattle.tariff.proofs.Tests.{none_more}
-use Rattle.records.proofs.Searches.{found, not_found}
-use borrow.Author.Rules.{rules}
+use Rattle.tariff.proofs.Counted.{any_counted}
+use Rattle.ledger.specs.Opening.{path_source}
+use Rattle.ledger.specs.TenYear.{has_ten_year}
+use Rattle.ledger.specs.Causes.{needs_evidence_at}
+use Rattle.records.specs.Opening.{opening_in}
+use Rattle.slots.specs.Layout.{ledger_in}
 use Rattle.nomination_tests.proofs.long_term_step.some_path_lacks.Goals as goal
 
-pub loop-q-init : goal.loop-q-init
-unfolding any_below
-loop-q-init c = (zero-le, λ m x r. refl)
-
-pub lacks_evidence_at-requires : goal.lacks_evidence_at-requires
-lacks_evidence_at-requires c =
-    let k = c.requires in
-    let all = c.paths-past.ensures in
-    record { first = k; second = record { figures = k.figures; holder = k.holder; path = omega arith } }
-
-pub returns-then-lacks_evidence_at : goal.returns-then-lacks_evidence_at
-returns-then-lacks_evidence_at c m x r = let all = c.paths-past.ensures in found _ _ _ (omega arith) (sym (c.lacks_evidence_at.ensures m x r) ∙ c.if-lacks_evidence_at.true)
-
-pub loop-q-preserved : goal.loop-q-preserved
-loop-q-preserved c = (search rules, λ m x r. none_more _ _ (c.loop-q.invariant.1 m x r) (sym (c.lacks_evidence_at.ensures m x r) ∙ c.if-lacks_evidence_at.false))
-
 pub returns : goal.returns
-returns c m x r = let all = c.paths-past.ensures in let last = c.loop-q.invariant.0 in not_found _ _ _ (omega arith) (omega arith) (c.loop-q.invariant.1 m x r)
+returns c m x r =
+    let O = opening_in c.args.o.now in
+    let L = ledger_in c.args.f.now m x in
+    let test = λ (q : ℕ). needs_evidence_at O L L.tiers.current_tier c.args.h c.args.p q && not (has_ten_year L c.args.h (path_source O q)) in
+    any_counted test _ _ c.any.ensures.ran (λ k b q called. search rules) ∙ ap (λ n. any_below n test) c.paths.ensures

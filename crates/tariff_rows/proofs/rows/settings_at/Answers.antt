@@ -4,7 +4,7 @@ use Rattle.tariff.specs.Sum.{tabulate}
 use Rattle.tariff.specs.Settings.{settings_of}
 use Rattle.tariff.proofs.Lists.{at_tabulate}
 use Rattle.tariff.proofs.SettingsLaws.{settings_ext}
-use Rattle.netting.proofs.FromFn.{made_list}
+use Rattle.tariff.proofs.FromFn.{made_list}
 use Rattle.tariff_rows.proofs.rows.settings_at.Goals as goal
 
 pub returns : goal.returns

@@ -9,7 +9,7 @@ pub loop-p-init : goal.loop-p-init
 loop-p-init c = (search rules, sums_none _ _ _ _ _ _)
 
 pub path_base-requires : goal.path_base-requires
-path_base-requires c = base_inputs _ _ _ 0 0 (c.requires.slots 0 (omega arith)) _ _ c.paths-past.ensures c.loop-p-test.true
+path_base-requires c = base_inputs _ _ _ _ (c.requires.slots 0 (omega arith)) _ _ c.paths-past.ensures c.loop-p-test.true
 
 pub with_path-sums-requires : goal.with_path-sums-requires
 with_path-sums-requires c = path_fits _ _ _ _ _ _ c.requires _ _ _ c.paths-past.ensures c.loop-p-test.true c.loop-p.invariant.1

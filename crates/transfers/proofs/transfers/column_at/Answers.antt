@@ -1,7 +1,7 @@
 -- `transfers::transfers::column_at` meets its contract: each entry is read. Assumes nothing.
 use Rattle.std.proofs.Common.{rules}
 use Rattle.netting.specs.Netting.{column_cells}
-use Rattle.netting.proofs.FromFn.{made_list, made_callable}
+use Rattle.tariff.proofs.FromFn.{made_list, made_callable}
 use Rattle.transfers.specs.Columns.{in_column, column_at}
 use Rattle.transfers.proofs.ColumnLaws.{column_cell}
 use Rattle.transfers.proofs.transfers.column_at.Goals as goal
