@@ -11,7 +11,8 @@
 //   transfer,V0,..,V7       the column after it
 #![tactic(auto)]
 
-ghost use Rattle.std.specs.Prelude.{◌<◌};
+ghost use Rattle.std.specs.Prelude.{◌≡◌, ◌<◌, ◌/◌, length};
+ghost use Rattle.std.specs.Simd.{first_chunks};
 
 mod class_lines;
 mod evidence;
@@ -32,6 +33,7 @@ use std::io;
 // The rows of a table, each of so many numbers.
 fn rows_of<const N: usize>(table: &[u64]) -> &[[u64; N]]
     requires { 0 < N }
+    ensures { result.now ≡ first_chunks N (length table.now / N) table.now }
 {
     table.as_chunks::<N>().0
 }

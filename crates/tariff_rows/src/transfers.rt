@@ -15,16 +15,12 @@ fn moderate(numbers: &[u64]) -> bool
 }
 
 // Whether no holder loses more than its load.
+#[tactic(auto, unfolding(netting::specs::Migration::lost_by, netting::specs::Netting::holder_at))]
 fn within_load(m: [u64; 64], load: [u64; 8]) -> bool
     requires { GivenFits m }
     ensures { result ≡ true → WithinLoad m load }
 {
-    for holder in 0..8 {
-        if given_by(&m, holder, 8) > load[holder] {
-            return false;
-        }
-    }
-    true
+    (0..8).all(|holder| given_by(&m, holder, 8) <= load[holder])
 }
 
 fn write_given(rt: &impl Print, parts: [u64; 64]) -> io::Result<()>
