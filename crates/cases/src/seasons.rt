@@ -11,6 +11,7 @@ use std::io;
 use tariff::settings::Settings;
 
 // A book with holders of these kinds, one sink, and a path to it from each of so many sources.
+#[tactic(auto, using(book::proofs::NextBooks::after_opening))]
 fn open(kinds: &[u64], sink_kind: u64, path_sources: &[u64], path_sinks: &[u64]) -> Outcome
     ensures { Reachable result.book }
 {
