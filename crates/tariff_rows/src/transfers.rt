@@ -1,5 +1,5 @@
 // Columns of records: what each holder gives in a migration, and the column after it.
-ghost use Rattle.std.specs.Prelude.{◌≡◌, true};
+ghost use Rattle.std.specs.Prelude.{◌↔◌, IsTrue};
 ghost use Rattle.tariff_rows.specs.Bounds.{Moderate, WithinLoad, GivenFits};
 
 use crate::netted::netted;
@@ -9,7 +9,7 @@ use std::io;
 
 // Whether each number is below 2^31, so that no product of two of them wraps.
 fn moderate(numbers: &[u64]) -> bool
-    ensures { result ≡ true → Moderate numbers.now }
+    ensures { IsTrue result ↔ Moderate numbers.now }
 {
     numbers.iter().all(|&n| n < 1 << 31)
 }
@@ -18,7 +18,7 @@ fn moderate(numbers: &[u64]) -> bool
 #[tactic(auto, unfolding(netting::specs::Migration::lost_by, netting::specs::Netting::holder_at))]
 fn within_load(m: [u64; 64], load: [u64; 8]) -> bool
     requires { GivenFits m }
-    ensures { result ≡ true → WithinLoad m load }
+    ensures { IsTrue result ↔ WithinLoad m load }
 {
     (0..8).all(|holder| given_by(&m, holder, 8) <= load[holder])
 }
@@ -34,6 +34,7 @@ fn write_given(rt: &impl Print, parts: [u64; 64]) -> io::Result<()>
 }
 
 // Nothing is written of numbers that are too large or of losses that cause 9 refuses. No row has such.
+#[tactic(auto, using(crate::proofs::Bounds::moderate_sums, crate::proofs::Bounds::moderate_products, crate::proofs::Bounds::shares_given))]
 fn write_transfer(
     rt: &impl Print,
     column: [u64; 8],
