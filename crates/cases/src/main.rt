@@ -4,11 +4,10 @@
 //   ok            done
 //   ok,V          done, with a figure
 //   no,NN         refused with 01's number
-#![tactic(auto)]
+#![tactic(auto, using(book::proofs::NextBooks::after_call))]
 
-mod calls;
+mod answers;
 mod seasons;
-mod write;
 
 use std::io;
 

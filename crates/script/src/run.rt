@@ -13,7 +13,7 @@ use records::numbers::{OUTPUT_TOO_SHORT, UNREADABLE};
 use records::setup::OPENING_COUNT;
 
 // The refusal of a whole run is given in these units, so that a length fits below.
-const REFUSAL_UNIT: u64 = 1_000_000;
+pub const REFUSAL_UNIT: u64 = 1_000_000;
 
 const SCRIPT_TOO_LONG_RESULT: u64 = UNREADABLE * REFUSAL_UNIT;
 

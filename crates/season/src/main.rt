@@ -2,75 +2,57 @@
 // A read or a write that fails is said in one line on standard error; where a read fails, nothing is answered.
 #![tactic(auto)]
 
-ghost use Rattle.std.specs.Prelude.{◌≤◌, length};
+ghost use Rattle.std.specs.Prelude.{◌≤◌, length, IfOk};
 
-use script::run::run;
+use lines::text::{BYTES_PER_LINE, MAX_BYTES, MAX_LINES};
+use script::run::{REFUSAL_UNIT, run};
 use std::io;
 use std::io::Read;
 
-// What was read: how many bytes, and whether a read failed before the input's end.
-#[derive(Clone, Copy)]
-struct Input {
-    length: usize,
-    failed: bool,
-}
+// One byte more than a script may have shows that there are too many.
+const SCRIPT_ROOM: usize = MAX_BYTES + 1;
 
-// Reads the script until it ends, the buffer is full or a read fails.
-fn read_script<R: Read>(reader: &mut R, script: &mut [u8]) -> Input
-    ensures { result.length ≤ length script.new }
+// The most bytes of output that a run needs.
+const OUTPUT_ROOM: usize = MAX_LINES * BYTES_PER_LINE as usize;
+
+// Reads the script until it ends or the buffer is full, and says how many bytes it has.
+fn read_script<R: Read>(reader: &mut R, script: &mut [u8]) -> io::Result<usize>
+    ensures { IfOk result (λ read. read ≤ length script.new) }
 {
     let mut length = 0;
     while length < script.len() {
-        match reader.read(&mut script[length..]) {
-            Ok(0) => {
-                return Input {
-                    length,
-                    failed: false,
-                };
-            }
-            Ok(more) => length += more,
-            Err(_) => {
-                return Input {
-                    length,
-                    failed: true,
-                };
-            }
+        let more = reader.read(&mut script[length..])?;
+        if more == 0 {
+            break;
         }
+        length += more;
     }
-    Input {
-        length,
-        failed: false,
-    }
+    Ok(length)
 }
 
 // Writes answers to standard output, and says where that fails.
 fn write_answers(rt: &(impl Print + Eprint), answers: &[u8]) -> io::Result<()> {
-    match rt.write_all(answers) {
-        Ok(_) => Ok(()),
-        Err(_) => eprintln!(rt; "season: the answers cannot be written"),
-    }
+    rt.write_all(answers)
+        .or_else(|_| eprintln!(rt; "season: the answers cannot be written"))
 }
 
-// Answers a script. The buffer has 16 bytes for each of 4,096 lines, the most that a run takes.
+// Answers a script.
 fn answer(rt: &(impl Print + Eprint), script: &[u8]) -> io::Result<()> {
-    let mut out = [0u8; 65_536];
+    let mut out = [0u8; OUTPUT_ROOM];
     let number = run(script, &mut out);
-    if number < 1_000_000 {
-        let length = (number as usize).min(out.len());
+    if number < REFUSAL_UNIT {
+        let length = out.len().min(number as usize);
         write_answers(rt, &out[..length])
     } else {
         write_answers(rt, b"no,01\n")
     }
 }
 
-// One byte more than a script may have shows that there are too many.
 fn main(rt: HostRuntime) -> io::Result<()> {
-    let mut script = [0u8; 65_537];
+    let mut script = [0u8; SCRIPT_ROOM];
     let mut reader = rt.stdin();
-    let input = read_script(&mut reader, &mut script);
-    if input.failed {
+    let Ok(length) = read_script(&mut reader, &mut script) else {
         return eprintln!(rt; "season: the script cannot be read");
-    }
-    let length = input.length;
+    };
     answer(&rt, &script[..length])
 }

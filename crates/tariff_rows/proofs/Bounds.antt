@@ -1,7 +1,6 @@
 -- What a share and a transfer rest on, from what the program found by looking. Assumes nothing.
 use Prim.Native.Nat.{ℕ, suc, ◌+◌, ◌*◌, ◌^◌, ◌≤◌, ◌<◌}
 use mathlib.Core.Path.{◌≡◌}
-use mathlib.Core.Bool.{true, false}
 use mathlib.Core.List.{List}
 use native.Mathlib.Nat.{le_of_lt, le_trans, le_of_eq, lt_of_le_of_lt, mul-le-mul}
 use native.Mathlib.Bridge.{le_by_compare, IsLe}
@@ -14,10 +13,6 @@ use Rattle.tariff.proofs.Sums.{sum_ext, sum_bound}
 use Rattle.netting.proofs.Pairs.{cell_below, pair_of_cells}
 use Rattle.netting.proofs.Transfers.{shares_fit}
 use Rattle.tariff_rows.specs.Bounds.{Moderate, WithinLoad, GivenFits}
-
--- from an impossible answer of a test, anything
-pub never : {A : Type 0} → false ≡ true → A
-never e = absurd (let z : ◌≡◌ {A = ℕ} 0 1 = cc in omega arith)
 
 -- the number at a pair of eight holders, and at a holder
 at_pair : (m : List ℕ) → length m ≡ 64 → Moderate m → (i j : ℕ) → i < 8 → j < 8 → pair_at m i j < 2 ^ 31

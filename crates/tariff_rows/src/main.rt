@@ -11,7 +11,8 @@
 //   transfer,V0,..,V7       the column after it
 #![tactic(auto)]
 
-ghost use Rattle.std.specs.Prelude.{ℕ, ◌<◌};
+ghost use Rattle.std.specs.Prelude.{◌≡◌, ◌<◌, ◌/◌, length};
+ghost use Rattle.std.specs.Simd.{first_chunks};
 
 mod class_lines;
 mod evidence;
@@ -29,33 +30,40 @@ mod write;
 
 use std::io;
 
-// The line or lines of each row of a table.
-fn write_rows<W: Fn(usize) -> io::Result<()>>(count: usize, write_row: W) -> io::Result<()>
-    requires { (row : ℕ) → row < count → W.pre write_row row }
+// The rows of a table, each of so many numbers.
+fn rows_of<const N: usize>(table: &[u64]) -> &[[u64; N]]
+    requires { 0 < N }
+    ensures { result.now ≡ first_chunks N (length table.now / N) table.now }
 {
-    for row in 0..count {
-        write_row(row)?;
-    }
-    Ok(())
+    table.as_chunks::<N>().0
+}
+
+// The lines of columns: each row has its class lines, its records and its loads.
+fn write_transfers(rt: &impl Print) -> io::Result<()> {
+    let columns = rows_of(&transfer_rows::COLUMNS);
+    let loads = rows_of(&transfer_rows::LOADS);
+    rows_of(&transfer_rows::ROWS)
+        .iter()
+        .zip(columns)
+        .zip(loads)
+        .try_for_each(|((row, column), load)| transfers::write_row(rt, row, column, load))
 }
 
 fn main(rt: HostRuntime) -> io::Result<()> {
-    write_rows(load_rows::ROWS.len() / loads::WIDTH, |row| {
-        loads::write_row(&rt, row)
-    })?;
-    write_rows(limit_rows::LOADS.len() / limits::LOAD_WIDTH, |row| {
-        limits::write_eligible(&rt, row)
-    })?;
-    write_rows(limit_rows::ROWS.len() / limits::WIDTH, |row| {
-        limits::write_row(&rt, row)
-    })?;
-    write_rows(evidence_rows::ROWS.len() / evidence::WIDTH, |row| {
-        evidence::write_row(&rt, row)
-    })?;
-    write_rows(netting_rows::ROWS.len() / netted::WIDTH, |row| {
-        netted::write_row(&rt, row)
-    })?;
-    write_rows(transfer_rows::ROWS.len() / transfers::WIDTH, |row| {
-        transfers::write_row(&rt, row)
-    })
+    rows_of(&load_rows::ROWS)
+        .iter()
+        .try_for_each(|row| loads::write_row(&rt, row))?;
+    rows_of(&limit_rows::LOADS)
+        .iter()
+        .try_for_each(|row| limits::write_eligible(&rt, row))?;
+    rows_of(&limit_rows::ROWS)
+        .iter()
+        .try_for_each(|row| limits::write_row(&rt, row))?;
+    rows_of(&evidence_rows::ROWS)
+        .iter()
+        .try_for_each(|row| evidence::write_row(&rt, row))?;
+    rows_of(&netting_rows::ROWS)
+        .iter()
+        .try_for_each(|row| netted::write_row(&rt, row))?;
+    write_transfers(&rt)
 }

@@ -1,13 +1,8 @@
 // Class lines: the m of each pair.
-ghost use Rattle.std.specs.Prelude.{◌<◌};
-
-use crate::rows::{at, part};
-use crate::{class_lines, netting_rows, write};
+use crate::class_lines;
+use crate::rows::part;
 use netting::netting::ClassColumns;
 use std::io;
-
-// How many numbers a row has.
-pub const WIDTH: usize = 2;
 
 // The netting of the class lines from a start on.
 pub fn netted(start: u64, count: u64) -> Option<[u64; 64]> {
@@ -21,40 +16,28 @@ pub fn netted(start: u64, count: u64) -> Option<[u64; 64]> {
     columns.net()
 }
 
-// The netting of a row.
-fn row_netted(row: usize) -> Option<[u64; 64]>
-    requires { row < 65536 }
-{
-    let rows = &netting_rows::ROWS;
-    let from = row * WIDTH;
-    netted(at(rows, from), at(rows, from + 1))
-}
-
 // The loser, the gainer and m of a pair, unless m is 0.
-fn write_pair(rt: &impl Print, pair: u64, m: u64) -> io::Result<()> {
-    if m > 0 {
-        write::field(rt, pair / 8)?;
-        write::field(rt, pair % 8)?;
-        write::field(rt, m)?;
+fn write_pair(rt: &impl Print, pair: usize, m: u64) -> io::Result<()> {
+    if m == 0 {
+        return Ok(());
     }
-    Ok(())
+    print!(rt; ",{},{},{m}", pair / 8, pair % 8)
 }
 
 fn write_pairs(rt: &impl Print, m: &[u64; 64]) -> io::Result<()> {
     for (pair, kw) in m.iter().enumerate() {
-        write_pair(rt, pair as u64, *kw)?;
+        write_pair(rt, pair, *kw)?;
     }
     Ok(())
 }
 
 // The line of a row.
-pub fn write_row(rt: &impl Print, row: usize) -> io::Result<()>
-    requires { row < 65536 }
-{
-    write::word(rt, "netting")?;
-    match row_netted(row) {
+pub fn write_row(rt: &impl Print, row: &[u64; 2]) -> io::Result<()> {
+    let [start, count] = *row;
+    print!(rt; "netting")?;
+    match netted(start, count) {
         Some(m) => write_pairs(rt, &m)?,
-        None => write::word(rt, ",no")?,
+        None => print!(rt; ",no")?,
     }
-    write::end(rt)
+    println!(rt)
 }

@@ -1,54 +1,40 @@
 // Columns of records: what each holder gives in a migration, and the column after it.
-ghost use Rattle.std.specs.Prelude.{◌≡◌, true, ◌<◌};
+ghost use Rattle.std.specs.Prelude.{◌↔◌, IsTrue};
 ghost use Rattle.tariff_rows.specs.Bounds.{Moderate, WithinLoad, GivenFits};
 
 use crate::netted::netted;
-use crate::rows::at;
-use crate::{transfer_rows, write};
+use crate::write;
 use netting::shares::{given_by, shares_of, transferred_column};
 use std::io;
 
-// How many numbers a row has, beside its column and its loads of eight each.
-pub const WIDTH: usize = 2;
-
-// Eight numbers of a table.
-fn eight(table: &[u64], from: usize) -> [u64; 8]
-    requires { from < 1048576 }
-{
-    std::array::from_fn(|k| at(table, from + k))
-}
-
 // Whether each number is below 2^31, so that no product of two of them wraps.
 fn moderate(numbers: &[u64]) -> bool
-    ensures { result ≡ true → Moderate numbers.now }
+    ensures { IsTrue result ↔ Moderate numbers.now }
 {
     numbers.iter().all(|&n| n < 1 << 31)
 }
 
 // Whether no holder loses more than its load.
+#[tactic(auto, unfolding(netting::specs::Migration::lost_by, netting::specs::Netting::holder_at))]
 fn within_load(m: [u64; 64], load: [u64; 8]) -> bool
     requires { GivenFits m }
-    ensures { result ≡ true → WithinLoad m load }
+    ensures { IsTrue result ↔ WithinLoad m load }
 {
-    for holder in 0..8 {
-        if given_by(&m, holder, 8) > load[holder] {
-            return false;
-        }
-    }
-    true
+    (0..8).all(|holder| given_by(&m, holder, 8) <= load[holder])
 }
 
 fn write_given(rt: &impl Print, parts: [u64; 64]) -> io::Result<()>
     requires { GivenFits parts }
 {
-    write::word(rt, "given")?;
+    print!(rt; "given")?;
     for holder in 0..8 {
-        write::field(rt, given_by(&parts, holder, 8))?;
+        print!(rt; ",{}", given_by(&parts, holder, 8))?;
     }
-    write::end(rt)
+    println!(rt)
 }
 
 // Nothing is written of numbers that are too large or of losses that cause 9 refuses. No row has such.
+#[tactic(auto, using(crate::proofs::Bounds::moderate_sums, crate::proofs::Bounds::moderate_products, crate::proofs::Bounds::shares_given))]
 fn write_transfer(
     rt: &impl Print,
     column: [u64; 8],
@@ -59,28 +45,21 @@ fn write_transfer(
         let parts = shares_of(column, m, load);
         write_given(rt, parts)?;
         let after = transferred_column(column, &parts, 8);
-        write::word(rt, "transfer")?;
+        print!(rt; "transfer")?;
         write::fields(rt, &after)?;
-        write::end(rt)?;
+        println!(rt)?;
     }
     Ok(())
 }
 
-// The netting of a row's class lines.
-fn row_netted(row: usize) -> Option<[u64; 64]>
-    requires { row < 65536 }
-{
-    let rows = &transfer_rows::ROWS;
-    let from = row * WIDTH;
-    netted(at(rows, from), at(rows, from + 1))
-}
-
 // The two lines of a row: class lines that are unfit move nothing.
-pub fn write_row(rt: &impl Print, row: usize) -> io::Result<()>
-    requires { row < 65536 }
-{
-    let m = row_netted(row).unwrap_or([0; 64]);
-    let column = eight(&transfer_rows::COLUMNS, row * 8);
-    let load = eight(&transfer_rows::LOADS, row * 8);
-    write_transfer(rt, column, m, load)
+pub fn write_row(
+    rt: &impl Print,
+    row: &[u64; 2],
+    column: &[u64; 8],
+    load: &[u64; 8],
+) -> io::Result<()> {
+    let [start, count] = *row;
+    let m = netted(start, count).unwrap_or([0; 64]);
+    write_transfer(rt, *column, m, *load)
 }

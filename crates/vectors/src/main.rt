@@ -22,46 +22,59 @@
 
 ghost use Rattle.std.specs.Prelude.{◌≤◌, length};
 
-use crate::reading::{line_end, next_vector};
-use crate::show::run_vector;
+use crate::reading::Line;
+use crate::vector::Vector;
+use lines::text::LINE_FEED;
 use std::io;
 use std::io::Read;
 
-mod building;
 mod reading;
-mod show;
+mod script_text;
+mod vector;
+
+// The most bytes of vectors that are read.
+const ROOM: usize = 262_144;
 
 // Reads until the text is full, the input ends or a read fails, and says how many bytes stand at the start of the text.
 fn read_full(input: &mut impl Read, text: &mut [u8]) -> usize
     ensures { result ≤ length text.new }
 {
-    let mut done: usize = 0;
+    let mut done = 0;
     while done < text.len() {
-        let Ok(more) = input.read(&mut text[done..]) else {
-            return done;
-        };
+        let more = input.read(&mut text[done..]).unwrap_or(0);
         if more == 0 {
-            return done;
+            break;
         }
         done += more;
     }
     done
 }
 
+// Runs a vector that has begun.
+fn run_begun(rt: &impl Print, vector: &Option<Vector>) -> io::Result<()> {
+    match vector {
+        Some(vector) => vector.run(rt),
+        None => Ok(()),
+    }
+}
+
 // Runs each vector: the lines from one that begins a vector up to the next such line.
 fn run_vectors(rt: &impl Print, text: &[u8]) -> io::Result<()> {
-    let mut at = next_vector(text, 0);
-    while at < text.len() {
-        let end = next_vector(text, line_end(text, at));
-        run_vector(rt, &text[at..end])?;
-        at = end;
+    let mut vector: Option<Vector> = None;
+    for line in text.split_inclusive(|&byte| byte == LINE_FEED) {
+        if Line::from(line) == Line::Vector {
+            run_begun(rt, &vector)?;
+            vector = Some(Vector::new(line));
+        } else if let Some(begun) = &mut vector {
+            begun.take(line);
+        }
     }
-    Ok(())
+    run_begun(rt, &vector)
 }
 
 // Reads the vectors, and runs them.
 fn main(rt: HostRuntime) -> io::Result<()> {
-    let mut text = [0u8; 262_144];
+    let mut text = [0u8; ROOM];
     let mut input = rt.stdin();
     let length = read_full(&mut input, &mut text);
     run_vectors(&rt, &text[..length])

@@ -1,10 +1,8 @@
 // Lines and numbers of the vectors' format.
-ghost use Rattle.std.specs.Prelude.{◌≤◌, ◌<◌, length};
-
-use lines::text::{line_length, read_number};
+use lines::text::read_number;
 
 // What a line says to the program.
-#[derive(Clone, Copy)]
+#[derive(Clone, Copy, PartialEq, Eq)]
 pub enum Line {
     Script,
     Vector,
@@ -14,61 +12,17 @@ pub enum Line {
     Note,
 }
 
-// The place after the line that starts at a place.
-pub fn line_end(text: &[u8], start: usize) -> usize
-    requires { start < length text.now }
-    ensures after { start < result }
-    ensures within { result ≤ length text.now }
-{
-    let end = start + line_length(&text[start..]);
-    if end < text.len() { end + 1 } else { end }
-}
-
-// What the line that starts at a place says.
-pub fn line_at(text: &[u8], start: usize) -> Line
-    requires { start < length text.now }
-{
-    if text[start] != b'#' {
-        return Line::Script;
-    }
-    if text.len() - start < 2 {
-        return Line::Note;
-    }
-    let second = text[start + 1];
-    match second {
-        b' ' => Line::Vector,
-        b't' => Line::Times,
-        b'c' => Line::Cut,
-        b'l' => Line::Lend,
-        _ => Line::Note,
-    }
-}
-
-// Whether the line that starts at a place begins a vector.
-fn begins_vector(text: &[u8], start: usize) -> bool
-    requires { start < length text.now }
-{
-    if let Line::Vector = line_at(text, start) {
-        true
-    } else {
-        false
-    }
-}
-
-// Where the first line that begins a vector starts, from a line's start on: the text's end where none does.
-pub fn next_vector(text: &[u8], start: usize) -> usize
-    requires { start ≤ length text.now }
-    ensures not_before { start ≤ result }
-    ensures within { result ≤ length text.now }
-{
-    let mut at = start;
-    while at < text.len() {
-        if begins_vector(text, at) {
-            return at;
+impl From<&[u8]> for Line {
+    fn from(line: &[u8]) -> Self {
+        match line {
+            [b'#', b' ', ..] => Line::Vector,
+            [b'#', b't', ..] => Line::Times,
+            [b'#', b'c', ..] => Line::Cut,
+            [b'#', b'l', ..] => Line::Lend,
+            [b'#', ..] => Line::Note,
+            _ => Line::Script,
         }
-        at = line_end(text, at);
     }
-    at
 }
 
 // The number that a field writes, as in a script; 0 where it writes none.
@@ -76,11 +30,8 @@ pub fn number_of(field: &[u8]) -> usize {
     read_number(field).map_or(0, |number| number as usize)
 }
 
-// The number that stands from a place to the end of its line; 0 where none does.
+// The number that stands from a place of a line to its LF; 0 where none does.
 pub fn number_from(line: &[u8], start: usize) -> usize {
-    if line.len() <= start {
-        return 0;
-    }
-    let end = start + line_length(&line[start..]);
-    number_of(&line[start..end])
+    let rest = line.get(start..).unwrap_or(&[]);
+    number_of(rest.strip_suffix(b"\n").unwrap_or(rest))
 }

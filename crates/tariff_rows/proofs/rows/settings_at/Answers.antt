@@ -1,6 +1,5 @@
 -- `tariff_rows::rows::settings_at` meets its contract: the numbers are those of the table from the place on. Assumes nothing.
-use Rattle.std.proofs.Common.{◌≡◌, List, ℕ, get_or, ap, ◌∙◌, rules}
-use Rattle.tariff.specs.Sum.{tabulate}
+use Rattle.std.proofs.Common.{List, ℕ, get_or, ap, ◌∙◌, rules}
 use Rattle.tariff.specs.Settings.{settings_of}
 use Rattle.tariff.proofs.Lists.{at_tabulate}
 use Rattle.tariff.proofs.SettingsLaws.{settings_ext}

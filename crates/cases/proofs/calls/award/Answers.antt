@@ -1,6 +1,0 @@
--- `cases::calls::award` meets its contract: the book beside the answer is reachable. Assumes nothing.
-use Rattle.book.proofs.NextBooks.{after_call}
-use Rattle.cases.proofs.calls.award.Goals as goal
-
-pub write_outcome-requires : goal.write_outcome-requires
-write_outcome-requires g c = after_call _ c.requires _ _ c.award.ensures

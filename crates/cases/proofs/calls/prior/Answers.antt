@@ -1,6 +1,0 @@
--- `cases::calls::prior` meets its contract: the book beside the answer is reachable. Assumes nothing.
-use Rattle.book.proofs.NextBooks.{after_call}
-use Rattle.cases.proofs.calls.prior.Goals as goal
-
-pub write_outcome-requires : goal.write_outcome-requires
-write_outcome-requires g c = after_call _ c.requires _ _ c.prior.ensures

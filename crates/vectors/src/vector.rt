@@ -1,0 +1,62 @@
+// A vector: what its lines make of it, and what is printed of its run.
+ghost use Rattle.std.specs.Prelude.{◌≤◌};
+
+use crate::reading::{Line, number_from};
+use crate::script_text::ScriptText;
+use script::run::{REFUSAL_UNIT, run};
+use std::io;
+
+// The most bytes that are lent for the output.
+const MAX_LENT: usize = 65_536;
+
+// Where N starts in `#times N LINE`, `#cut N` and `#lend N`.
+const TIMES_AT: usize = 7;
+
+const CUT_AT: usize = 5;
+
+const LEND_AT: usize = 6;
+
+// The line that begins a vector, its script so far, and how many bytes are lent for the output.
+#[derive(Drop)]
+pub struct Vector<'a> {
+    title: &'a [u8],
+    script: ScriptText,
+    lent: usize,
+    ghost within: { lent ≤ 65536 },
+}
+
+impl<'a> Vector<'a> {
+    pub fn new(title: &'a [u8]) -> Vector<'a> {
+        Vector {
+            title,
+            script: ScriptText::empty(),
+            lent: MAX_LENT,
+        }
+    }
+
+    // Does what a line says.
+    pub fn take(&mut self, line: &[u8]) {
+        match Line::from(line) {
+            Line::Script => self.script.append(line),
+            Line::Times => self
+                .script
+                .append_copies(line.get(TIMES_AT..).unwrap_or(&[])),
+            Line::Cut => self.script.cut(number_from(line, CUT_AT)),
+            Line::Lend => self.lent = number_from(line, LEND_AT).min(MAX_LENT),
+            Line::Vector | Line::Note => {}
+        }
+    }
+
+    // Prints the line that begins the vector, the number that `run` gives and what it writes.
+    pub fn run(&self, rt: &impl Print) -> io::Result<()> {
+        let mut out = [0u8; MAX_LENT];
+        let number = run(self.script.as_slice(), &mut out[..self.lent]);
+        rt.write_all(self.title)?;
+        println!(rt; "{number}")?;
+        if number < REFUSAL_UNIT {
+            let written = self.lent.min(number as usize);
+            rt.write_all(&out[..written])?;
+        }
+        Ok(())
+    }
+}
