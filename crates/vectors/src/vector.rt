@@ -49,9 +49,9 @@ impl<'a> Vector<'a> {
 
     // Prints the line that begins the vector, the number that `run` gives and what it writes.
     pub fn run(&self, rt: &impl Print) -> io::Result<()> {
+        rt.write_all(self.title)?;
         let mut out = [0u8; MAX_LENT];
         let number = run(self.script.as_slice(), &mut out[..self.lent]);
-        rt.write_all(self.title)?;
         println!(rt; "{number}")?;
         if number < REFUSAL_UNIT {
             let written = self.lent.min(number as usize);
