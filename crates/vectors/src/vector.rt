@@ -1,5 +1,6 @@
 // A vector: what its lines make of it, and what is printed of its run.
 ghost use Rattle.std.specs.Prelude.{◌≤◌};
+ghost use Rattle.vectors.specs.declared.vector.TheConstants.{MAX_LENT};
 
 use crate::reading::{Line, number_from};
 use crate::script_text::ScriptText;
@@ -22,7 +23,7 @@ pub struct Vector<'a> {
     title: &'a [u8],
     script: ScriptText,
     lent: usize,
-    ghost within: { lent ≤ 65536 },
+    ghost within: { lent ≤ MAX_LENT },
 }
 
 impl<'a> Vector<'a> {
