@@ -1,5 +1,6 @@
 // The script of a vector, built up line by line in an array.
 ghost use Rattle.std.specs.Prelude.{◌≤◌};
+ghost use Rattle.vectors.specs.declared.script_text.TheConstants.{ROOM};
 
 use crate::reading::number_of;
 use lines::output::write_bytes;
@@ -12,7 +13,7 @@ const ROOM: usize = 65_600;
 pub struct ScriptText {
     bytes: [u8; ROOM],
     filled: usize,
-    ghost within: { filled ≤ 65600 },
+    ghost within: { filled ≤ ROOM },
 }
 
 impl ScriptText {

@@ -1,5 +1,6 @@
 // A vector: what its lines make of it, and what is printed of its run.
 ghost use Rattle.std.specs.Prelude.{◌≤◌};
+ghost use Rattle.vectors.specs.declared.vector.TheConstants.{MAX_LENT};
 
 use crate::reading::{Line, number_from};
 use crate::script_text::ScriptText;
@@ -22,7 +23,7 @@ pub struct Vector<'a> {
     title: &'a [u8],
     script: ScriptText,
     lent: usize,
-    ghost within: { lent ≤ 65536 },
+    ghost within: { lent ≤ MAX_LENT },
 }
 
 impl<'a> Vector<'a> {
@@ -49,9 +50,9 @@ impl<'a> Vector<'a> {
 
     // Prints the line that begins the vector, the number that `run` gives and what it writes.
     pub fn run(&self, rt: &impl Print) -> io::Result<()> {
+        rt.write_all(self.title)?;
         let mut out = [0u8; MAX_LENT];
         let number = run(self.script.as_slice(), &mut out[..self.lent]);
-        rt.write_all(self.title)?;
         println!(rt; "{number}")?;
         if number < REFUSAL_UNIT {
             let written = self.lent.min(number as usize);
