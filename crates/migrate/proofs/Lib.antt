@@ -6,3 +6,4 @@ pub mod CoveredLaws
 pub mod MigratedFigures
 pub mod MigrateSteps
 pub mod TakenApart
+pub mod ColumnSteps

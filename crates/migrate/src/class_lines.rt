@@ -1,10 +1,11 @@
 // Migrate over a lent slice of class lines (01, Migration): the lines are taken apart, a column of numbers to a field, and the core migrates the columns.
-ghost use Rattle.std.specs.Prelude.{◌≡◌, ◌||◌, get_or};
+ghost use Rattle.std.specs.Prelude.{◌≡◌, ◌≤◌, ◌||◌, length};
 ghost use Rattle.ledger.specs.Call.{migrate};
 ghost use Rattle.ledger.specs.Ranges.{unknown_sink, unknown_holder_in};
 ghost use Rattle.records.specs.Opening.{opening_of};
 ghost use Rattle.slots.specs.Steps.{ReachableFigures, FiguresStep};
-ghost use Rattle.migrate.specs.ClassLines.{no_line, taken_apart};
+ghost use Rattle.tariff.specs.Sizes.{max_class_lines};
+ghost use Rattle.migrate.specs.ClassLines.{taken_apart};
 
 use crate::class_tests::names_unknown;
 use crate::migrate::migrate;
@@ -25,29 +26,26 @@ struct Columns {
     watts: [u64; MAX_CLASS_LINES],
 }
 
-// Line k, or one with 0 in every field past the last.
-fn line_at(lines: &[ClassLine], k: usize) -> ClassLine
-    ensures { result ≡ get_or lines.now k no_line }
-{
-    lines.get(k).copied().unwrap_or(ClassLine {
-        from: 0,
-        to: 0,
-        class: 0,
-        customers: 0,
-        watts: 0,
-    })
-}
-
+// Up to 64 lines taken apart.
 fn taken_apart(lines: &[ClassLine]) -> Columns
+    requires { length lines.now ≤ max_class_lines }
     ensures { result ≡ taken_apart lines.now }
 {
-    Columns {
-        froms: std::array::from_fn(|k| line_at(lines, k).from),
-        tos: std::array::from_fn(|k| line_at(lines, k).to),
-        classes: std::array::from_fn(|k| line_at(lines, k).class),
-        customers: std::array::from_fn(|k| line_at(lines, k).customers),
-        watts: std::array::from_fn(|k| line_at(lines, k).watts),
+    let mut all = Columns {
+        froms: [0; MAX_CLASS_LINES],
+        tos: [0; MAX_CLASS_LINES],
+        classes: [0; MAX_CLASS_LINES],
+        customers: [0; MAX_CLASS_LINES],
+        watts: [0; MAX_CLASS_LINES],
+    };
+    for (k, line) in lines.iter().enumerate() {
+        all.froms[k] = line.from;
+        all.tos[k] = line.to;
+        all.classes[k] = line.class;
+        all.customers[k] = line.customers;
+        all.watts[k] = line.watts;
     }
+    all
 }
 
 // Whether some line names a holder who is not in the book.
