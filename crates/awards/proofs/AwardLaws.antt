@@ -8,6 +8,7 @@ use native.Mathlib.Omega.{arith}
 use lib.ListN.{length, take, drop}
 use lib.Dec.{ltb}
 use borrow.Author.Tests.{eq-eqb}
+use Rattle.std.specs.Prelude.{Ok}
 use Rattle.source_evidence.specs.declared.evidence.Entry.{Entry}
 use Rattle.tariff.specs.Sum.{when_true}
 use Rattle.tariff.specs.Sizes.{last_month, long_term_step}
@@ -19,7 +20,6 @@ use Rattle.ledger.specs.Call.{award}
 use Rattle.ledger.specs.Causes.{exceeds_nominated, refusal}
 use Rattle.ledger.specs.Effects.{same3, plus_at3, awards_after, holdings_after, effect}
 use Rattle.ledger.proofs.TierFacts.{AwardFacts, award_facts}
-use Rattle.records.specs.declared.answers.Answer.TheVariants.{Done}
 use Rattle.records.specs.Opening.{opening_in}
 use Rattle.slots.specs.Cells.{HasCell, read_at, added_at}
 use Rattle.slots.specs.Groups.{slots_of}
@@ -56,7 +56,7 @@ pub tier_within : (o f : List ℕ) (m : List Bool) (x : List Entry) (tier : ℕ)
 unfolding ledger_in
 tier_within o f m x tier r now = let last = (sound o f m x r).open_last in omega arith
 
-module _ (o f : List ℕ) (m : List Bool) (x : List Entry) (h p kw number : ℕ) (r : Reachable o f m x) (found : number ≡ refusal (opening_in o) (ledger_in f m x) (award h p kw)) (zero : number ≡ 0) where
+module _ (o f : List ℕ) (m : List Bool) (x : List Entry) (h p kw : ℕ) (r : Reachable o f m x) (unmet : 0 ≡ refusal (opening_in o) (ledger_in f m x) (award h p kw)) where
   abbrev O : Opening
   O = opening_in o
 
@@ -64,7 +64,7 @@ module _ (o f : List ℕ) (m : List Bool) (x : List Entry) (h p kw number : ℕ)
   L = ledger_in f m x
 
   facts : AwardFacts O L h p kw
-  facts = award_facts O L h p kw (accepted_test O L (award h p kw) number found zero)
+  facts = award_facts O L h p kw (accepted_test O L (award h p kw) unmet)
 
   holder : h < 8
   holder = le_trans facts.holder (counts o f m x r).0
@@ -109,9 +109,9 @@ module _ (o f : List ℕ) (m : List Bool) (x : List Entry) (h p kw number : ℕ)
   unfolding evidence_of evidence_groups effect with_rights with_tiers
   filed = evidence_known o f m x r
 
-  pub award_steps : (tier term v : ℕ) (f' f'' : List ℕ) → tier ≡ current_tier_in f → term ≡ term_of tier → v ≡ entering_kw tier kw → f' ≡ added_in_term f h p awarded_slot term v → f'' ≡ added_at figure_slots f' h p (awards_slot + tier) kw → Steps O L (award h p kw) Done f'' m x
+  pub award_steps : (tier term v : ℕ) (f' f'' : List ℕ) → tier ≡ current_tier_in f → term ≡ term_of tier → v ≡ entering_kw tier kw → f' ≡ added_in_term f h p awarded_slot term v → f'' ≡ added_at figure_slots f' h p (awards_slot + tier) kw → Steps O L (award h p kw) (Ok tt) f'' m x
   unfolding ledger_in
   award_steps tier term v f' f'' now t enters one two =
-      steps_accepted O L (award h p kw) number found f'' m x zero
+      steps_accepted O L (award h p kw) unmet f'' m x
       (two ∙ (λ i. added_at figure_slots ((one ∙ (λ j. added_in_term f h p awarded_slot ((t ∙ ap term_of now) j) ((enters ∙ ap (λ n. entering_kw n kw) now) j))) i) h p (awards_slot + now i) kw) ∙ awarded)
       noted filed

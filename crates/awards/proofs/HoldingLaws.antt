@@ -35,18 +35,18 @@ month_within : (month : ℕ) → month_out_of_range month ≡ false → (1 ≤ m
 unfolding month_out_of_range within is_month
 month_within month e = is_within 1 3 month e
 
-pub held_names : (O : Opening) (h p month number : ℕ) → ((L : Ledger) → number ≡ query_refusal O L (held_on h p month)) → number ≡ 0 → (h < O.holders) × (p < O.paths) × (1 ≤ month) × (month ≤ 3)
+pub held_names : (O : Opening) (h p month : ℕ) → ((L : Ledger) → 0 ≡ query_refusal O L (held_on h p month)) → (h < O.holders) × (p < O.paths) × (1 ≤ month) × (month ≤ 3)
 unfolding query_refusal query_causes held_causes unknown_holder unknown_path
-held_names O h p month number found zero =
-    let first = unmet 1 _ _ (sym (found empty_ledger) ∙ zero) in
+held_names O h p month none =
+    let first = unmet 1 _ _ (sym (none empty_ledger)) in
     let in_book = or_unmet _ _ first.0 in
     let range = month_within month (unmet 2 _ _ first.1).0 in
     (leb-false _ _ in_book.0, leb-false _ _ in_book.1, range.0, range.1)
 
-pub net_names : (O : Opening) (p month number : ℕ) → ((L : Ledger) → number ≡ query_refusal O L (net_on p month)) → number ≡ 0 → (p < O.paths) × (1 ≤ month) × (month ≤ 3)
+pub net_names : (O : Opening) (p month : ℕ) → ((L : Ledger) → 0 ≡ query_refusal O L (net_on p month)) → (p < O.paths) × (1 ≤ month) × (month ≤ 3)
 unfolding query_refusal query_causes net_causes unknown_path
-net_names O p month number found zero =
-    let first = unmet 1 _ _ (sym (found empty_ledger) ∙ zero) in
+net_names O p month none =
+    let first = unmet 1 _ _ (sym (none empty_ledger)) in
     let range = month_within month (unmet 2 _ _ first.1).0 in
     (leb-false _ _ first.0, range.0, range.1)
 

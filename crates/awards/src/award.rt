@@ -4,16 +4,15 @@ ghost use Rattle.source_evidence.specs.declared.evidence.Entry.{Entry};
 ghost use Rattle.tariff.specs.Sizes.{long_term_step};
 ghost use Rattle.ledger.specs.Call.{award};
 ghost use Rattle.ledger.specs.Causes.{exceeds_nominated, refusal};
+ghost use Rattle.records.specs.Refusals.{refused_by};
 ghost use Rattle.slots.specs.Layout.{current_tier_in, ledger_in, nominated_slot, ownership_slot};
 ghost use Rattle.slots.specs.Months.{HasRoom};
 ghost use Rattle.slots.specs.Steps.{ReachableFigures, InFigures, FiguresStep};
 
-use records::answers::Answer;
-use records::calendar::tier_is_open;
-use records::numbers::{ABOVE_NOMINATED, NOT_AT_THIS_TIME, NOT_IN_BOOK, OUT_OF_RANGE};
-use records::refusals::{kw_out_of_range, refuse};
+use records::ranges::kw_out_of_range;
+use records::refusal::Refusal;
 use records::setup::{unknown_holder, unknown_path};
-use slots::calendar::current_tier;
+use slots::calendar::{calendar, current_tier};
 use slots::cells::{add, read};
 use slots::layout::{AWARDED_SLOT, AWARDS_SLOT, NOMINATED_SLOT};
 use slots::months::add_in_term;
@@ -29,38 +28,36 @@ fn exceeds_nominated(f: &[u64], tier: u64, h: u64, p: u64, kw: u64) -> bool
     nominated < wanted
 }
 
-// The first cause that an award meets, 0 for none.
-fn award_refusal(o: &[u64], f: &[u64], h: u64, p: u64, kw: u64) -> u64
+// Whether an award meets no cause, else the first that it meets.
+#[tactic(auto, using(slots::proofs::CalendarLaws::open_as_ledger), unfolding(ledger::specs::Causes::refusal, ledger::specs::Causes::call_causes, ledger::specs::Causes::award_causes, ledger::specs::Numbers::first_met, slots::specs::Layout::ledger_in))]
+fn check_award(o: &[u64], f: &[u64], h: u64, p: u64, kw: u64) -> Result<(), Refusal>
     requires { ReachableFigures o.now f.now }
-    ensures { InFigures o.now f.now (λ O L. result ≡ refusal O L (award h p kw)) }
+    ensures { InFigures o.now f.now (λ O L. refused_by result ≡ refusal O L (award h p kw)) }
 {
-    let unknown = unknown_holder(o, h) | unknown_path(o, p);
-    if unknown {
-        return NOT_IN_BOOK;
+    if unknown_holder(o, h) || unknown_path(o, p) {
+        return Err(Refusal::NotInBook);
     }
     if kw_out_of_range(kw) {
-        return OUT_OF_RANGE;
+        return Err(Refusal::OutOfRange);
     }
-    let tier = current_tier(f);
-    if !tier_is_open(tier) {
-        return NOT_AT_THIS_TIME;
+    if !calendar(f).tier_is_open() {
+        return Err(Refusal::NotAtThisTime);
     }
-    let above = exceeds_nominated(f, tier, h, p, kw);
-    refuse(ABOVE_NOMINATED, above, 0)
+    if exceeds_nominated(f, current_tier(f), h, p, kw) {
+        return Err(Refusal::AboveNominated);
+    }
+    Ok(())
 }
 
 // Awards kw to a holder on a path in the open tier. The Long Term step's awards enter no holding (02, 1/14).
-pub fn award(o: &[u64], f: &mut [u64], h: u64, p: u64, kw: u64) -> Answer
+pub fn award(o: &[u64], f: &mut [u64], h: u64, p: u64, kw: u64) -> Result<(), Refusal>
     requires { ReachableFigures o.now f.old }
     ensures { FiguresStep o.now f.old (award h p kw) result f.new }
 {
-    let number = award_refusal(o, f, h, p, kw);
-    if number != 0 {
-        return Answer::Refused(number);
-    }
+    check_award(o, f, h, p, kw)?;
     let tier = current_tier(f);
     let term = term_of(tier);
     add_in_term(f, h, p, AWARDED_SLOT, term, entering_kw(tier, kw));
     add(f, h, p, AWARDS_SLOT + tier, kw);
-    Answer::Done
+    Ok(())
 }

@@ -7,13 +7,13 @@ ghost use Rattle.ledger.specs.Causes.{query_refusal};
 ghost use Rattle.ledger.specs.Ledger.{Ledger};
 ghost use Rattle.ledger.specs.Season.{held, net};
 ghost use Rattle.records.specs.Opening.{opening_of};
+ghost use Rattle.records.specs.Refusals.{refused_by};
 ghost use Rattle.slots.specs.Layout.{ledger_in};
 ghost use Rattle.slots.specs.Steps.{ReachableFigures, InFigures, query_answer};
 ghost use Rattle.awards.specs.Holdings.{HasHolding};
 
-use records::answers::Answer;
-use records::numbers::{NOT_IN_BOOK, OUT_OF_RANGE};
-use records::refusals::{month_out_of_range, refuse};
+use records::ranges::month_out_of_range;
+use records::refusal::Refusal;
 use records::setup::{holders, unknown_holder, unknown_path};
 use slots::cells::read;
 use slots::layout::{AWARDED_SLOT, CARRIED_SLOT};
@@ -41,44 +41,48 @@ fn net_holding(o: &[u64], f: &[u64], p: u64, month: u64) -> u64
     sum
 }
 
-// The first cause that a held query meets, 0 for none.
-fn held_refusal(o: &[u64], h: u64, p: u64, month: u64) -> u64
-    ensures { (L : Ledger) → result ≡ query_refusal (opening_of o.entry) L (held_on h p month) }
+// Whether a held query meets no cause, else the first that it meets.
+#[tactic(auto, unfolding(ledger::specs::Causes::query_refusal, ledger::specs::Causes::query_causes, ledger::specs::Causes::held_causes, ledger::specs::Numbers::first_met))]
+fn check_held(o: &[u64], h: u64, p: u64, month: u64) -> Result<(), Refusal>
+    ensures { (L : Ledger) → refused_by result ≡ query_refusal (opening_of o.entry) L (held_on h p month) }
 {
-    let unknown = unknown_holder(o, h) | unknown_path(o, p);
-    let range = month_out_of_range(month);
-    refuse(NOT_IN_BOOK, unknown, refuse(OUT_OF_RANGE, range, 0))
+    if unknown_holder(o, h) || unknown_path(o, p) {
+        return Err(Refusal::NotInBook);
+    }
+    if month_out_of_range(month) {
+        return Err(Refusal::OutOfRange);
+    }
+    Ok(())
 }
 
-// The first cause that a net query meets, 0 for none.
-fn net_refusal(o: &[u64], p: u64, month: u64) -> u64
-    ensures { (L : Ledger) → result ≡ query_refusal (opening_of o.entry) L (net_on p month) }
+// Whether a net query meets no cause, else the first that it meets.
+#[tactic(auto, unfolding(ledger::specs::Causes::query_refusal, ledger::specs::Causes::query_causes, ledger::specs::Causes::net_causes, ledger::specs::Numbers::first_met))]
+fn check_net(o: &[u64], p: u64, month: u64) -> Result<(), Refusal>
+    ensures { (L : Ledger) → refused_by result ≡ query_refusal (opening_of o.entry) L (net_on p month) }
 {
-    let unknown = unknown_path(o, p);
-    let range = month_out_of_range(month);
-    refuse(NOT_IN_BOOK, unknown, refuse(OUT_OF_RANGE, range, 0))
+    if unknown_path(o, p) {
+        return Err(Refusal::NotInBook);
+    }
+    if month_out_of_range(month) {
+        return Err(Refusal::OutOfRange);
+    }
+    Ok(())
 }
 
 // What a holder holds on a path in a month.
-pub fn held(o: &[u64], f: &[u64], h: u64, p: u64, month: u64) -> Answer
+pub fn held(o: &[u64], f: &[u64], h: u64, p: u64, month: u64) -> Result<u64, Refusal>
     requires { ReachableFigures o.now f.now }
     ensures { InFigures o.now f.now (λ O L. result ≡ query_answer O L (held_on h p month)) }
 {
-    let number = held_refusal(o, h, p, month);
-    if number != 0 {
-        return Answer::Refused(number);
-    }
-    Answer::Value(holding(f, h, p, month))
+    check_held(o, h, p, month)?;
+    Ok(holding(f, h, p, month))
 }
 
 // What all holders hold on a path in a month.
-pub fn net(o: &[u64], f: &[u64], p: u64, month: u64) -> Answer
+pub fn net(o: &[u64], f: &[u64], p: u64, month: u64) -> Result<u64, Refusal>
     requires { ReachableFigures o.now f.now }
     ensures { InFigures o.now f.now (λ O L. result ≡ query_answer O L (net_on p month)) }
 {
-    let number = net_refusal(o, p, month);
-    if number != 0 {
-        return Answer::Refused(number);
-    }
-    Answer::Value(net_holding(o, f, p, month))
+    check_net(o, p, month)?;
+    Ok(net_holding(o, f, p, month))
 }

@@ -5,75 +5,78 @@ ghost use Rattle.tariff.specs.Terms.{is_long_term_step};
 ghost use Rattle.ledger.specs.Call.{open_tier, close_tier};
 ghost use Rattle.ledger.specs.Causes.{refusal};
 ghost use Rattle.ledger.specs.Opening.{Opening};
+ghost use Rattle.records.specs.Refusals.{refused_by};
 ghost use Rattle.slots.specs.Layout.{ledger_in};
 ghost use Rattle.slots.specs.Steps.{ReachableTier, TierStep};
 
-use records::answers::Answer;
-use records::calendar::{is_next_tier, tier_is_open};
-use records::numbers::{NOT_AT_THIS_TIME, OUT_OF_RANGE};
-use records::refusals::{refuse, tier_out_of_range};
+use records::calendar::Calendar;
+use records::ranges::tier_out_of_range;
+use records::refusal::Refusal;
 use records::sums::when_true;
-use slots::calendar::{current_tier, last_closed, step_held};
+use slots::calendar::calendar;
 use slots::cells::clear;
 use slots::layout::{CURRENT_TIER_AT, LAST_CLOSED_AT, NOMINATED_SLOT, STEP_HELD_AT};
 use tariff::sizes::LONG_TERM_STEP;
 
-// The first cause that an open meets, 0 for none.
-fn open_refusal(f: &[u64], tier: u64) -> u64
-    ensures { (O : Opening) (m : List Bool) (x : List Entry) → result ≡ refusal O (ledger_in f.now m x) (open_tier tier) }
+// Whether an open meets no cause, else the first that it meets.
+#[tactic(auto, using(slots::proofs::CalendarLaws::next_as_ledger), unfolding(ledger::specs::Causes::refusal, ledger::specs::Causes::call_causes, ledger::specs::Causes::open_causes, ledger::specs::Numbers::first_met))]
+fn check_open(f: &[u64], tier: u64) -> Result<(), Refusal>
+    ensures { (O : Opening) (m : List Bool) (x : List Entry) → refused_by result ≡ refusal O (ledger_in f.now m x) (open_tier tier) }
 {
-    let range = tier_out_of_range(tier);
-    let late = !is_next_tier(tier, last_closed(f), current_tier(f), step_held(f));
-    refuse(OUT_OF_RANGE, range, refuse(NOT_AT_THIS_TIME, late, 0))
+    if tier_out_of_range(tier) {
+        return Err(Refusal::OutOfRange);
+    }
+    if !calendar(f).is_next_tier(tier) {
+        return Err(Refusal::NotAtThisTime);
+    }
+    Ok(())
 }
 
-// The first cause that a close meets, 0 for none.
-fn close_refusal(f: &[u64]) -> u64
-    ensures { (O : Opening) (m : List Bool) (x : List Entry) → result ≡ refusal O (ledger_in f.now m x) close_tier }
+// Whether a close meets no cause, else the one that it meets.
+#[tactic(auto, using(slots::proofs::CalendarLaws::open_as_ledger), unfolding(ledger::specs::Causes::refusal, ledger::specs::Causes::call_causes, ledger::specs::Causes::close_causes, ledger::specs::Numbers::first_met))]
+fn check_close(f: &[u64]) -> Result<(), Refusal>
+    ensures { (O : Opening) (m : List Bool) (x : List Entry) → refused_by result ≡ refusal O (ledger_in f.now m x) close_tier }
 {
-    let late = !tier_is_open(current_tier(f));
-    refuse(NOT_AT_THIS_TIME, late, 0)
+    if !calendar(f).tier_is_open() {
+        return Err(Refusal::NotAtThisTime);
+    }
+    Ok(())
 }
 
 // Opens a tier, which has no nominations yet. The Long Term step is noted as held (02, 1/14).
-pub fn open_tier(f: &mut [u64], tier: u64) -> Answer
+pub fn open_tier(f: &mut [u64], tier: u64) -> Result<(), Refusal>
     requires { ReachableTier f.old }
     ensures { TierStep f.old (open_tier tier) result f.new }
 {
-    let number = open_refusal(f, tier);
-    if number != 0 {
-        return Answer::Refused(number);
-    }
-    let held = when_true((tier == LONG_TERM_STEP) | step_held(f), 1);
+    check_open(f, tier)?;
+    let held = when_true((tier == LONG_TERM_STEP) | calendar(f).step_held, 1);
     clear(f, NOMINATED_SLOT);
     f[CURRENT_TIER_AT] = tier;
     f[STEP_HELD_AT] = held;
-    Answer::Done
+    Ok(())
 }
 
 // The tier last closed once the open one is closed: the Long Term step does not count (02, 1/14).
-fn last_closed_after(last_closed: u64, current_tier: u64) -> u64
-    ensures { result ≡ cond (is_long_term_step current_tier) last_closed current_tier }
+#[tactic(auto, unfolding(tariff::specs::Terms::is_long_term_step))]
+fn last_closed_after(calendar: Calendar) -> u64
+    ensures { result ≡ cond (is_long_term_step calendar.current_tier) calendar.last_closed calendar.current_tier }
 {
-    if current_tier == LONG_TERM_STEP {
-        last_closed
+    if calendar.current_tier == LONG_TERM_STEP {
+        calendar.last_closed
     } else {
-        current_tier
+        calendar.current_tier
     }
 }
 
 // Closes the open tier: what was not awarded is dropped.
-pub fn close_tier(f: &mut [u64]) -> Answer
+pub fn close_tier(f: &mut [u64]) -> Result<(), Refusal>
     requires { ReachableTier f.old }
     ensures { TierStep f.old close_tier result f.new }
 {
-    let number = close_refusal(f);
-    if number != 0 {
-        return Answer::Refused(number);
-    }
-    let closed = last_closed_after(last_closed(f), current_tier(f));
+    check_close(f)?;
+    let closed = last_closed_after(calendar(f));
     clear(f, NOMINATED_SLOT);
     f[LAST_CLOSED_AT] = closed;
     f[CURRENT_TIER_AT] = 0;
-    Answer::Done
+    Ok(())
 }

@@ -4,7 +4,7 @@ use mathlib.Core.Path.{◌≡◌, sym, subst}
 use mathlib.Core.Bool.{Bool, true, false, cond}
 use mathlib.Core.List.{List}
 use Rattle.netting.specs.Netting.{class_lines_of, same_counts}
-use Rattle.ledger.specs.Numbers.{unreadable}
+use Rattle.records.specs.declared.refusal.Refusal.TheVariants.{Unreadable}
 use Rattle.ledger.specs.Opening.{Opening}
 use Rattle.ledger.specs.Call.{Call, migrate}
 use Rattle.book.specs.declared.book.Book.{Book}
@@ -27,7 +27,7 @@ module _ (b : Book) (r : Reachable b) where
   after_call c a e = beside a (outcome_of b c) e (outcome_reachable b r c)
 
   -- a call whose lines stand in slices, or slices that do not fit each other
-  either : (even : Bool) (c : Call) → Reachable (cond even (outcome_of b c) (refused_with b unreadable)).book
+  either : (even : Bool) (c : Call) → Reachable (cond even (outcome_of b c) (refused_with b Unreadable)).book
   unfolding refused_with
   either true c = outcome_reachable b r c
   either false c = r

@@ -7,7 +7,7 @@ use Rattle.ledger.specs.Call.{Call, Query}
 use Rattle.ledger.specs.Season.{call, query, answer, step, after}
 use Rattle.ledger.proofs.Steps.{after_more}
 use Rattle.records.specs.Opening.{opening_array}
-use Rattle.records.specs.Answers.{answer_of}
+use Rattle.records.specs.Answers.{called, queried}
 use Rattle.slots.proofs.Reachable.{ledger_known, opening_known}
 use Rattle.book.specs.declared.book.Book.{Book}
 use Rattle.book.specs.Reading.{ledger_of, opening_of_book, book_in, book_of}
@@ -32,13 +32,13 @@ module _ (o : Opening) (e : legal o ≡ true) (cs : List Call) where
   unfolding ledger_of book_of book_in at_reachable
   at_ledger = ledger_known _ _ _ _ at_reachable
 
-  pub at_answer : (c : Call) → (outcome_of book_at c).answer ≡ answer_of (answer o (after o cs) (call c))
+  pub at_answer : (c : Call) → (outcome_of book_at c).answer ≡ called (answer o (after o cs) (call c))
   unfolding outcome_of
-  at_answer c = λ i. answer_of (answer (at_opening i) (at_ledger i) (call c))
+  at_answer c = λ i. called (answer (at_opening i) (at_ledger i) (call c))
 
-  pub at_query : (q : Query) → query_answer_in book_at q ≡ answer_of (answer o (after o cs) (query q))
+  pub at_query : (q : Query) → query_answer_in book_at q ≡ queried (answer o (after o cs) (query q))
   unfolding query_answer_in
-  at_query q = λ i. answer_of (answer (at_opening i) (at_ledger i) (query q))
+  at_query q = λ i. queried (answer (at_opening i) (at_ledger i) (query q))
 
   -- a call returns the book of one call more
   pub at_next : (c : Call) → (outcome_of book_at c).book ≡ book_of (opening_array o) (after o (cs ++ (c ∷ [])))

@@ -4,6 +4,7 @@ use mathlib.Core.Path.{◌≡◌, sym, ap, ◌∙◌, subst}
 use mathlib.Core.Bool.{true}
 use mathlib.Core.List.{List}
 use borrow.Author.Tests.{lt-leb}
+use Rattle.std.specs.Prelude.{Ok}
 use Rattle.tariff.specs.Sizes.{long_term_step}
 use Rattle.tariff.specs.Terms.{is_month}
 use Rattle.tariff.specs.Ranges.{month_out_of_range}
@@ -19,15 +20,14 @@ use Rattle.ledger.proofs.Conserved.{load_sum, rights_conserved_lem, load_conserv
 use Rattle.ledger.proofs.NeverBelowZero.{never_below_zero_lem}
 use Rattle.ledger.proofs.Nominations.{nominations_within_limit}
 use Rattle.ledger.proofs.Settled.{step_within_tier_1}
-use Rattle.records.specs.declared.answers.Answer.TheVariants.{Value}
-use Rattle.records.specs.Answers.{answer_of}
+use Rattle.records.specs.Answers.{queried}
 use Rattle.book.specs.SeasonTheorem.{calls_of, SeasonHolds, SeasonTheorem}
 use Rattle.book.proofs.ReachableSteps.{book_at, at_opening, at_ledger, at_query}
 use Rattle.book.proofs.SeasonAnswers.{last_book_lem, season_answered}
 
 -- a query that meets no cause is answered with its figure
-value_answered : (o : Opening) (L : Ledger) (q : Query) → query_refusal o L q ≡ 0 → answer_of (ledger.answer o L (query q)) ≡ Value (query_value o L q)
-unfolding ledger.answer answer_of
+value_answered : (o : Opening) (L : Ledger) (q : Query) → query_refusal o L q ≡ 0 → queried (ledger.answer o L (query q)) ≡ Ok (query_value o L q)
+unfolding ledger.answer queried
 value_answered o L q e = rw e
 
 held_accepted : (o : Opening) (L : Ledger) (h p m : ℕ) → h < o.holders → p < o.paths → is_month m ≡ true → query_refusal o L (held_on h p m) ≡ 0

@@ -1,6 +1,6 @@
 -- The season theorem (demand 3; 02, 1/14): what holds of every opening and of every list of calls and queries that a program puts to the book.
 -- It speaks of the answers and books that the methods return: `opening_outcome`, `outcome_of` and `query_answer_in` are what their contracts promise.
-use Rattle.std.specs.Prelude.{ℕ, ◌+◌, ◌≤◌, ◌<◌, ◌≡◌, true, cond, List, [], ◌∷◌, ◌++◌, map}
+use Rattle.std.specs.Prelude.{ℕ, ◌+◌, ◌≤◌, ◌<◌, ◌≡◌, true, cond, List, [], ◌∷◌, ◌++◌, map, Ok}
 use Rattle.netting.specs.declared.netting.ClassLine.{ClassLine}
 use Rattle.tariff.specs.Sizes.{long_term_step}
 use Rattle.tariff.specs.Sum.{sum_to}
@@ -12,9 +12,7 @@ use Rattle.ledger.specs.Balance.{HolderBalance}
 use Rattle.ledger.specs.Season.{Request, call, query, accepted, step, after, held, net, season}
 use Rattle.ledger.specs.Totals.{carried_in, awarded_in, posted_in, nominated_in}
 use Rattle.book.specs.declared.book.Book.{Book}
-use Rattle.records.specs.declared.answers.Answer.{Answer}
-use Rattle.records.specs.declared.answers.Answer.TheVariants.{Value}
-use Rattle.records.specs.Answers.{answer_in}
+use Rattle.records.specs.Answers.{Answer, answer_in, of_call, of_query}
 use Rattle.book.specs.Reading.{ledger_of, opening_of_book}
 use Rattle.book.specs.Outcomes.{outcome_of, query_answer_in}
 use Rattle.book.specs.Opened.{opening_outcome}
@@ -34,12 +32,12 @@ book_after b (query q ∷ requests) = book_after b requests
 -- the answers on the way
 unfoldable pub answers_of : Book → List Request → List Answer
 answers_of b [] = []
-answers_of b (call c ∷ requests) = (outcome_of b c).answer ∷ answers_of (outcome_of b c).book requests
-answers_of b (query q ∷ requests) = query_answer_in b q ∷ answers_of b requests
+answers_of b (call c ∷ requests) = of_call (outcome_of b c).answer ∷ answers_of (outcome_of b c).book requests
+answers_of b (query q ∷ requests) = of_query (query_answer_in b q) ∷ answers_of b requests
 
 -- a season's answers: the opening's, and unless it is refused all that follow
 unfoldable pub season_answers : Opening → List Request → List Answer
-season_answers o requests = (opening_outcome o).answer ∷ cond (legal o) (answers_of (opening_outcome o).book requests) []
+season_answers o requests = of_call (opening_outcome o).answer ∷ cond (legal o) (answers_of (opening_outcome o).book requests) []
 
 -- what holds of the last book after a legal opening
 pub record SeasonHolds (o : Opening) (cs : List Call) (last : Book) : Type 0 where
@@ -47,8 +45,8 @@ pub record SeasonHolds (o : Opening) (cs : List Call) (last : Book) : Type 0 whe
   -- over the holders.
   pub opening : opening_of_book last ≡ o
   pub figures : ledger_of last ≡ after o cs
-  pub held_answered : (h p m : ℕ) → h < o.holders → p < o.paths → is_month m ≡ true → query_answer_in last (held_on h p m) ≡ Value (held (after o cs) h p m)
-  pub net_answered : (p m : ℕ) → p < o.paths → is_month m ≡ true → query_answer_in last (net_on p m) ≡ Value (net o (after o cs) p m)
+  pub held_answered : (h p m : ℕ) → h < o.holders → p < o.paths → is_month m ≡ true → query_answer_in last (held_on h p m) ≡ Ok (held (after o cs) h p m)
+  pub net_answered : (p m : ℕ) → p < o.paths → is_month m ≡ true → query_answer_in last (net_on p m) ≡ Ok (net o (after o cs) p m)
   -- 3. Rights and loads are conserved: what the holders have is what the accepted calls brought in, the Long Term step's awards left out.
   pub rights_conserved : (p m : ℕ) → is_month m ≡ true → net o (ledger_of last) p m ≡ carried_in o cs p + awarded_in o cs p m
   pub loads_conserved : (s t : ℕ) → sum_to o.holders (λ h. (ledger_of last).loads.kw h s t) ≡ posted_in o cs s t

@@ -1,5 +1,5 @@
 // The book: its opening, its figures, what was posted, and the evidence filed, in flat arrays.
-use records::answers::Answer;
+use records::refusal::Refusal;
 use records::setup::OPENING_COUNT;
 use slots::layout::{EVIDENCE_COUNT, FIGURE_COUNT, POSTED_COUNT};
 use source_evidence::evidence::Entry;
@@ -12,9 +12,9 @@ pub struct Book {
     pub evidence: [Entry; EVIDENCE_COUNT],
 }
 
-// An answer beside the next book.
+// What a call answers, beside the next book.
 #[derive(Clone, Copy)]
 pub struct Outcome {
-    pub answer: Answer,
+    pub answer: Result<(), Refusal>,
     pub book: Book,
 }

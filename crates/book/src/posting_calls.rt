@@ -1,13 +1,14 @@
 // The calls that post (01, Posting), and migration (01, Migration): the book's arrays are lent to the call, and the next book is made of them.
 ghost use Rattle.std.specs.Prelude.{◌≡◌};
-ghost use Rattle.ledger.specs.Call.{load, carry, migrate, prior};
-ghost use Rattle.verify.specs.Decision.{verify_of};
+ghost use Rattle.ledger.specs.Call.{carry, migrate, prior};
+ghost use Rattle.load.specs.Loads.{load_of};
+ghost use Rattle.verify.specs.Asked.{verify_of};
 ghost use Rattle.book.specs.Outcomes.{outcome_of, outcome_of_columns};
 ghost use Rattle.book.specs.Reachable.{Reachable};
 
 use crate::book::{Book, Outcome};
 use load::load::load;
-use load_metric::block::Block;
+use load::metered::Metered;
 use migrate::class_lines::migrate_lines;
 use migrate::migrate::migrate;
 use netting::netting::{ClassColumns, ClassLine};
@@ -18,17 +19,9 @@ use verify::verify::verify_and_file;
 
 impl Book {
     // Posts the load of a holder at a sink in a term.
-    pub fn load(
-        mut self,
-        h: u64,
-        s: u64,
-        term: u64,
-        contract: u64,
-        n: u64,
-        blocks: &[Block],
-    ) -> Outcome
+    pub fn load(mut self, h: u64, s: u64, metered: Metered) -> Outcome
         requires { Reachable self }
-        ensures { result ≡ outcome_of self (load h s term contract n blocks.now) }
+        ensures { result ≡ outcome_of self (load_of h s metered.entry) }
     {
         let answer = load(
             &self.opening,
@@ -36,10 +29,7 @@ impl Book {
             &mut self.posted,
             h,
             s,
-            term,
-            contract,
-            n,
-            blocks,
+            metered,
         );
         Outcome { answer, book: self }
     }

@@ -6,12 +6,12 @@ ghost use Rattle.book.specs.Reachable.{Reachable};
 
 use crate::book::Book;
 use awards::holdings::{held, net};
-use records::answers::Answer;
+use records::refusal::Refusal;
 use tier_limits::limits::limit;
 
 impl Book {
     // A holder's limit at a sink's base in the open tier.
-    pub fn limit(self, h: u64, s: u64) -> Answer
+    pub fn limit(self, h: u64, s: u64) -> Result<u64, Refusal>
         requires { Reachable self }
         ensures { result ≡ query_answer_in self (limit_of h s) }
     {
@@ -19,7 +19,7 @@ impl Book {
     }
 
     // What a holder holds on a path in a month.
-    pub fn held(self, h: u64, p: u64, month: u64) -> Answer
+    pub fn held(self, h: u64, p: u64, month: u64) -> Result<u64, Refusal>
         requires { Reachable self }
         ensures { result ≡ query_answer_in self (held_on h p month) }
     {
@@ -27,7 +27,7 @@ impl Book {
     }
 
     // What all holders hold on a path in a month.
-    pub fn net(self, p: u64, month: u64) -> Answer
+    pub fn net(self, p: u64, month: u64) -> Result<u64, Refusal>
         requires { Reachable self }
         ensures { result ≡ query_answer_in self (net_on p month) }
     {

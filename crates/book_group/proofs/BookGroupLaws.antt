@@ -10,12 +10,13 @@ use lib.Seq.{drop-drop}
 use lib.Dec.{eqb}
 use borrow.Author.Tests.{eqb-true}
 use Rattle.tariff.proofs.Tests.{and_both}
-use Rattle.ledger.specs.Numbers.{unreadable}
-use Rattle.ledger.specs.Opening.{Opening, legal, opening_refusal}
+use Rattle.std.specs.Prelude.{Result, Ok, Err}
+use Rattle.std.specs.Result.{is_ok}
+use Rattle.ledger.specs.Opening.{Opening, legal}
 use Rattle.ledger.specs.Ledger.{empty_ledger}
 use Rattle.records.specs.Opening.{opening_array}
-use Rattle.records.specs.declared.answers.Answer.{Answer}
-use Rattle.records.specs.declared.answers.Answer.TheVariants.{Done, Refused}
+use Rattle.records.specs.declared.refusal.Refusal.{Refusal}
+use Rattle.records.specs.declared.refusal.Refusal.TheVariants.{Unreadable, BreaksRules}
 use Rattle.opening.specs.Opened.{opening_answer, resulting_opening}
 use Rattle.book.specs.Reading.{book_of}
 use Rattle.book.specs.Opened.{opening_outcome}
@@ -35,7 +36,7 @@ use Rattle.counted_lines.proofs.RowSteps.{consumed_within}
 use Rattle.counted_lines.proofs.LineBytes.{bytes_within, rows_after}
 use Rattle.book_group.specs.declared.book_group.BookGroup.{BookGroup}
 use Rattle.groups.specs.Groups.{book_readable, opening_of_rows, call_rows}
-use Rattle.book_group.specs.BookGroup.{is_done, opening_kept, book_group_with, opening_left, book_group_of, opening_after}
+use Rattle.book_group.specs.BookGroup.{opening_kept, book_group_with, opening_left, book_group_of, opening_after}
 use Rattle.book_group.proofs.CutLists.{kept_answer, kept_opening}
 
 -- the head is one line
@@ -48,14 +49,15 @@ as_counted : (kind : LineKind) (n : ℕ) (lines : List Row) → counted kind n l
 unfolding counted
 as_counted kind n lines e = eqb-true (length lines) n (and_both (eqb (length lines) n) (all_of_kind kind lines) e).0
 
--- a legal opening is done, and no other
-done_legal : (o : Opening) → is_done (opening_answer o) ≡ legal o
-unfolding opening_answer is_done
-done_legal o = go (legal o) (opening_refusal o)
+-- a group opens a book where it is readable and its opening is legal
+opens : (readable : Bool) (o : Opening) → is_ok (cond readable (opening_answer o) (Err Unreadable)) ≡ (readable && legal o)
+unfolding opening_answer
+opens readable o = go readable (legal o)
   where
-    go : (t : Bool) (n : ℕ) → is_done (cond t Done (Refused n)) ≡ t
-    go true n = refl
-    go false n = refl
+    go : (t u : Bool) → is_ok (cond t (cond u (Ok (tt {0})) (Err BreaksRules)) (Err Unreadable)) ≡ (t && u)
+    go true true = refl
+    go true false = refl
+    go false u = refl
 
 readable_parts : (head : Row) (rows : List Row) → book_readable head rows ≡ (book_lines_complete head rows && same_kind head.kind Book)
 unfolding book_readable book_lines_complete
@@ -99,15 +101,14 @@ module _ (head : Row) (rest : List ℕ) (lists : BookLists) (e : lists ≡ book_
         let first = and_both _ _ last.0 in
         (as_counted Holder (field 0 head) (holder_rows head rows) first.0, as_counted Sink (field 2 head) (sink_rows head rows) first.1, as_counted Path (field 3 head) (path_rows head rows) last.1)
 
-    pub group_opened : (consumed : ℕ) (answer : Answer) (is_open : Bool) → answer ≡ opening_answer (opening_kept head lists) → is_open ≡ is_done answer → ◌≡◌ {A = BookGroup} (record { answer = answer; consumed = consumed + lists.consumed; is_open = is_open }) (group consumed)
+    pub group_opened : (consumed : ℕ) (answer : Result (Unit {0}) Refusal) → answer ≡ opening_answer (opening_kept head lists) → ◌≡◌ {A = BookGroup} (record { answer = answer; consumed = consumed + lists.consumed }) (group consumed)
     unfolding book_group_with
-    group_opened consumed answer is_open ea ed =
+    group_opened consumed answer ea =
         let o = opening_of_rows head rows in
         let ea' = ea ∙ kept_answer head rest lists e all_counted in
         let so = sym (sym is-readable ∙ readable) in
-        let done = ed ∙ ap is_done ea' ∙ done_legal o in
-        (λ i. record { answer = ea' i; consumed = consumed + lists-consumed i; is_open = done i })
-        ∙ (λ i. record { answer = cond (so i) (opening_answer o) (Refused unreadable); consumed = consumed + bytes_of_lines (book_line_count head rows) rest; is_open = so i && legal o })
+        (λ i. record { answer = ea' i; consumed = consumed + lists-consumed i })
+        ∙ (λ i. record { answer = cond (so i) (opening_answer o) (Err Unreadable); consumed = consumed + bytes_of_lines (book_line_count head rows) rest })
 
     pub opening_put : (o₀ o₁ : List ℕ) → o₁ ≡ opening_array (resulting_opening (opening_kept head lists)) → o₁ ≡ opening_left head rows o₀
     unfolding opening_left
@@ -115,13 +116,13 @@ module _ (head : Row) (rest : List ℕ) (lists : BookLists) (e : lists ≡ book_
 
   -- and what is answered where they are not
   module _ (unread : (lists.complete && same_kind head.kind Book) ≡ false) where
-    pub group_refused : (consumed : ℕ) → ◌≡◌ {A = BookGroup} (record { answer = Refused unreadable; consumed = consumed + lists.consumed; is_open = false }) (group consumed)
+    pub group_refused : (consumed : ℕ) → ◌≡◌ {A = BookGroup} (record { answer = Err Unreadable; consumed = consumed + lists.consumed }) (group consumed)
     unfolding book_group_with
     group_refused consumed =
         let o = opening_of_rows head rows in
         let so = sym (sym is-readable ∙ unread) in
-        (λ i. record { answer = Refused unreadable; consumed = consumed + lists-consumed i; is_open = false })
-        ∙ (λ i. record { answer = cond (so i) (opening_answer o) (Refused unreadable); consumed = consumed + bytes_of_lines (book_line_count head rows) rest; is_open = so i && legal o })
+        (λ i. record { answer = Err Unreadable; consumed = consumed + lists-consumed i })
+        ∙ (λ i. record { answer = cond (so i) (opening_answer o) (Err Unreadable); consumed = consumed + bytes_of_lines (book_line_count head rows) rest })
 
     pub opening_stays : (o : List ℕ) → o ≡ opening_left head rows o
     unfolding opening_left
@@ -171,12 +172,15 @@ module _ (script : List ℕ) where
   unfolding call_rows
   group_rows = ap (λ u. rows_of (drop u script)) (group_consumed script) ∙ ap rows_of (sym (drop-drop (bytes_of_lines counted_lines left) (next_row script).consumed script)) ∙ rows_after counted_lines left
 
-  -- the book of a run that goes on
-  pub book_group_reachable : (o : List ℕ) → (book_group_of script).is_open ≡ true → Reachable (book_of (opening_after script o) empty_ledger)
-  unfolding book_group_of book_group_with opening_after opening_left opening_outcome
-  book_group_reachable o e =
-      let readable = (and_both (book_readable first (rows_of left)) (legal (opening_of_rows first (rows_of left))) e).0 in
-      rw readable (opened_reachable (opening_of_rows first (rows_of left)))
+  -- a run goes on where the group is readable and its opening legal
+  pub group_opens : is_ok (book_group_of script).answer ≡ true → (book_readable first (rows_of left) ≡ true) × (legal (opening_of_rows first (rows_of left)) ≡ true)
+  unfolding book_group_of book_group_with
+  group_opens e = and_both _ _ (sym (opens (book_readable first (rows_of left)) (opening_of_rows first (rows_of left))) ∙ e)
+
+  -- and its book is one
+  pub book_group_reachable : (o : List ℕ) → is_ok (book_group_of script).answer ≡ true → Reachable (book_of (opening_after script o) empty_ledger)
+  unfolding opening_after opening_left opening_outcome
+  book_group_reachable o e = rw (group_opens e).0 (opened_reachable (opening_of_rows first (rows_of left)))
 
 -- the head's bytes and those of its lines are in the script
 pub lists_fit_lem : (script : List ℕ) (f : NextRow) (lists : BookLists) → f ≡ next_row script → lists ≡ book_lists_of f.row (take (length script - f.consumed) (drop f.consumed script)) → f.consumed + lists.consumed ≤ length script

@@ -5,23 +5,25 @@ use mathlib.Core.Bool.{true, false}
 use mathlib.Core.List.{List, map}
 use mathlib.Core.Logic.{◌⊎◌, inl, inr}
 use native.Mathlib.Omega.{arith}
-use lib.ListN.{length, take, get_or, length-map}
-use lib.Seq.{ext_get_or, get_or-take, length-take-le, take_all}
+use lib.ListN.{length, take, get_or, replicate, length-map}
+use lib.Seq.{length-take-le, take_all}
 use lib.Dec.{leb}
 use borrow.Author.Tests.{leb-true, leb-false}
 use Rattle.tariff.specs.Sizes.{max_holders, max_places}
-use Rattle.tariff.specs.Sum.{tabulate}
-use Rattle.tariff.proofs.Lists.{length_tabulate, at_tabulate}
 use Rattle.tariff.proofs.Tests.{and_both, and_left_false, decided}
-use Rattle.ledger.specs.Numbers.{breaks_rules}
-use Rattle.ledger.specs.Opening.{Opening, counts_fit, legal, opening_refusal}
+use Rattle.std.specs.Prelude.{Err}
+use Rattle.std.proofs.lemmas.List.{length-replicate}
+use Rattle.std.proofs.lemmas.Simd.{map-map}
+use Rattle.ledger.specs.Opening.{Opening, counts_fit, legal}
 use Rattle.records.specs.Opening.{empty_opening, opening_from}
-use Rattle.records.specs.declared.answers.Answer.TheVariants.{Refused}
+use Rattle.records.specs.declared.refusal.Refusal.TheVariants.{BreaksRules}
 use Rattle.opening.specs.Opened.{opening_answer, resulting_opening}
 use Rattle.lines.specs.declared.rows.Row.{Row}
 use Rattle.counted_lines.specs.declared.book_lines.BookLists.{BookLists}
 use Rattle.lines.specs.Rows.{rows_of, field, holder_rows, sink_rows, path_rows, settings_of_rows}
-use Rattle.counted_lines.specs.BookLines.{first_places, first_fields, book_lists_of}
+use Rattle.counted_lines.specs.BookLines.{first_lines, blank_sink, blank_path, book_lists_of}
+use Rattle.counted_lines.specs.Counted.{sink_line_of, path_line_of, with_lines}
+use Rattle.counted_lines.proofs.KeptLines.{all_kept, same_long}
 use Rattle.groups.specs.Groups.{opening_of_rows}
 use Rattle.book_group.specs.BookGroup.{FullLists, opening_kept}
 
@@ -30,8 +32,8 @@ not_legal : (o : Opening) → counts_fit o ≡ false → legal o ≡ false
 unfolding legal
 not_legal o e = and_left_false _ (and_left_false _ (and_left_false _ (and_left_false _ (and_left_false _ (and_left_false _ e)))))
 
-refused_for_counts : (o : Opening) → counts_fit o ≡ false → opening_answer o ≡ Refused breaks_rules
-unfolding opening_answer opening_refusal
+refused_for_counts : (o : Opening) → counts_fit o ≡ false → opening_answer o ≡ Err BreaksRules
+unfolding opening_answer
 refused_for_counts o e = rw (not_legal o e)
 
 empty_for_counts : (o : Opening) → counts_fit o ≡ false → resulting_opening o ≡ empty_opening
@@ -64,21 +66,25 @@ counts_small o e =
     let holders = leb-true o.holders max_holders first.0 in
     (omega arith, leb-true o.sinks max_places third.1, leb-true o.paths max_places last.1)
 
--- the first 16 of at most 16 numbers are all of them
-first_are_all : (n : ℕ) (xs : List ℕ) → length xs ≡ n → n ≤ max_places → take n (first_places xs) ≡ xs
-unfolding first_places
-first_are_all n xs long few =
-    let kept = length_tabulate max_places (λ k. get_or xs k 0) in
-    let some = length-take-le n (tabulate max_places (λ k. get_or xs k 0)) (omega arith) in
-    ext_get_or 0 (take n (tabulate max_places (λ k. get_or xs k 0))) xs (some ∙ sym long)
-    (λ i l. get_or-take n (tabulate max_places (λ k. get_or xs k 0)) i 0 (omega arith) ∙ at_tabulate max_places (λ k. get_or xs k 0) 0 i (omega arith))
+-- of at most 16 lines the first 16 are all
+lines_are_all : {T : Type 0} (of : Row → T) (blank : T) (n : ℕ) (rows : List Row) → length rows ≡ n → n ≤ max_places → take n (first_lines blank (map of rows)) ≡ map of rows
+unfolding first_lines
+lines_are_all of blank n rows long few =
+    let many = length-map rows of ∙ long in
+    let room = length-replicate max_places blank in
+    ap (λ k. take k (with_lines (map of rows) (replicate max_places blank))) (sym many) ∙ all_kept (map of rows) (replicate max_places blank) (omega arith)
 
-fields_are_all : (j n : ℕ) (rows : List Row) → length rows ≡ n → n ≤ max_places → take n (first_fields j rows) ≡ map (field j) rows
-unfolding first_fields
-fields_are_all j n rows long few = first_are_all n (map (field j) rows) (length-map rows (field j) ∙ long) few
+-- a number of each line is a field of each row
+numbers_are_all : {T : Type 0} (of : Row → T) (number : T → ℕ) (blank : T) (n : ℕ) (rows : List Row) → length rows ≡ n → n ≤ max_places → map number (take n (first_lines blank (map of rows))) ≡ map (λ r. number (of r)) rows
+numbers_are_all of number blank n rows long few = ap (map number) (lines_are_all of blank n rows long few) ∙ map-map number of rows
+
+-- the first 16 lines have 16 places
+as-long : {T : Type 0} (blank : T) (lines : List T) → length (first_lines blank lines) ≡ max_places
+unfolding first_lines
+as-long blank lines = same_long lines (replicate max_places blank) ∙ length-replicate max_places blank
 
 -- what is lent of a full list is what is counted, or all of it
-module _ (n r : ℕ) (lent : r ≡ min n max_places) (xs : List ℕ) (full : length xs ≡ max_places) where
+module _ (n r : ℕ) (lent : r ≡ min n max_places) {T : Type 0} (xs : List T) (full : length xs ≡ max_places) where
   pub lent_long : r ≡ length (take r xs)
   lent_long = sym (length-take-le r xs (omega arith))
 
@@ -94,16 +100,16 @@ module _ (head : Row) (lists : BookLists) (full : FullLists lists) where
   abbrev count : ℕ → ℕ
   count k = get_or head.fields k 0
 
-  pub lent_opening : (h s p : ℕ) → h ≡ min (count 0) max_places → s ≡ min (count 2) max_places → p ≡ min (count 3) max_places → opening_from (count 0) (count 1) (count 2) (count 3) (take h lists.holder_kinds) (take s lists.sink_kinds) (take s lists.sink_parents) (take p lists.path_sources) (take p lists.path_sinks) lists.settings ≡ opening_kept head lists
+  pub lent_opening : (h s p : ℕ) → h ≡ min (count 0) max_places → s ≡ min (count 2) max_places → p ≡ min (count 3) max_places → opening_from (count 0) (count 1) (count 2) (count 3) (take h lists.holder_kinds) (map (λ line. line.kind) (take s lists.sink_lines)) (map (λ line. line.parent) (take s lists.sink_lines)) (map (λ line. line.source) (take p lists.path_lines)) (map (λ line. line.sink) (take p lists.path_lines)) lists.settings ≡ opening_kept head lists
   unfolding opening_kept field
   lent_opening h s p eh es ep =
       λ i.
       opening_from (count 0) (count 1) (count 2) (count 3)
       (lent_cut (count 0) h eh lists.holder_kinds full.of_holder_kinds i)
-      (lent_cut (count 2) s es lists.sink_kinds full.of_sink_kinds i)
-      (lent_cut (count 2) s es lists.sink_parents full.of_sink_parents i)
-      (lent_cut (count 3) p ep lists.path_sources full.of_path_sources i)
-      (lent_cut (count 3) p ep lists.path_sinks full.of_path_sinks i)
+      (map (λ line. line.kind) (lent_cut (count 2) s es lists.sink_lines full.of_sink_lines i))
+      (map (λ line. line.parent) (lent_cut (count 2) s es lists.sink_lines full.of_sink_lines i))
+      (map (λ line. line.source) (lent_cut (count 3) p ep lists.path_lines full.of_path_lines i))
+      (map (λ line. line.sink) (lent_cut (count 3) p ep lists.path_lines full.of_path_lines i))
       lists.settings
 
 -- the lists that are kept of a head's lines
@@ -111,16 +117,14 @@ module _ (head : Row) (rest : List ℕ) (lists : BookLists) (e : lists ≡ book_
   abbrev rows : List Row
   rows = rows_of rest
 
-  -- each has its 16 numbers
+  -- each has its 16 places
   pub full_lists : FullLists lists
-  unfolding book_lists_of first_fields first_places
+  unfolding book_lists_of
   full_lists =
       record {
-        of_holder_kinds = ap (λ l. length l.holder_kinds) e ∙ length_tabulate max_places _;
-        of_sink_kinds = ap (λ l. length l.sink_kinds) e ∙ length_tabulate max_places _;
-        of_sink_parents = ap (λ l. length l.sink_parents) e ∙ length_tabulate max_places _;
-        of_path_sources = ap (λ l. length l.path_sources) e ∙ length_tabulate max_places _;
-        of_path_sinks = ap (λ l. length l.path_sinks) e ∙ length_tabulate max_places _;
+        of_holder_kinds = ap (λ l. length l.holder_kinds) e ∙ as-long _ _;
+        of_sink_lines = ap (λ l. length l.sink_lines) e ∙ as-long _ _;
+        of_path_lines = ap (λ l. length l.path_lines) e ∙ as-long _ _;
       }
 
   module _ (there : (length (holder_rows head rows) ≡ field 0 head) × (length (sink_rows head rows) ≡ field 2 head) × (length (path_rows head rows) ≡ field 3 head)) where
@@ -128,7 +132,7 @@ module _ (head : Row) (rest : List ℕ) (lists : BookLists) (e : lists ≡ book_
     read = opening_of_rows head rows
 
     whole-lists : counts_fit read ≡ true → opening_kept head lists ≡ read
-    unfolding opening_kept opening_from opening_of_rows book_lists_of
+    unfolding opening_kept opening_from opening_of_rows book_lists_of sink_line_of path_line_of
     whole-lists fit =
         let small = counts_small read fit in
         ap (opening_kept head) e
@@ -138,11 +142,11 @@ module _ (head : Row) (rest : List ℕ) (lists : BookLists) (e : lists ≡ book_
           sources = field 1 head;
           sinks = field 2 head;
           paths = field 3 head;
-          holder_kinds = fields_are_all 0 (field 0 head) (holder_rows head rows) there.0 small.0 i;
-          sink_kinds = fields_are_all 0 (field 2 head) (sink_rows head rows) there.1 small.1 i;
-          sink_parents = fields_are_all 1 (field 2 head) (sink_rows head rows) there.1 small.1 i;
-          path_sources = fields_are_all 0 (field 3 head) (path_rows head rows) there.2 small.2 i;
-          path_sinks = fields_are_all 1 (field 3 head) (path_rows head rows) there.2 small.2 i;
+          holder_kinds = lines_are_all (field 0) 0 (field 0 head) (holder_rows head rows) there.0 small.0 i;
+          sink_kinds = numbers_are_all sink_line_of (λ line. line.kind) blank_sink (field 2 head) (sink_rows head rows) there.1 small.1 i;
+          sink_parents = numbers_are_all sink_line_of (λ line. line.parent) blank_sink (field 2 head) (sink_rows head rows) there.1 small.1 i;
+          path_sources = numbers_are_all path_line_of (λ line. line.source) blank_path (field 3 head) (path_rows head rows) there.2 small.2 i;
+          path_sinks = numbers_are_all path_line_of (λ line. line.sink) blank_path (field 3 head) (path_rows head rows) there.2 small.2 i;
           settings = settings_of_rows head rows;
         }
 

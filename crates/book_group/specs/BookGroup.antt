@@ -1,11 +1,9 @@
 -- The book group that a script begins with: what it is answered, the opening that it leaves, and where the calls begin (01, Script and host; 02, 3/14).
-use Rattle.std.specs.Prelude.{ℕ, ◌+◌, ◌≡◌, Bool, true, false, cond, ◌&&◌, List, length, take, drop}
+use Rattle.std.specs.Prelude.{ℕ, ◌+◌, ◌≡◌, cond, List, map, length, take, drop, Err}
 use Rattle.tariff.specs.Sizes.{max_places}
-use Rattle.ledger.specs.Numbers.{unreadable}
-use Rattle.ledger.specs.Opening.{Opening, legal}
+use Rattle.ledger.specs.Opening.{Opening}
 use Rattle.records.specs.Opening.{opening_array, opening_from}
-use Rattle.records.specs.declared.answers.Answer.{Answer}
-use Rattle.records.specs.declared.answers.Answer.TheVariants.{Done, Value, Refused}
+use Rattle.records.specs.declared.refusal.Refusal.TheVariants.{Unreadable}
 use Rattle.opening.specs.Opened.{opening_answer, resulting_opening}
 use Rattle.lines.specs.declared.rows.Row.{Row}
 use Rattle.counted_lines.specs.declared.book_lines.BookLists.{BookLists}
@@ -15,39 +13,30 @@ use Rattle.counted_lines.specs.Counted.{bytes_of_lines}
 use Rattle.book_group.specs.declared.book_group.BookGroup.{BookGroup}
 use Rattle.groups.specs.Groups.{book_readable, opening_of_rows}
 
--- an answer without a figure that is no refusal
-unfoldable pub is_done : Answer → Bool
-is_done Done = true
-is_done (Value v) = false
-is_done (Refused number) = false
-
--- each list has its 16 numbers
+-- each list has its 16 places
 pub record FullLists (lists : BookLists) : Type 0 where
   pub of_holder_kinds : length lists.holder_kinds ≡ max_places
-  pub of_sink_kinds : length lists.sink_kinds ≡ max_places
-  pub of_sink_parents : length lists.sink_parents ≡ max_places
-  pub of_path_sources : length lists.path_sources ≡ max_places
-  pub of_path_sinks : length lists.path_sinks ≡ max_places
+  pub of_sink_lines : length lists.sink_lines ≡ max_places
+  pub of_path_lines : length lists.path_lines ≡ max_places
 
 -- the opening of a head with the lists and the settings that were kept: of each as many as the head counts, or all that there are
 unfoldable pub opening_kept : Row → BookLists → Opening
 opening_kept head lists =
     opening_from (field 0 head) (field 1 head) (field 2 head) (field 3 head)
     (take (field 0 head) lists.holder_kinds)
-    (take (field 2 head) lists.sink_kinds)
-    (take (field 2 head) lists.sink_parents)
-    (take (field 3 head) lists.path_sources)
-    (take (field 3 head) lists.path_sinks)
+    (map (λ line. line.kind) (take (field 2 head) lists.sink_lines))
+    (map (λ line. line.parent) (take (field 2 head) lists.sink_lines))
+    (map (λ line. line.source) (take (field 3 head) lists.path_lines))
+    (map (λ line. line.sink) (take (field 3 head) lists.path_lines))
     lists.settings
 
 module _ (head : Row) (rows : List Row) where
-  -- a group that is unreadable is refused with 1; like a refused opening it opens no book
+  -- a group that is unreadable is refused with 1; a group that is refused opens no book
   unfoldable pub book_group_with : ℕ → BookGroup
   book_group_with consumed =
       record {
-        answer = cond (book_readable head rows) (opening_answer (opening_of_rows head rows)) (Refused unreadable);
+        answer = cond (book_readable head rows) (opening_answer (opening_of_rows head rows)) (Err Unreadable);
         consumed = consumed;
-        is_open = book_readable head rows && legal (opening_of_rows head rows);
       }
 
   -- the array that an opening is kept in: an unreadable group leaves it as it was

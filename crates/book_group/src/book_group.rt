@@ -3,37 +3,43 @@ ghost use Rattle.std.specs.Prelude.{min, ◌≡◌, length};
 ghost use Rattle.tariff.specs.Sizes.{max_places};
 ghost use Rattle.records.specs.Opening.{opening_array, opening_count};
 ghost use Rattle.opening.specs.Opened.{opening_answer, resulting_opening};
-ghost use Rattle.book_group.specs.BookGroup.{is_done, FullLists, opening_kept, book_group_of, opening_after};
+ghost use Rattle.book_group.specs.BookGroup.{FullLists, opening_kept, book_group_of, opening_after};
 
 use counted_lines::book_lines::{BookLists, read_book_lines};
 use lines::lines::next_row;
 use lines::rows::{LineKind, Row};
 use opening::book_setup::BookSetup;
 use opening::opening::open;
-use records::answers::Answer;
-use records::numbers::UNREADABLE;
+use records::refusal::Refusal;
 use tariff::sizes::MAX_PLACES;
 
-// What the book group comes to: its answer, how many bytes it takes, and whether a book is open.
+// What the book group comes to: its answer, which is a refusal where no book is open, and how many bytes it takes.
 #[derive(Clone, Copy)]
 pub struct BookGroup {
-    pub answer: Answer,
+    pub answer: Result<(), Refusal>,
     pub consumed: usize,
-    pub is_open: bool,
+}
+
+impl BookGroup {
+    ghost use Rattle.std.specs.Result.{is_ok};
+
+    // Whether a book is open. Where none is the run ends.
+    pub fn opens(self) -> bool
+        ensures { result ≡ is_ok self.answer }
+    {
+        self.answer.is_ok()
+    }
 }
 
 // How much of a list is lent: as much as is counted, at most 16.
 fn lent_length(count: u64) -> usize
     ensures { result ≡ min count max_places }
 {
-    if count < MAX_PLACES as u64 {
-        return count as usize;
-    }
-    MAX_PLACES
+    count.min(MAX_PLACES as u64) as usize
 }
 
 // Opens the book of a head, in a lent array, from the lists and the settings of its lines. Where a count is above 16 a list is cut, and the count alone breaks the rules.
-fn open_from_lists(o: &mut [u64], head: Row, lists: BookLists) -> Answer
+fn open_from_lists(o: &mut [u64], head: Row, lists: BookLists) -> Result<(), Refusal>
     requires opening { length o.old ≡ opening_count }
     requires lists { FullLists lists }
     ensures answer { result ≡ opening_answer (opening_kept head lists) }
@@ -51,23 +57,11 @@ fn open_from_lists(o: &mut [u64], head: Row, lists: BookLists) -> Answer
             sinks: counts[2],
             paths: counts[3],
             holder_kinds: &lists.holder_kinds[..holders],
-            sink_kinds: &lists.sink_kinds[..sinks],
-            sink_parents: &lists.sink_parents[..sinks],
-            path_sources: &lists.path_sources[..paths],
-            path_sinks: &lists.path_sinks[..paths],
+            sink_lines: &lists.sink_lines[..sinks],
+            path_lines: &lists.path_lines[..paths],
             settings: lists.settings,
         },
     )
-}
-
-// Only a group that is done leaves an open book.
-fn is_done(answer: Answer) -> bool
-    ensures { result ≡ is_done answer }
-{
-    match answer {
-        Answer::Done => true,
-        _ => false,
-    }
 }
 
 // Reads the book group at the start of a script and opens its book in a lent array.
@@ -83,16 +77,10 @@ pub fn open_from_script(script: &[u8], o: &mut [u64]) -> BookGroup
     let consumed = at_lines + lists.consumed;
     if lists.complete && head.kind == LineKind::Book {
         let answer = open_from_lists(o, head, lists);
-        let is_open = is_done(answer);
-        return BookGroup {
-            answer,
-            consumed,
-            is_open,
-        };
+        return BookGroup { answer, consumed };
     }
     BookGroup {
-        answer: Answer::Refused(UNREADABLE),
+        answer: Err(Refusal::Unreadable),
         consumed,
-        is_open: false,
     }
 }

@@ -3,7 +3,8 @@ ghost use Rattle.std.specs.Prelude.{◌≡◌};
 ghost use Rattle.book.specs.Reachable.{Reachable};
 
 use book::book::{Book, Outcome};
-use records::answers::Answer;
+use records::answers::{Answer, of_call, of_query};
+use records::refusal::Refusal;
 use std::io;
 
 // Where answers are written, and whether each so far could be.
@@ -16,9 +17,12 @@ pub struct Answers<'a, R: Print> {
 // The line of an answer.
 fn write_line(rt: &impl Print, answer: Answer) -> io::Result<()> {
     match answer {
-        Answer::Done => println!(rt; "ok"),
-        Answer::Value(value) => println!(rt; "ok,{value}"),
-        Answer::Refused(number) => println!(rt; "no,{number:02}"),
+        Ok(None) => println!(rt; "ok"),
+        Ok(Some(figure)) => println!(rt; "ok,{figure}"),
+        Err(refusal) => {
+            let number = refusal.number();
+            println!(rt; "no,{number:02}")
+        }
     }
 }
 
@@ -32,7 +36,7 @@ impl<'a, R: Print> Answers<'a, R> {
     }
 
     // Writes an answer, unless a line before it could not be written.
-    pub fn write(&mut self, answer: Answer) {
+    fn write(&mut self, answer: Answer) {
         if self.written.is_ok() {
             self.written = write_line(self.rt, answer);
         }
@@ -44,8 +48,13 @@ impl<'a, R: Print> Answers<'a, R> {
         ensures beside { result ≡ outcome.book }
         ensures reachable { Reachable result }
     {
-        self.write(outcome.answer);
+        self.write(of_call(outcome.answer));
         outcome.book
+    }
+
+    // Writes the answer of a query.
+    pub fn write_query(&mut self, queried: Result<u64, Refusal>) {
+        self.write(of_query(queried));
     }
 
     // Whether every line was written.

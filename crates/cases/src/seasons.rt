@@ -4,29 +4,36 @@ ghost use Rattle.book.specs.Reachable.{Reachable};
 use crate::answers::Answers;
 use book::book::{Book, Outcome};
 use book::opened::open_book;
+use load::metered::Metered;
 use load_metric::block::Block;
 use netting::netting::ClassLine;
-use opening::book_setup::BookSetup;
+use opening::book_setup::{BookSetup, PathLine, SinkLine};
 use source_evidence::filing::Filing;
 use std::io;
 use tariff::settings::Settings;
 
-// A book with holders of these kinds, one sink, and a path to it from each of so many sources.
+// A path from a source to sink 0.
+fn path_from(source: u64) -> PathLine {
+    PathLine { source, sink: 0 }
+}
+
+// A book with holders of these kinds, one sink, and these paths, each from a source of its own.
 #[tactic(auto, using(book::proofs::NextBooks::after_opening))]
-fn open(kinds: &[u64], sink_kind: u64, path_sources: &[u64], path_sinks: &[u64]) -> Outcome
+fn open(kinds: &[u64], sink_kind: u64, path_lines: &[PathLine]) -> Outcome
     ensures { Reachable result.book }
 {
-    let paths = path_sources.len() as u64;
+    let paths = path_lines.len() as u64;
     open_book(BookSetup {
         holders: kinds.len() as u64,
         sources: paths,
         sinks: 1,
         paths,
         holder_kinds: kinds,
-        sink_kinds: &[sink_kind],
-        sink_parents: &[0],
-        path_sources,
-        path_sinks,
+        sink_lines: &[SinkLine {
+            kind: sink_kind,
+            parent: 0,
+        }],
+        path_lines,
         settings: Settings::present(),
     })
 }
@@ -35,14 +42,24 @@ fn open(kinds: &[u64], sink_kind: u64, path_sources: &[u64], path_sinks: &[u64])
 fn without_paths(kinds: &[u64]) -> Outcome
     ensures { Reachable result.book }
 {
-    open(kinds, 1, &[], &[])
+    open(kinds, 1, &[])
 }
 
 // Holders of these kinds at a sink with one path.
 fn with_path(kinds: &[u64], sink_kind: u64) -> Outcome
     ensures { Reachable result.book }
 {
-    open(kinds, sink_kind, &[0], &[0])
+    open(kinds, sink_kind, &[path_from(0)])
+}
+
+// What is metered in a term.
+fn metered(term: u64, contract: u64, n: u64, blocks: &[Block]) -> Metered {
+    Metered {
+        term,
+        contract,
+        n,
+        blocks,
+    }
 }
 
 // Hours from one on with one load.
@@ -55,7 +72,7 @@ fn steady_load(b: Book, h: u64, term: u64, kw: u64) -> Outcome
     requires { Reachable b }
     ensures { Reachable result.book }
 {
-    b.load(h, 0, term, 0, 100, &[block(0, 100, kw)])
+    b.load(h, 0, metered(term, 0, 100, &[block(0, 100, kw)]))
 }
 
 // A tier that opens and closes with nothing nominated.
@@ -82,9 +99,9 @@ fn full_tier<R: Print>(answers: &mut Answers<R>, b: Book, tier: u64, kw: u64) ->
 fn first_tier_1<R: Print>(answers: &mut Answers<R>) -> Book
     ensures { Reachable result }
 {
-    let b = answers.next(open(&[1], 1, &[0, 1], &[0, 0]));
+    let b = answers.next(open(&[1], 1, &[path_from(0), path_from(1)]));
     let blocks = [block(0, 398, 1000), block(398, 2, 5000)];
-    let b = answers.next(b.load(0, 0, 0, 0, 400, &blocks));
+    let b = answers.next(b.load(0, 0, metered(0, 0, 400, &blocks)));
     let b = answers.next(b.carry(0, 0, 100));
     let b = answers.next(b.prior(0, 1, 300, 20));
     answers.next(b.open_tier(1))
@@ -95,13 +112,13 @@ fn first_season<R: Print>(answers: &mut Answers<R>) -> Book
     ensures { Reachable result }
 {
     let b = first_tier_1(answers);
-    answers.write(b.limit(0, 0));
+    answers.write_query(b.limit(0, 0));
     let b = answers.next(b.nominate(0, 1, 201));
     let b = answers.next(b.nominate(0, 1, 200));
     let b = answers.next(b.award(0, 1, 150));
     let b = answers.next(b.award(0, 1, 51));
     let b = answers.next(b.close_tier());
-    answers.write(b.net(1, 2));
+    answers.write_query(b.net(1, 2));
     b
 }
 
@@ -116,12 +133,12 @@ pub fn case_2(rt: &impl Print) -> io::Result<()> {
     let mut answers = Answers::of_case(rt, 2);
     let blocks = [block(0, 397, 1000), block(397, 3, 5000)];
     let b = answers.next(without_paths(&[1]));
-    let b = answers.next(b.load(0, 0, 1, 0, 400, &blocks));
+    let b = answers.next(b.load(0, 0, metered(1, 0, 400, &blocks)));
     let b = pass_tier(&mut answers, b, 1);
     let b = pass_tier(&mut answers, b, 2);
     let b = pass_tier(&mut answers, b, 3);
     let b = answers.next(b.open_tier(4));
-    answers.write(b.limit(0, 0));
+    answers.write_query(b.limit(0, 0));
     answers.end()
 }
 
@@ -131,8 +148,8 @@ pub fn case_3(rt: &impl Print) -> io::Result<()> {
     let two_missing = [block(0, 98, 1000)];
     let three_missing = [block(0, 97, 1000)];
     let b = answers.next(without_paths(&[1, 1]));
-    let b = answers.next(b.load(0, 0, 0, 0, 100, &two_missing));
-    answers.next(b.load(1, 0, 0, 0, 100, &three_missing));
+    let b = answers.next(b.load(0, 0, metered(0, 0, 100, &two_missing)));
+    answers.next(b.load(1, 0, metered(0, 0, 100, &three_missing)));
     answers.end()
 }
 
@@ -141,12 +158,12 @@ pub fn case_4(rt: &impl Print) -> io::Result<()> {
     let mut answers = Answers::of_case(rt, 4);
     let blocks = [block(0, 100, 1000)];
     let b = answers.next(without_paths(&[1]));
-    let b = answers.next(b.load(0, 0, 1, 1200, 100, &blocks));
+    let b = answers.next(b.load(0, 0, metered(1, 1200, 100, &blocks)));
     let b = pass_tier(&mut answers, b, 1);
     let b = pass_tier(&mut answers, b, 2);
     let b = pass_tier(&mut answers, b, 3);
     let b = answers.next(b.open_tier(4));
-    answers.write(b.limit(0, 0));
+    answers.write_query(b.limit(0, 0));
     answers.end()
 }
 
@@ -157,10 +174,10 @@ pub fn case_5(rt: &impl Print) -> io::Result<()> {
     let b = answers.next(steady_load(b, 0, 0, 3));
     let b = pass_tier(&mut answers, b, 1);
     let b = answers.next(b.open_tier(2));
-    answers.write(b.limit(0, 0));
+    answers.write_query(b.limit(0, 0));
     let b = answers.next(b.close_tier());
     let b = answers.next(b.open_tier(3));
-    answers.write(b.limit(0, 0));
+    answers.write_query(b.limit(0, 0));
     answers.end()
 }
 
@@ -177,7 +194,7 @@ pub fn case_7(rt: &impl Print) -> io::Result<()> {
     let mut answers = Answers::of_case(rt, 7);
     let b = first_season(&mut answers);
     let b = answers.next(b.open_tier(2));
-    answers.write(b.limit(0, 0));
+    answers.write_query(b.limit(0, 0));
     answers.end()
 }
 
@@ -200,9 +217,9 @@ pub fn case_8(rt: &impl Print) -> io::Result<()> {
     let b = answers.next(steady_load(b, 0, 0, 1000));
     let b = answers.next(b.carry(0, 0, 100));
     let b = answers.next(b.migrate_lines(0, 0, &lines));
-    answers.write(b.held(0, 0, 1));
-    answers.write(b.held(1, 0, 1));
-    answers.write(b.held(2, 0, 1));
+    answers.write_query(b.held(0, 0, 1));
+    answers.write_query(b.held(1, 0, 1));
+    answers.write_query(b.held(2, 0, 1));
     answers.end()
 }
 
@@ -214,8 +231,8 @@ pub fn case_9(rt: &impl Print) -> io::Result<()> {
     let b = answers.next(steady_load(b, 0, 0, 1000));
     let b = answers.next(b.carry(0, 0, 1));
     let b = answers.next(b.migrate_lines(0, 0, &lines));
-    answers.write(b.held(0, 0, 1));
-    answers.write(b.held(1, 0, 1));
+    answers.write_query(b.held(0, 0, 1));
+    answers.write_query(b.held(1, 0, 1));
     answers.end()
 }
 
@@ -227,7 +244,7 @@ pub fn case_10(rt: &impl Print) -> io::Result<()> {
     let b = answers.next(steady_load(b, 0, 0, 1000));
     let b = answers.next(b.carry(0, 0, 1000));
     let b = answers.next(b.migrate_lines(0, 0, &lines));
-    answers.write(b.held(0, 0, 1));
+    answers.write_query(b.held(0, 0, 1));
     answers.end()
 }
 
@@ -263,6 +280,6 @@ pub fn case_12(rt: &impl Print) -> io::Result<()> {
     let b = full_tier(&mut answers, b, 2, 400);
     let b = full_tier(&mut answers, b, 3, 250);
     let b = answers.next(b.open_tier(4));
-    answers.write(b.limit(0, 0));
+    answers.write_query(b.limit(0, 0));
     answers.end()
 }

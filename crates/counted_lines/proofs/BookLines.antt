@@ -2,44 +2,42 @@
 use Prim.Native.Nat.{ℕ, ◌+◌, ◌-◌, ◌≤◌}
 use mathlib.Core.Path.{◌≡◌, refl, sym, ap, ◌∙◌}
 use mathlib.Core.Bool.{◌&&◌}
-use mathlib.Core.List.{List}
+use mathlib.Core.List.{List, map}
 use native.Mathlib.Nat.{le_trans, le_of_eq, add-zero}
-use lib.ListN.{length, take, drop, get_or}
+use lib.ListN.{length, take, drop, get_or, replicate}
 use lib.Seq.{get_or-drop}
 use Rattle.lines.specs.declared.rows.LineKind.{LineKind}
 use Rattle.lines.specs.declared.rows.Row.{Row}
-use Rattle.counted_lines.specs.declared.book_lines.Pairs.{Pairs}
+use Rattle.tariff.specs.Sizes.{max_places}
+use Rattle.opening.specs.declared.book_setup.SinkLine.{SinkLine}
+use Rattle.opening.specs.declared.book_setup.PathLine.{PathLine}
+use Rattle.counted_lines.specs.declared.counted.CountedLines.{CountedLines}
 use Rattle.counted_lines.specs.declared.book_lines.SetLine.{SetLine}
 use Rattle.counted_lines.specs.declared.book_lines.BookLists.{BookLists}
 use Rattle.lines.specs.declared.rows.LineKind.TheVariants.{Holder, Sink, Path}
 use Rattle.lines.specs.Rows.{unreadable_row, rows_of, field, counted, holder_rows, sink_rows, path_rows, head_count, set_count, not_broken, settings_on, set_row, set_readable, settings_of_rows, book_line_count}
 use Rattle.lines.specs.Reading.{next_row}
-use Rattle.counted_lines.specs.Counted.{bytes_of_lines, rows_counted}
-use Rattle.counted_lines.specs.BookLines.{first_fields, pairs_of, set_line_of, book_lines_complete, book_lists_of}
-use Rattle.counted_lines.proofs.LineBytes.{bytes_add, bytes_within}
-use Rattle.counted_lines.proofs.PairLaws.{rest_all, rest_rows}
+use Rattle.counted_lines.specs.Counted.{bytes_of_lines, rows_counted, counted_of, sink_line_of, path_line_of, with_lines}
+use Rattle.counted_lines.specs.BookLines.{first_lines, blank_sink, blank_path, set_line_of, book_lines_complete, book_lists_of}
+use Rattle.counted_lines.proofs.LineBytes.{bytes_add, bytes_within, rest_all, rest_rows}
 use Rattle.counted_lines.proofs.SetLaws.{next_first}
 
--- what pairs are, from the rows that they are read from
-module _ (kind : LineKind) (n : ℕ) (s : List ℕ) (rows : List Row) (these : rows_of s ≡ rows) where
-  complete-is : (x : Pairs) → x ≡ pairs_of kind n s → x.complete ≡ counted kind n (take n rows)
-  unfolding pairs_of rows_counted
-  complete-is x e = ap (λ y. y.complete) e ∙ ap (λ r. counted kind n (take n r)) these
+-- what was read and kept, from the rows that were read
+module _ (n : ℕ) (s : List ℕ) (rows : List Row) (these : rows_of s ≡ rows) where
+  complete-is : (kind : LineKind) (x : CountedLines) → x ≡ counted_of kind n s → x.complete ≡ counted kind n (take n rows)
+  unfolding counted_of rows_counted
+  complete-is kind x e = ap (λ y. y.complete) e ∙ ap (λ r. counted kind n (take n r)) these
 
-  firsts-are : (x : Pairs) → x ≡ pairs_of kind n s → x.firsts ≡ first_fields 0 (take n rows)
-  unfolding pairs_of rows_counted
-  firsts-are x e = ap (λ y. y.firsts) e ∙ ap (λ r. first_fields 0 (take n r)) these
+  kept-are : {T : Type 0} (of : Row → T) (array kept : List T) → kept ≡ with_lines (map of (rows_counted n s)) array → kept ≡ with_lines (map of (take n rows)) array
+  unfolding rows_counted
+  kept-are of array kept e = e ∙ ap (λ r. with_lines (map of (take n r)) array) these
 
-  seconds-are : (x : Pairs) → x ≡ pairs_of kind n s → x.seconds ≡ first_fields 1 (take n rows)
-  unfolding pairs_of rows_counted
-  seconds-are x e = ap (λ y. y.seconds) e ∙ ap (λ r. first_fields 1 (take n r)) these
-
-pub consumed_is : (kind : LineKind) (n : ℕ) (s : List ℕ) (x : Pairs) → x ≡ pairs_of kind n s → x.consumed ≡ bytes_of_lines n s
-unfolding pairs_of
+pub consumed_is : (kind : LineKind) (n : ℕ) (s : List ℕ) (x : CountedLines) → x ≡ counted_of kind n s → x.consumed ≡ bytes_of_lines n s
+unfolding counted_of
 consumed_is kind n s x e = ap (λ y. y.consumed) e
 
 -- the bytes of lines that are read after the first n
-after : (s : List ℕ) (n u : ℕ) → u ≡ bytes_of_lines n s → (kind : LineKind) (m : ℕ) (x : Pairs) → x ≡ pairs_of kind m (take (length s - u) (drop u s)) → u + x.consumed ≡ bytes_of_lines (n + m) s
+after : (s : List ℕ) (n u : ℕ) → u ≡ bytes_of_lines n s → (kind : LineKind) (m : ℕ) (x : CountedLines) → x ≡ counted_of kind m (take (length s - u) (drop u s)) → u + x.consumed ≡ bytes_of_lines (n + m) s
 after s n u here kind m x e = (λ i. here i + (consumed_is kind m (take (length s - u) (drop u s)) x e ∙ ap (bytes_of_lines m) (rest_all s n u here)) i) ∙ sym (bytes_add n m s)
 
 -- the three kinds together, and the set line
@@ -53,14 +51,14 @@ module _ (s : List ℕ) (head : Row) where
   abbrev n3 : ℕ
   n3 = get_or head.fields 3 0
 
-  module _ (x y : Pairs) (read_x : x ≡ pairs_of Holder n0 s) (read_y : y ≡ pairs_of Sink n2 (take (length s - x.consumed) (drop x.consumed s))) where
+  module _ (x y : CountedLines) (read_x : x ≡ counted_of Holder n0 s) (read_y : y ≡ counted_of Sink n2 (take (length s - x.consumed) (drop x.consumed s))) where
     at-sinks : x.consumed ≡ bytes_of_lines n0 s
     at-sinks = consumed_is Holder n0 s x read_x
 
     pub at_paths : x.consumed + y.consumed ≡ bytes_of_lines (n0 + n2) s
     at_paths = after s n0 x.consumed at-sinks Sink n2 y read_y
 
-    module _ (z : Pairs) (read_z : z ≡ pairs_of Path n3 (take (length s - (x.consumed + y.consumed)) (drop (x.consumed + y.consumed) s))) where
+    module _ (z : CountedLines) (read_z : z ≡ counted_of Path n3 (take (length s - (x.consumed + y.consumed)) (drop (x.consumed + y.consumed) s))) where
       pub at_set : x.consumed + y.consumed + z.consumed ≡ bytes_of_lines (n0 + n2 + n3) s
       at_set = after s (n0 + n2) (x.consumed + y.consumed) at_paths Path n3 z read_z
 
@@ -92,17 +90,23 @@ module _ (s : List ℕ) (head : Row) where
         pub end_within : x.consumed + y.consumed + z.consumed + w.consumed ≤ length s
         end_within = le_trans (le_of_eq at-end) (bytes_within (book_line_count head (rows_of s)) s)
 
-        pub lists_read : ◌≡◌ {A = BookLists} (record { complete = x.complete && y.complete && z.complete && w.readable; consumed = x.consumed + y.consumed + z.consumed + w.consumed; holder_kinds = x.firsts; sink_kinds = y.firsts; sink_parents = y.seconds; path_sources = z.firsts; path_sinks = z.seconds; settings = w.settings }) (book_lists_of head s)
-        unfolding book_lists_of book_lines_complete holder_rows sink_rows path_rows set_readable settings_of_rows set_line_of field left
-        lists_read =
-            λ i.
-            record {
-              complete = complete-is Holder n0 s (rows_of s) refl x read_x i && complete-is Sink n2 _ _ sinks-here y read_y i && complete-is Path n3 _ _ paths-here z read_z i && (ap (λ l. l.readable) read_w ∙ ap not_broken row_here) i;
-              consumed = at-end i;
-              holder_kinds = firsts-are Holder n0 s (rows_of s) refl x read_x i;
-              sink_kinds = firsts-are Sink n2 _ _ sinks-here y read_y i;
-              sink_parents = seconds-are Sink n2 _ _ sinks-here y read_y i;
-              path_sources = firsts-are Path n3 _ _ paths-here z read_z i;
-              path_sinks = seconds-are Path n3 _ _ paths-here z read_z i;
-              settings = (ap (λ l. l.settings) read_w ∙ ap settings_on row_here) i;
-            }
+        module _
+            (holder_kinds : List ℕ)
+            (sink_lines : List SinkLine)
+            (path_lines : List PathLine)
+            (kept_holders : holder_kinds ≡ with_lines (map (field 0) (rows_counted n0 s)) (replicate max_places 0))
+            (kept_sinks : sink_lines ≡ with_lines (map sink_line_of (rows_counted n2 (take (length s - x.consumed) (drop x.consumed s)))) (replicate max_places blank_sink))
+            (kept_paths : path_lines ≡ with_lines (map path_line_of (rows_counted n3 (take (length s - (x.consumed + y.consumed)) (drop (x.consumed + y.consumed) s)))) (replicate max_places blank_path))
+          where
+            pub lists_read : ◌≡◌ {A = BookLists} (record { complete = x.complete && y.complete && z.complete && w.readable; consumed = x.consumed + y.consumed + z.consumed + w.consumed; holder_kinds = holder_kinds; sink_lines = sink_lines; path_lines = path_lines; settings = w.settings }) (book_lists_of head s)
+            unfolding book_lists_of book_lines_complete holder_rows sink_rows path_rows set_readable settings_of_rows set_line_of first_lines field left
+            lists_read =
+                λ i.
+                record {
+                  complete = complete-is n0 s (rows_of s) refl Holder x read_x i && complete-is n2 _ _ sinks-here Sink y read_y i && complete-is n3 _ _ paths-here Path z read_z i && (ap (λ l. l.readable) read_w ∙ ap not_broken row_here) i;
+                  consumed = at-end i;
+                  holder_kinds = kept-are n0 s (rows_of s) refl (field 0) (replicate max_places 0) holder_kinds kept_holders i;
+                  sink_lines = kept-are n2 _ _ sinks-here sink_line_of (replicate max_places blank_sink) sink_lines kept_sinks i;
+                  path_lines = kept-are n3 _ _ paths-here path_line_of (replicate max_places blank_path) path_lines kept_paths i;
+                  settings = (ap (λ l. l.settings) read_w ∙ ap settings_on row_here) i;
+                }

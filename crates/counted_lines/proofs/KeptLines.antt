@@ -1,9 +1,9 @@
 -- Lines kept in the front of an array. Assumes nothing.
-use Prim.Native.Nat.{◌≤◌}
+use Prim.Native.Nat.{suc, ◌≤◌}
 use mathlib.Core.Path.{◌≡◌, refl, ap, ◌∙◌}
 use mathlib.Core.List.{List, [], ◌∷◌, ◌++◌}
 use native.Mathlib.Omega.{arith}
-use lib.ListN.{length, take, drop, set, length-append, length-take, length-drop}
+use lib.ListN.{length, take, drop, set}
 use lib.Seq.{take_all, take-append-le}
 use Rattle.counted_lines.specs.Counted.{with_lines}
 
@@ -23,14 +23,6 @@ module _ {T : Type 0} where
   one_kept (a ∷ lines) line [] = refl
   one_kept (a ∷ lines) line (x ∷ array) = ap (λ t. a ∷ t) (one_kept lines line array)
 
-  pub kept_long : (lines array : List T) → length (with_lines lines array) ≡ length array
-  unfolding with_lines
-  kept_long lines array =
-      let all = length-append (take (length array) lines) (drop (length lines) array) in
-      let front = length-take (length array) lines in
-      let back = length-drop (length lines) array in
-      omega arith
-
   -- where there is room for all lines they stand in front
   pub all_kept : (lines array : List T) → length lines ≤ length array → take (length lines) (with_lines lines array) ≡ lines
   unfolding with_lines
@@ -38,3 +30,11 @@ module _ {T : Type 0} where
       ap (λ front. take (length lines) (front ++ drop (length lines) array)) (take_all (length array) lines fits)
       ∙ take-append-le (length lines) lines (drop (length lines) array) (omega arith)
       ∙ take_all (length lines) lines (omega arith)
+
+  -- and the array keeps its length
+  pub same_long : (lines array : List T) → length (with_lines lines array) ≡ length array
+  unfolding with_lines
+  same_long [] [] = refl
+  same_long [] (x ∷ array) = refl
+  same_long (a ∷ lines) [] = refl
+  same_long (a ∷ lines) (x ∷ array) = ap suc (same_long lines array)

@@ -3,6 +3,5 @@ pub mod LineBytes
 pub mod RowsMore
 pub mod KeptLines
 pub mod CountedLaws
-pub mod PairLaws
 pub mod SetLaws
 pub mod BookLines

@@ -1,11 +1,11 @@
 -- The bytes of lines: what they leave, and how they add up. Assumes nothing.
-use Prim.Native.Nat.{ℕ, zero, suc, ◌+◌, ◌≤◌, zero-le}
+use Prim.Native.Nat.{ℕ, zero, suc, ◌+◌, ◌-◌, ◌≤◌, zero-le}
 use mathlib.Core.Path.{◌≡◌, refl, sym, ap, ◌∙◌}
 use mathlib.Core.List.{List, [], ◌∷◌}
-use native.Mathlib.Nat.{zero-add, suc-add}
+use native.Mathlib.Nat.{le_trans, le_of_eq, zero-add, suc-add}
 use native.Mathlib.Omega.{arith}
-use lib.ListN.{length, drop, length-drop, drop_of_length-le}
-use lib.Seq.{drop-drop}
+use lib.ListN.{length, take, drop, length-drop, drop_of_length-le}
+use lib.Seq.{drop-drop, take_all}
 use Rattle.lines.specs.Text.{lines_of}
 use Rattle.lines.specs.Rows.{rows_of}
 use Rattle.lines.specs.Reading.{next_row}
@@ -49,3 +49,14 @@ rows_after (suc n) (b ∷ s) =
     ap rows_of (sym (drop-drop (bytes_of_lines n (drop u (b ∷ s))) u (b ∷ s)))
     ∙ rows_after n (drop u (b ∷ s))
     ∙ sym (ap (drop (suc n)) (first_row_lem (b ∷ s) (omega arith)))
+
+-- what is left of the bytes after so many lines
+module _ (s : List ℕ) (n u : ℕ) (here : u ≡ bytes_of_lines n s) where
+  pub here_within : u ≤ length s
+  here_within = le_trans (le_of_eq here) (bytes_within n s)
+
+  pub rest_all : take (length s - u) (drop u s) ≡ drop (bytes_of_lines n s) s
+  rest_all = take_all (length s - u) (drop u s) (let len = length-drop u s in omega arith) ∙ ap (λ v. drop v s) here
+
+  pub rest_rows : rows_of (take (length s - u) (drop u s)) ≡ drop n (rows_of s)
+  rest_rows = ap rows_of rest_all ∙ rows_after n s

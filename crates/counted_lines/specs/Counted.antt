@@ -2,6 +2,8 @@
 use Rattle.std.specs.Prelude.{ℕ, zero, suc, ◌+◌, List, ◌++◌, length, take, drop}
 use Rattle.load_metric.specs.declared.block.Block.{Block}
 use Rattle.netting.specs.declared.netting.ClassLine.{ClassLine}
+use Rattle.opening.specs.declared.book_setup.SinkLine.{SinkLine}
+use Rattle.opening.specs.declared.book_setup.PathLine.{PathLine}
 use Rattle.lines.specs.declared.rows.LineKind.{LineKind}
 use Rattle.lines.specs.declared.rows.Row.{Row}
 use Rattle.counted_lines.specs.declared.counted.CountedLines.{CountedLines}
@@ -27,6 +29,13 @@ block_of r = record { first = field 0 r; hours = field 1 r; kw = field 2 r }
 
 unfoldable pub class_line_of : Row → ClassLine
 class_line_of r = record { from = field 0 r; to = field 1 r; class = field 2 r; customers = field 3 r; watts = field 4 r }
+
+-- what a sink line and a path line say
+unfoldable pub sink_line_of : Row → SinkLine
+sink_line_of r = record { kind = field 0 r; parent = field 1 r }
+
+unfoldable pub path_line_of : Row → PathLine
+path_line_of r = record { source = field 0 r; sink = field 1 r }
 
 -- an array with lines in front, as many as find room; what stands past them is left as it was
 unfoldable pub with_lines : {T : Type 0} → List T → List T → List T

@@ -1,12 +1,14 @@
 // The lines that a head counts, kept in one array (01, Script and host).
 ghost use Rattle.std.specs.Prelude.{◌≡◌, map, slice_set};
 ghost use Rattle.lines.specs.declared.rows.Row.{Row};
-ghost use Rattle.counted_lines.specs.Counted.{rows_counted, counted_of, block_of, class_line_of, with_lines};
+ghost use Rattle.lines.specs.Rows.{field};
+ghost use Rattle.counted_lines.specs.Counted.{rows_counted, counted_of, block_of, class_line_of, sink_line_of, path_line_of, with_lines};
 
 use lines::lines::next_row;
 use lines::rows::{LineKind, Row};
 use load_metric::block::Block;
 use netting::netting::ClassLine;
+use opening::book_setup::{PathLine, SinkLine};
 
 // A line that some head counts, as the head's call takes it.
 pub trait CountedLine: Copy {
@@ -47,6 +49,42 @@ impl CountedLine for ClassLine {
     }
 }
 
+// A holder's line has its kind alone.
+impl CountedLine for u64 {
+    ghost line_of = { field 0 };
+
+    #[tactic(auto, unfolding(lines::specs::Rows::field))]
+    fn from_row(row: Row) -> u64 {
+        row.fields[0]
+    }
+}
+
+impl CountedLine for SinkLine {
+    ghost line_of = { sink_line_of };
+
+    #[tactic(auto, unfolding(crate::specs::Counted::sink_line_of, lines::specs::Rows::field))]
+    fn from_row(row: Row) -> SinkLine {
+        let n = row.fields;
+        SinkLine {
+            kind: n[0],
+            parent: n[1],
+        }
+    }
+}
+
+impl CountedLine for PathLine {
+    ghost line_of = { path_line_of };
+
+    #[tactic(auto, unfolding(crate::specs::Counted::path_line_of, lines::specs::Rows::field))]
+    fn from_row(row: Row) -> PathLine {
+        let n = row.fields;
+        PathLine {
+            source: n[0],
+            sink: n[1],
+        }
+    }
+}
+
 // Whether there are as many lines as counted, all of one kind, and how many bytes they take.
 #[derive(Clone, Copy)]
 pub struct CountedLines {
@@ -63,7 +101,7 @@ fn keep<T: Copy>(kept: &mut [T], k: usize, line: T)
     }
 }
 
-// Reads as many lines as are counted, or all that are left, and keeps as many as find room.
+// Reads as many lines as are counted, or all that are left, and keeps as many as find room; past those only their kind matters.
 pub fn read_counted<T: CountedLine>(
     rest: &[u8],
     kind: LineKind,

@@ -4,15 +4,16 @@ use mathlib.Core.Path.{◌≡◌, sym, ap, ◌∙◌}
 use mathlib.Core.Bool.{Bool}
 use mathlib.Core.List.{List, map}
 use Rattle.source_evidence.specs.declared.evidence.Entry.{Entry}
-use Rattle.ledger.specs.Numbers.{unreadable}
+use Rattle.std.specs.Prelude.{Result, Err}
 use Rattle.ledger.specs.Call.{Call, load, carry, prior, verify, migrate, open_tier, nominate, award, close_tier, Query, limit_of, held_on, net_on}
 use Rattle.ledger.specs.Season.{call, query}
 use Rattle.book.specs.declared.book.Book.{Book}
-use Rattle.records.specs.declared.answers.Answer.{Answer}
-use Rattle.records.specs.declared.answers.Answer.TheVariants.{Refused}
+use Rattle.records.specs.declared.refusal.Refusal.{Refusal}
+use Rattle.records.specs.declared.refusal.Refusal.TheVariants.{Unreadable}
+use Rattle.records.specs.Answers.{Answer, of_call, of_query}
 use Rattle.book.specs.declared.book.Outcome.{Outcome}
 use Rattle.book.specs.Reading.{book_in}
-use Rattle.book.specs.Outcomes.{refused_with, outcome_of, query_answer_in}
+use Rattle.book.specs.Outcomes.{outcome_of, query_answer_in}
 use Rattle.lines.specs.declared.rows.Row.{Row}
 use Rattle.lines.specs.declared.rows.LineKind.TheVariants.{Load, Block, Carry, Prior, Verify, Migrate, Class, Open, Nominate, Award, Close, Limit, Held, Net}
 use Rattle.lines.specs.Rows.{field, counted}
@@ -89,17 +90,21 @@ module _ (r : Row) (lines : List Row) where
 
 module _ (b : Book) (g : Group) where
   -- a call returns what the book's contract says, a query answers and keeps the book
-  pub by_call : (c : Call) (a : Answer) (next : Book) → ◌≡◌ {A = Outcome} (record { answer = a; book = next }) (outcome_of b c) → g ≡ request (call c) → Answers b g a next
+  pub by_call : (c : Call) (a : Result (Unit {0}) Refusal) (next : Book) → ◌≡◌ {A = Outcome} (record { answer = a; book = next }) (outcome_of b c) → g ≡ request (call c) → Answers b g (of_call a) next
   unfolding outcome_of_group
-  by_call c a next e q = e ∙ sym (ap (outcome_of_group b) q)
+  by_call c a next e q = (λ i. record { answer = of_call (e i).answer; book = (e i).book }) ∙ sym (ap (outcome_of_group b) q)
 
-  pub by_query : (q : Query) (a : Answer) → a ≡ query_answer_in b q → g ≡ request (query q) → Answers b g a b
+  pub by_query : (q : Query) (a : Result ℕ Refusal) → a ≡ query_answer_in b q → g ≡ request (query q) → Answers b g (of_query a) b
   unfolding outcome_of_group
-  by_query q a e p = (λ i. record { answer = e i; book = b }) ∙ sym (ap (outcome_of_group b) p)
+  by_query q a e p = (λ i. record { answer = of_query (e i); book = b }) ∙ sym (ap (outcome_of_group b) p)
 
-  pub by_unreadable : g ≡ unreadable_group → Answers b g (Refused unreadable) b
-  unfolding outcome_of_group refused_with
+  pub by_unreadable : g ≡ unreadable_group → Answers b g (Err Unreadable) b
+  unfolding outcome_of_group
   by_unreadable p = sym (ap (outcome_of_group b) p)
+
+-- an answer that is another
+pub answers_as : (b : Book) (g : Group) (a a' : Answer) (next : Book) → a ≡ a' → Answers b g a' next → Answers b g a next
+answers_as b g a a' next e is = (λ i. record { answer = e i; book = next }) ∙ is
 
 -- the evidence, which is not lent, is that of the book that a group leads to
 pub beside_evidence : (b : Book) (g : Group) (a : Answer) (o f : List ℕ) (m : List Bool) (x : List Entry) → Answers b g a (book_in o f m x) → Answers b g a (book_in o f m (outcome_of_group b g).book.evidence)

@@ -9,11 +9,11 @@ use lib.ListN.{length, take, drop, replicate, length-replicate, length-map, leng
 use lib.Dec.{eqb}
 use borrow.Author.Tests.{eqb-true}
 use Rattle.tariff.proofs.Tests.{and_both, both_ways}
-use Rattle.ledger.specs.Numbers.{unreadable}
+use Rattle.std.specs.Prelude.{Err}
 use Rattle.ledger.specs.Season.{Request}
 use Rattle.book.specs.declared.book.Book.{Book}
-use Rattle.records.specs.declared.answers.Answer.{Answer}
-use Rattle.records.specs.declared.answers.Answer.TheVariants.{Refused}
+use Rattle.records.specs.declared.refusal.Refusal.TheVariants.{Unreadable}
+use Rattle.records.specs.Answers.{Answer}
 use Rattle.lines.specs.declared.rows.Row.{Row}
 use Rattle.counted_lines.specs.declared.counted.CountedLines.{CountedLines}
 use Rattle.lines.specs.declared.lines.NextRow.{NextRow}
@@ -79,7 +79,7 @@ module _ (head : Row) (s : List ℕ) (kind : LineKind) (n : ℕ) (req : Request)
   what t e = ap (λ k. request_of head (rows_counted k s)) counts ∙ requests ∙ ap (λ u. when_complete u req) (sym (complete-is kind n s x read) ∙ e)
 
   -- lines that are not complete are unreadable, and the group is passed over
-  pub incomplete_outcome : (b : Book) → x.complete ≡ false → Answers b (head_group head s) (Refused unreadable) b
+  pub incomplete_outcome : (b : Book) → x.complete ≡ false → Answers b (head_group head s) (Err Unreadable) b
   unfolding when_complete
   incomplete_outcome b e = by_unreadable b (head_group head s) (what false e)
 

@@ -1,14 +1,13 @@
 -- The first group of a script's rest: its request, the bytes that it takes, and its outcome.
-use Rattle.std.specs.Prelude.{ℕ, ◌+◌, ◌≡◌, Bool, List, drop}
+use Rattle.std.specs.Prelude.{ℕ, ◌+◌, ◌≡◌, Bool, List, drop, Err}
 use Rattle.source_evidence.specs.declared.evidence.Entry.{Entry}
-use Rattle.ledger.specs.Numbers.{unreadable}
 use Rattle.ledger.specs.Season.{call, query}
-use Rattle.records.specs.declared.answers.Answer.{Answer}
+use Rattle.records.specs.declared.refusal.Refusal.TheVariants.{Unreadable}
+use Rattle.records.specs.Answers.{Answer, of_call, of_query}
 use Rattle.slots.specs.Steps.{Reachable}
 use Rattle.book.specs.declared.book.Book.{Book}
-use Rattle.book.specs.declared.book.Outcome.{Outcome}
 use Rattle.book.specs.Reading.{book_in}
-use Rattle.book.specs.Outcomes.{refused_with, outcome_of, query_answer_in}
+use Rattle.book.specs.Outcomes.{outcome_of, query_answer_in}
 use Rattle.lines.specs.declared.rows.Row.{Row}
 use Rattle.lines.specs.Reading.{next_row}
 use Rattle.counted_lines.specs.Counted.{bytes_of_lines, rows_counted}
@@ -29,11 +28,16 @@ first_group rest = head_group (next_row rest).row (drop (next_row rest).consumed
 unfoldable pub group_bytes : List ℕ → ℕ
 group_bytes rest = (next_row rest).consumed + head_bytes (next_row rest).row (drop (next_row rest).consumed rest)
 
+-- what a group is answered, beside the book that it leads to
+pub record Answered : Type 0 where
+  pub answer : Answer
+  pub book : Book
+
 -- a group's outcome with a book: an unreadable one is answered 1 and passed over; a query leaves the book as it is
-unfoldable pub outcome_of_group : Book → Group → Outcome
-outcome_of_group b unreadable_group = refused_with b unreadable
-outcome_of_group b (request (call c)) = outcome_of b c
-outcome_of_group b (request (query q)) = record { answer = query_answer_in b q; book = b }
+unfoldable pub outcome_of_group : Book → Group → Answered
+outcome_of_group b unreadable_group = record { answer = Err Unreadable; book = b }
+outcome_of_group b (request (call c)) = record { answer = of_call (outcome_of b c).answer; book = (outcome_of b c).book }
+outcome_of_group b (request (query q)) = record { answer = of_query (query_answer_in b q); book = b }
 
 -- a head that counts no lines takes no bytes after it
 unfoldable pub of_one_line : Answer → GroupOutcome
@@ -41,7 +45,7 @@ of_one_line answer = record { answer = answer; consumed = 0 }
 
 -- an answer and the book beside it are those that a group, put to a book, leads to
 abbrev pub Answers : Book → Group → Answer → Book → Type 0
-Answers b g answer next = ◌≡◌ {A = Outcome} (record { answer = answer; book = next }) (outcome_of_group b g)
+Answers b g answer next = ◌≡◌ {A = Answered} (record { answer = answer; book = next }) (outcome_of_group b g)
 
 -- the same where the opening and the figures are lent, whatever stands in the arrays that are not
 abbrev pub FiguresAnswers : (o f : List ℕ) → Group → Answer → List ℕ → Type 0

@@ -13,11 +13,12 @@ use counted_lines::counted::read_counted;
 use lines::rows::{LineKind, Row};
 use lines::text::MAX_LINES;
 use load::load::load;
+use load::metered::Metered;
 use load_metric::block::Block;
 use migrate::class_lines::migrate_lines;
 use netting::netting::ClassLine;
-use records::answers::Answer;
-use records::numbers::UNREADABLE;
+use records::answers::of_call;
+use records::refusal::Refusal;
 
 // Up to so many lines are kept in a small array, so that a short group does not pay for room that it does not need. A script has no more lines than
 // the large one keeps, MAX_LINES.
@@ -47,14 +48,23 @@ fn load_with_room<const N: usize>(
     };
     let mut blocks = [none; N];
     let read = read_counted(rest, LineKind::Block, count, &mut blocks);
-    let consumed = read.consumed;
     if !read.complete {
-        let answer = Answer::Refused(UNREADABLE);
-        return GroupOutcome { answer, consumed };
+        return GroupOutcome {
+            answer: Err(Refusal::Unreadable),
+            consumed: read.consumed,
+        };
     }
-    let posted = &blocks[..count as usize];
-    let answer = load(o, f, m, n[0], n[1], n[2], n[3], n[4], posted);
-    GroupOutcome { answer, consumed }
+    let metered = Metered {
+        term: n[2],
+        contract: n[3],
+        n: n[4],
+        blocks: &blocks[..count as usize],
+    };
+    let called = load(o, f, m, n[0], n[1], metered);
+    GroupOutcome {
+        answer: of_call(called),
+        consumed: read.consumed,
+    }
 }
 
 // A migrate with its class lines, in an array that has a place for each of them.
@@ -82,14 +92,18 @@ fn migrate_with_room<const N: usize>(
     };
     let mut lines = [none; N];
     let read = read_counted(rest, LineKind::Class, count, &mut lines);
-    let consumed = read.consumed;
     if !read.complete {
-        let answer = Answer::Refused(UNREADABLE);
-        return GroupOutcome { answer, consumed };
+        return GroupOutcome {
+            answer: Err(Refusal::Unreadable),
+            consumed: read.consumed,
+        };
     }
     let moved = &lines[..count as usize];
-    let answer = migrate_lines(o, f, n[0], n[1], moved);
-    GroupOutcome { answer, consumed }
+    let called = migrate_lines(o, f, n[0], n[1], moved);
+    GroupOutcome {
+        answer: of_call(called),
+        consumed: read.consumed,
+    }
 }
 
 // A load with its block lines.

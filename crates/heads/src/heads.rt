@@ -11,14 +11,13 @@ use awards::award::award;
 use awards::holdings::{held, net};
 use awards::open_close::{close_tier, open_tier};
 use groups::counted_calls::{run_load, run_migrate};
-use groups::outcome::{GroupOutcome, of_one_line};
+use groups::outcome::{GroupOutcome, of_call_line, of_one_line, of_query_line};
 use lines::lines::next_row;
 use lines::rows::{LineKind, Row};
 use nominations::nominate::nominate;
 use postings::carry::carry;
 use postings::prior::prior;
-use records::answers::Answer;
-use records::numbers::UNREADABLE;
+use records::refusal::Refusal;
 use source_evidence::filing::Filing;
 use tier_limits::limits::limit;
 use verify::verify::verify;
@@ -27,7 +26,13 @@ use verify::verify::verify;
 // a promise by itself.
 
 // A nomination put to the book by the numbers of its line.
-fn run_nominate(o: &[u64], f: &mut [u64], holder: u64, path: u64, nominated: u64) -> Answer
+fn run_nominate(
+    o: &[u64],
+    f: &mut [u64],
+    holder: u64,
+    path: u64,
+    nominated: u64,
+) -> Result<(), Refusal>
     requires { ReachableFigures o.now f.old }
     ensures { FiguresStep o.now f.old (nominate holder path nominated) result f.new }
 {
@@ -35,7 +40,7 @@ fn run_nominate(o: &[u64], f: &mut [u64], holder: u64, path: u64, nominated: u64
 }
 
 // An award, likewise.
-fn run_award(o: &[u64], f: &mut [u64], holder: u64, path: u64, awarded: u64) -> Answer
+fn run_award(o: &[u64], f: &mut [u64], holder: u64, path: u64, awarded: u64) -> Result<(), Refusal>
     requires { ReachableFigures o.now f.old }
     ensures { FiguresStep o.now f.old (award holder path awarded) result f.new }
 {
@@ -43,7 +48,7 @@ fn run_award(o: &[u64], f: &mut [u64], holder: u64, path: u64, awarded: u64) -> 
 }
 
 // A limit query, likewise.
-fn run_limit(o: &[u64], f: &[u64], holder: u64, sink: u64) -> Answer
+fn run_limit(o: &[u64], f: &[u64], holder: u64, sink: u64) -> Result<u64, Refusal>
     requires { ReachableFigures o.now f.now }
     ensures { InFigures o.now f.now (λ O L. result ≡ query_answer O L (limit_of holder sink)) }
 {
@@ -51,7 +56,7 @@ fn run_limit(o: &[u64], f: &[u64], holder: u64, sink: u64) -> Answer
 }
 
 // A net query, likewise.
-fn run_net(o: &[u64], f: &[u64], path: u64, month: u64) -> Answer
+fn run_net(o: &[u64], f: &[u64], path: u64, month: u64) -> Result<u64, Refusal>
     requires { ReachableFigures o.now f.now }
     ensures { InFigures o.now f.now (λ O L. result ≡ query_answer O L (net_on path month)) }
 {
@@ -74,7 +79,7 @@ fn run_verify(o: &[u64], f: &mut [u64], m: &mut [bool], head: Row) -> GroupOutco
         last: n[6],
         mark: n[7],
     };
-    of_one_line(verify(o, f, m, n[0], n[1], filing))
+    of_call_line(verify(o, f, m, n[0], n[1], filing))
 }
 
 // A head with the lines that stand after it. A line that is no head is unreadable by itself.
@@ -92,18 +97,18 @@ fn run_head(o: &[u64], f: &mut [u64], m: &mut [bool], head: Row, rest: &[u8]) ->
     let d = n[3];
     match head.kind {
         LineKind::Load => run_load(o, f, m, head, rest),
-        LineKind::Carry => of_one_line(carry(o, f, m, a, b, c)),
-        LineKind::Prior => of_one_line(prior(o, f, m, a, b, c, d)),
+        LineKind::Carry => of_call_line(carry(o, f, m, a, b, c)),
+        LineKind::Prior => of_call_line(prior(o, f, m, a, b, c, d)),
         LineKind::Verify => run_verify(o, f, m, head),
         LineKind::Migrate => run_migrate(o, f, head, rest),
-        LineKind::Open => of_one_line(open_tier(f, a)),
-        LineKind::Nominate => of_one_line(run_nominate(o, f, a, b, c)),
-        LineKind::Award => of_one_line(run_award(o, f, a, b, c)),
-        LineKind::Close => of_one_line(close_tier(f)),
-        LineKind::Limit => of_one_line(run_limit(o, f, a, b)),
-        LineKind::Held => of_one_line(held(o, f, a, b, c)),
-        LineKind::Net => of_one_line(run_net(o, f, a, b)),
-        _ => of_one_line(Answer::Refused(UNREADABLE)),
+        LineKind::Open => of_call_line(open_tier(f, a)),
+        LineKind::Nominate => of_call_line(run_nominate(o, f, a, b, c)),
+        LineKind::Award => of_call_line(run_award(o, f, a, b, c)),
+        LineKind::Close => of_call_line(close_tier(f)),
+        LineKind::Limit => of_query_line(run_limit(o, f, a, b)),
+        LineKind::Held => of_query_line(held(o, f, a, b, c)),
+        LineKind::Net => of_query_line(run_net(o, f, a, b)),
+        _ => of_one_line(Err(Refusal::Unreadable)),
     }
 }
 
@@ -118,9 +123,8 @@ pub fn run_group(o: &[u64], f: &mut [u64], m: &mut [bool], rest: &[u8]) -> Group
     let head = next.row;
     let at_lines = next.consumed;
     let outcome = run_head(o, f, m, head, &rest[at_lines..]);
-    let answer = outcome.answer;
     GroupOutcome {
-        answer,
         consumed: at_lines + outcome.consumed,
+        ..outcome
     }
 }

@@ -1,4 +1,2 @@
 pub mod BlockLaws
 pub mod LoadLaws
-pub mod LoadSteps
-pub mod PostingLaws

@@ -6,6 +6,7 @@ use mathlib.Core.List.{List, []}
 use native.Mathlib.Nat.{le_trans, le_of_eq, add-zero}
 use native.Mathlib.Omega.{arith}
 use lib.ListN.{length, drop}
+use Rattle.std.specs.Prelude.{Ok}
 use Rattle.source_evidence.specs.declared.evidence.Entry.{Entry}
 use Rattle.tariff.specs.Sum.{when_true}
 use Rattle.tariff.specs.Sizes.{terms}
@@ -19,7 +20,6 @@ use Rattle.ledger.specs.Call.{Call, load}
 use Rattle.ledger.specs.Causes.{refusal}
 use Rattle.ledger.specs.Effects.{same3, plus_at3, after_load, effect}
 use Rattle.ledger.proofs.PostingFacts.{LoadFacts, load_facts}
-use Rattle.records.specs.declared.answers.Answer.TheVariants.{Done}
 use Rattle.records.specs.Opening.{opening_in}
 use Rattle.slots.specs.Cells.{HasCell, read_at, stored_at, added_at}
 use Rattle.slots.specs.Groups.{slots_of}
@@ -31,7 +31,7 @@ use Rattle.slots.proofs.Reachable.{counts, figures_shown, posted_shown, evidence
 use Rattle.slots.proofs.Figures.{from_zero, load_fits, room_for_more}
 use Rattle.slots.proofs.StepLaws.{accepted_test, steps_accepted}
 
-module _ (o f : List ℕ) (m : List Bool) (x : List Entry) (h s term contract n : ℕ) (blocks : List Block) (kw number : ℕ) (r : Reachable o f m x) (found : number ≡ refusal (opening_in o) (ledger_in f m x) (load h s term contract n blocks)) (zero : number ≡ 0) (posts : kw ≡ load_posted (opening_in o).settings contract blocks) where
+module _ (o f : List ℕ) (m : List Bool) (x : List Entry) (h s term contract n : ℕ) (blocks : List Block) (kw : ℕ) (r : Reachable o f m x) (unmet : 0 ≡ refusal (opening_in o) (ledger_in f m x) (load h s term contract n blocks)) (posts : kw ≡ load_posted (opening_in o).settings contract blocks) where
   abbrev O : Opening
   O = opening_in o
 
@@ -42,7 +42,7 @@ module _ (o f : List ℕ) (m : List Bool) (x : List Entry) (h s term contract n 
   call = load h s term contract n blocks
 
   facts : LoadFacts O L h s term contract n blocks
-  facts = load_facts O L h s term contract n blocks (accepted_test O L call number found zero)
+  facts = load_facts O L h s term contract n blocks (accepted_test O L call unmet)
 
   holder : h < 8
   holder = le_trans facts.holder (counts o f m x r).0
@@ -89,5 +89,5 @@ module _ (o f : List ℕ) (m : List Bool) (x : List Entry) (h s term contract n 
   unfolding evidence_of evidence_groups effect with_loads
   filed = evidence_known o f m x r
 
-  pub load_steps : (f' : List ℕ) (m' : List Bool) → f' ≡ added_at figure_slots f h s (load_slot + term) kw → m' ≡ stored_at posted_slots m h s (load_posted_slot + term) true → Steps O L call Done f' m' x
-  load_steps f' m' of_figures of_posted = steps_accepted O L call number found f' m' x zero (loaded f' of_figures) (noted m' of_posted) filed
+  pub load_steps : (f' : List ℕ) (m' : List Bool) → f' ≡ added_at figure_slots f h s (load_slot + term) kw → m' ≡ stored_at posted_slots m h s (load_posted_slot + term) true → Steps O L call (Ok tt) f' m' x
+  load_steps f' m' of_figures of_posted = steps_accepted O L call unmet f' m' x (loaded f' of_figures) (noted m' of_posted) filed

@@ -1,2 +1,2 @@
--- Loads in slices of numbers, and what a posting comes to.
+-- The load that a caller posts, and the test on its blocks.
 pub mod Loads

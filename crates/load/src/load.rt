@@ -1,35 +1,24 @@
 // Load: the metered hours of a holder at a sink, in blocks, and the load that is posted of them (01, Posting, Load; 02, 3/14).
-ghost use Rattle.std.specs.Prelude.{◌≡◌, take};
+ghost use Rattle.std.specs.Prelude.{◌≡◌, IfOk};
 ghost use Rattle.std.specs.List.{list_any};
+ghost use Rattle.load_metric.specs.Load.{load_posted};
 ghost use Rattle.ledger.specs.Ranges.{load_out_of_range};
-ghost use Rattle.ledger.specs.Numbers.{first_met};
-ghost use Rattle.ledger.specs.Causes.{load_causes};
-ghost use Rattle.ledger.specs.Call.{load};
+ghost use Rattle.ledger.specs.Causes.{refusal};
+ghost use Rattle.records.specs.Opening.{opening_of};
+ghost use Rattle.records.specs.Refusals.{refused_by};
 ghost use Rattle.slots.specs.Steps.{ReachablePostings, InPostings, PostingsStep};
-ghost use Rattle.load.specs.Loads.{early_causes, exceeds_max_kw, posting_of};
+ghost use Rattle.load.specs.Loads.{exceeds_max_kw, load_of};
 
+use crate::metered::Metered;
 use load_metric::block::Block;
-use load_metric::load::{BlockError, load_posted};
-use postings::posted_slot::posted_slot;
-use records::answers::Answer;
-use records::calendar::load_in_time;
-use records::numbers::{
-    BROKEN_BLOCKS, HOURS_MISSING, NOT_AT_THIS_TIME, NOT_IN_BOOK, OUT_OF_RANGE, POSTED_BEFORE,
-    SINK_INELIGIBLE,
-};
-use records::refusals::{refuse, term_out_of_range};
+use load_metric::load::load_posted;
+use records::ranges::term_out_of_range;
+use records::refusal::Refusal;
 use records::setup::{is_sub_lap, kind_ineligible, legal_settings, unknown_holder, unknown_sink};
-use slots::calendar::{current_tier, last_closed};
+use slots::calendar::calendar;
 use slots::cells::{add, is_posted, set_posted};
 use slots::layout::{LOAD_POSTED_SLOT, LOAD_SLOT};
-use tariff::sizes::{MAX_HOURS, MAX_KW, TERMS};
-
-// What a load comes to: the number that refuses it, or the kW that it posts.
-#[derive(Clone, Copy)]
-pub enum Posting {
-    Refused(u64),
-    Kw(u64),
-}
+use tariff::sizes::{MAX_HOURS, MAX_KW};
 
 // Whether some block's kW exceeds the most.
 #[tactic(auto, unfolding(crate::specs::Loads::exceeds_max_kw))]
@@ -41,72 +30,52 @@ fn any_exceeds_max_kw(blocks: &[Block]) -> bool
 
 // Whether a field is outside its range. Of a block only the kW has one.
 #[tactic(auto, using(tariff::proofs::Lists::any_is), unfolding(ledger::specs::Ranges::load_out_of_range, tariff::specs::Ranges::within, crate::specs::Loads::exceeds_max_kw))]
-fn load_out_of_range(term: u64, contract: u64, n: u64, blocks: &[Block]) -> bool
-    ensures { result ≡ load_out_of_range term contract n blocks.now }
+fn load_out_of_range(metered: Metered) -> bool
+    ensures { result ≡ load_out_of_range metered.entry.term metered.entry.contract metered.entry.n metered.entry.blocks.now }
 {
-    term_out_of_range(term)
-        || MAX_KW < contract
-        || !(1..=MAX_HOURS).contains(&n)
-        || (MAX_HOURS as usize) < blocks.len()
-        || any_exceeds_max_kw(blocks)
+    term_out_of_range(metered.term)
+        || MAX_KW < metered.contract
+        || !(1..=MAX_HOURS).contains(&metered.n)
+        || (MAX_HOURS as usize) < metered.blocks.len()
+        || any_exceeds_max_kw(metered.blocks)
 }
 
-// The first of causes 2 to 5 that a load meets, 0 for none: those that come before the order of its blocks.
-fn load_refusal_early(
+// The kW that a load posts, or the first cause that it meets. The metric is found once, and only for a load that meets none of causes 2 to 5.
+#[tactic(auto, using(slots::proofs::CalendarLaws::load_as_ledger, crate::proofs::BlockLaws::posted_in_term), unfolding(ledger::specs::Causes::refusal, ledger::specs::Causes::call_causes, ledger::specs::Causes::load_causes, ledger::specs::Numbers::first_met, slots::specs::Layout::ledger_in))]
+fn kw_to_post(
     o: &[u64],
     f: &[u64],
     m: &[bool],
     h: u64,
     s: u64,
-    term: u64,
-    contract: u64,
-    n: u64,
-    blocks: &[Block],
-) -> u64
+    metered: Metered,
+) -> Result<u64, Refusal>
     requires { ReachablePostings o.now f.now m.now }
-    ensures { InPostings o.now f.now m.now (λ O L. result ≡ first_met (take early_causes (load_causes O L h s term contract n blocks.now))) }
+    ensures refused { InPostings o.now f.now m.now (λ O L. refused_by result ≡ refusal O L (load_of h s metered.entry)) }
+    ensures posted { IfOk result (λ kw. kw ≡ load_posted (opening_of o.entry).settings metered.entry.contract metered.entry.blocks.now) }
 {
-    let unknown = unknown_holder(o, h) | unknown_sink(o, s);
-    let range = load_out_of_range(term, contract, n, blocks);
-    let late = !load_in_time(term, last_closed(f), current_tier(f));
-    let posted = is_posted(m, h, s, posted_slot(LOAD_POSTED_SLOT, TERMS, 0, term));
-    let from_posted = refuse(POSTED_BEFORE, posted, 0);
-    let from_time = refuse(NOT_AT_THIS_TIME, late, from_posted);
-    let from_range = refuse(OUT_OF_RANGE, range, from_time);
-    refuse(NOT_IN_BOOK, unknown, from_range)
-}
-
-// What a load comes to. The metric is found once, and only for a load that meets none of causes 2 to 5.
-fn load_posting(
-    o: &[u64],
-    f: &[u64],
-    m: &[bool],
-    h: u64,
-    s: u64,
-    term: u64,
-    contract: u64,
-    n: u64,
-    blocks: &[Block],
-) -> Posting
-    requires { ReachablePostings o.now f.now m.now }
-    ensures { InPostings o.now f.now m.now (λ O L. result ≡ posting_of O L h s term contract n blocks.now) }
-{
-    let number = load_refusal_early(o, f, m, h, s, term, contract, n, blocks);
-    if number != 0 {
-        return Posting::Refused(number);
+    if unknown_holder(o, h) || unknown_sink(o, s) {
+        return Err(Refusal::NotInBook);
     }
-    let ineligible = kind_ineligible(o, h, s);
-    let sub_lap = is_sub_lap(o, s);
-    match load_posted(legal_settings(o), blocks, n, contract) {
-        Err(BlockError::Broken) => Posting::Refused(BROKEN_BLOCKS),
-        Err(BlockError::Missing) => Posting::Refused(HOURS_MISSING),
-        Ok(kw) => {
-            if ineligible | sub_lap {
-                return Posting::Refused(SINK_INELIGIBLE);
-            }
-            Posting::Kw(kw)
-        }
+    if load_out_of_range(metered) {
+        return Err(Refusal::OutOfRange);
     }
+    if !calendar(f).load_in_time(metered.term) {
+        return Err(Refusal::NotAtThisTime);
+    }
+    if is_posted(m, h, s, LOAD_POSTED_SLOT + metered.term) {
+        return Err(Refusal::PostedBefore);
+    }
+    let kw = load_posted(
+        legal_settings(o),
+        metered.blocks,
+        metered.n,
+        metered.contract,
+    )?;
+    if kind_ineligible(o, h, s) || is_sub_lap(o, s) {
+        return Err(Refusal::SinkIneligible);
+    }
+    Ok(kw)
 }
 
 // Posts the load of a holder at a sink in a term.
@@ -116,20 +85,13 @@ pub fn load(
     m: &mut [bool],
     h: u64,
     s: u64,
-    term: u64,
-    contract: u64,
-    n: u64,
-    blocks: &[Block],
-) -> Answer
+    metered: Metered,
+) -> Result<(), Refusal>
     requires { ReachablePostings o.now f.old m.old }
-    ensures { PostingsStep o.now f.old m.old (load h s term contract n blocks.now) result f.new m.new }
+    ensures { PostingsStep o.now f.old m.old (load_of h s metered.entry) result f.new m.new }
 {
-    match load_posting(o, f, m, h, s, term, contract, n, blocks) {
-        Posting::Refused(number) => Answer::Refused(number),
-        Posting::Kw(kw) => {
-            add(f, h, s, LOAD_SLOT + term, kw);
-            set_posted(m, h, s, LOAD_POSTED_SLOT + term);
-            Answer::Done
-        }
-    }
+    let kw = kw_to_post(o, f, m, h, s, metered)?;
+    add(f, h, s, LOAD_SLOT + metered.term, kw);
+    set_posted(m, h, s, LOAD_POSTED_SLOT + metered.term);
+    Ok(())
 }

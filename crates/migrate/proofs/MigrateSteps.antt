@@ -1,17 +1,17 @@
 -- The refusal of a migration, and its outcome, from the results of the code's steps. Assumes nothing.
 use Prim.Native.Nat.{ℕ, ◌+◌, ◌^◌, ◌≤◌, ◌<◌}
 use mathlib.Core.Path.{◌≡◌, refl, sym, ap, ◌∙◌, subst}
-use mathlib.Core.Bool.{Bool, true, false, cond, not, ◌&&◌, ◌||◌}
+use mathlib.Core.Bool.{Bool, true, false, not}
 use mathlib.Core.List.{List, [], ◌∷◌}
 use native.Mathlib.Nat.{le_trans}
 use native.Mathlib.Omega.{arith}
 use lib.ListN.{length, take}
-use lib.Dec.{leb, ltb, eqb}
+use lib.Dec.{ltb}
 use borrow.Author.Tests.{not-true, not-false, ltb-false, leb-false}
-use Rattle.tariff.specs.Sizes.{last_term, last_season_tier, max_class_lines}
+use Rattle.tariff.specs.Sizes.{last_term, max_class_lines}
+use Rattle.std.specs.Prelude.{Result, Ok, Err}
 use Rattle.source_evidence.specs.declared.evidence.Entry.{Entry}
 use Rattle.tariff.specs.Sum.{sum_to, any_below, any_of}
-use Rattle.tariff.specs.Terms.{first_tier_of}
 use Rattle.tariff.specs.Ranges.{term_out_of_range}
 use Rattle.tariff.proofs.Tests.{or_unmet, both_ways}
 use Rattle.netting.specs.declared.netting.ClassLine.{ClassLine}
@@ -21,20 +21,21 @@ use Rattle.netting.proofs.FitLines.{same_lengths_lem}
 use Rattle.ledger.specs.Opening.{Opening}
 use Rattle.ledger.specs.Ledger.{Ledger}
 use Rattle.ledger.specs.Ranges.{unknown_sink, unknown_holder_in, migration_out_of_range}
-use Rattle.ledger.specs.Calendar.{tier_is_open, before_tier, migration_in_time}
-use Rattle.ledger.specs.Numbers.{unreadable, not_in_book, out_of_range, not_at_this_time, not_between_lses, loss_above_load, cause, first_met}
+use Rattle.ledger.specs.Numbers.{not_in_book, out_of_range, not_at_this_time, not_between_lses, loss_above_load, cause, first_met}
 use Rattle.ledger.specs.Call.{migrate}
-use Rattle.ledger.specs.Causes.{line_not_between_lses, migrate_causes, call_causes, refusal, loss_exceeds_load}
+use Rattle.ledger.specs.Causes.{migrate_causes, call_causes, refusal, loss_exceeds_load}
 use Rattle.ledger.specs.Effects.{effect}
 use Rattle.ledger.specs.Migration.{migrated, loads_after, rights_after, priors_after}
 use Rattle.ledger.proofs.Unmet.{unmet}
 use Rattle.ledger.proofs.TierFacts.{MigrateFacts, migrate_facts}
-use Rattle.records.specs.declared.answers.Answer.{Answer}
-use Rattle.records.specs.declared.answers.Answer.TheVariants.{Done, Refused}
+use Rattle.records.specs.declared.refusal.Refusal.{Refusal}
+use Rattle.records.specs.declared.refusal.Refusal.TheVariants.{Unreadable, LossAboveLoad}
 use Rattle.records.specs.Opening.{opening_in}
-use Rattle.records.proofs.CauseLaws.{link, no_more, first_part}
+use Rattle.records.specs.Refusals.{number_of}
+use Rattle.records.proofs.CauseLaws.{no_more, first_part}
 use Rattle.records.proofs.MetCauses.{met_first, unmet_first}
-use Rattle.slots.specs.Layout.{load_slot, posted_groups, evidence_groups, posted_of, evidence_of, last_closed_in, current_tier_in, ledger_in}
+use Rattle.records.proofs.RefusalLaws.{numbered}
+use Rattle.slots.specs.Layout.{load_slot, posted_groups, evidence_groups, posted_of, evidence_of, ledger_in}
 use Rattle.slots.specs.Steps.{Reachable, Steps, StepsIf}
 use Rattle.slots.proofs.Reachable.{counts, figures_long, figures_known, posted_known, evidence_known}
 use Rattle.slots.proofs.StepLaws.{accepted_test, steps_accepted, steps_refused}
@@ -59,19 +60,10 @@ module _ (o f : List ℕ) (term sink : ℕ) (froms tos classes customers watts :
   abbrev x : Transfer
   x = transfer_of o f term sink froms tos classes customers watts
 
-  -- the tests that come before netting
-  pub early_cause : (unknown range in_time apart : Bool) (last current r2 r3 r4 r8 : ℕ) → unknown ≡ (unknown_sink O sink || unknown_holder_in O lines) → range ≡ migration_out_of_range term lines → last ≡ last_closed_in f → current ≡ current_tier_in f → in_time ≡ ((not (not (eqb current 0)) && ltb last (first_tier_of term)) && (eqb term 0 || leb last_season_tier last)) → apart ≡ any_of lines (line_not_between_lses O) → r2 ≡ cond unknown not_in_book r3 → r3 ≡ cond range out_of_range r4 → r4 ≡ cond (not in_time) not_at_this_time r8 → r8 ≡ cond apart not_between_lses 0 → r2 ≡ first_met (take early_causes (migrate_causes O L term sink lines))
-  unfolding migrate_causes migration_in_time before_tier tier_is_open ledger_in
-  early_cause unknown range in_time apart last current r2 r3 r4 r8 of_unknown of_range of_last of_current of_time of_apart e2 e3 e4 e8 =
-      link not_in_book _ _ _ e2 of_unknown
-      (link out_of_range _ _ _ e3 of_range
-      (link not_at_this_time _ _ _ e4 (ap not (of_time ∙ (λ i. (not (not (eqb (of_current i) 0)) && ltb (of_last i) (first_tier_of term)) && (eqb term 0 || leb last_season_tier (of_last i)))))
-      (link not_between_lses _ _ _ e8 of_apart no_more)))
-
   -- an early cause that is met is the first of all
-  early-found : (number : ℕ) → number ≡ first_met (take early_causes (migrate_causes O L term sink lines)) → (number ≡ 0 → ⊥) → number ≡ refusal O L (migrate term sink lines)
+  early-found : (r : Refusal) → number_of r ≡ first_met (take early_causes (migrate_causes O L term sink lines)) → number_of r ≡ refusal O L (migrate term sink lines)
   unfolding refusal call_causes
-  early-found number found ne = found ∙ first_part early_causes (migrate_causes O L term sink lines) (λ z. ne (found ∙ z))
+  early-found r found = found ∙ first_part early_causes (migrate_causes O L term sink lines) (λ z. let low = (numbered r).0 in omega (arith, low, found, z))
 
   -- what is known where none is met
   record Early : Type 0 where
@@ -102,11 +94,11 @@ module _ (o f : List ℕ) (term sink : ℕ) (froms tos classes customers watts :
       }
 
   module _ (reach : Reachable o f m e) (even : Bool) (counted : even ≡ same_counts froms tos classes customers watts) where
-    abbrev Outcome : Answer → List ℕ → Type 0
+    abbrev Outcome : Result (Unit {0}) Refusal → List ℕ → Type 0
     Outcome answer f' = StepsIf (same_counts froms tos classes customers watts) O L (migrate term sink lines) answer f' m e
 
     -- slices of unequal length
-    pub uneven : not even ≡ true → Outcome (Refused unreadable) f
+    pub uneven : not even ≡ true → Outcome (Err Unreadable) f
     uneven odd =
         record {
           equal = λ t. absurd (both_ways (counted ∙ t) (not-true even odd));
@@ -120,62 +112,61 @@ module _ (o f : List ℕ) (term sink : ℕ) (froms tos classes customers watts :
       pub lengths : SameLengths froms tos classes customers watts
       lengths = same_lengths_lem froms tos classes customers watts evenly
 
-      outcome : (answer : Answer) (f' : List ℕ) → Steps O L (migrate term sink lines) answer f' m e → Outcome answer f'
+      outcome : (answer : Result (Unit {0}) Refusal) (f' : List ℕ) → Steps O L (migrate term sink lines) answer f' m e → Outcome answer f'
       outcome answer f' s = record { equal = λ t. s; unequal = λ t. absurd (both_ways evenly t) }
 
       few : O.holders ≤ 8
       few = (counts o f m e reach).0
 
-      module _ (number : ℕ) (found : number ≡ first_met (take early_causes (migrate_causes O L term sink lines))) where
-        pub early_refused : (number ≡ 0 → ⊥) → Outcome (Refused number) f
-        early_refused ne = outcome (Refused number) f (steps_refused o f m e (migrate term sink lines) number (early-found number found ne) reach ne)
+      pub early_refused : (r : Refusal) → number_of r ≡ first_met (take early_causes (migrate_causes O L term sink lines)) → Outcome (Err r) f
+      early_refused r found = outcome (Err r) f (steps_refused o f m e (migrate term sink lines) r (early-found r found) reach)
 
-        module _ (none : number ≡ 0) where
-          past : Early
-          past = early (sym found ∙ none)
+      module _ (none : 0 ≡ first_met (take early_causes (migrate_causes O L term sink lines))) where
+        past : Early
+        past = early (sym none)
 
-          in_sinks : sink < 16
-          in_sinks = le_trans past.sink_in_book (counts o f m e reach).2
+        in_sinks : sink < 16
+        in_sinks = le_trans past.sink_in_book (counts o f m e reach).2
 
-          pub load_there : HasColumn f sink (load_slot + term)
-          load_there = let t = past.in_term in record { long = figures_long o f m e reach; place = in_sinks; in_row = omega arith }
+        pub load_there : HasColumn f sink (load_slot + term)
+        load_there = let t = past.in_term in record { long = figures_long o f m e reach; place = in_sinks; in_row = omega arith }
 
-          fit : lines_fit froms tos classes customers watts ≡ true
-          fit = lines_fit_lem froms tos classes customers watts O few lengths past.known past.short past.right
+        fit : lines_fit froms tos classes customers watts ≡ true
+        fit = lines_fit_lem froms tos classes customers watts O few lengths past.known past.short past.right
 
-          module _ (y : Transfer) (is : y ≡ x) where
-            pub losses : (y.holders ≤ 8) × ((i : ℕ) → i < 8 → sum_to y.holders (λ j. pair_at y.m i j) < 2 ^ 64)
-            losses = losses_fit froms tos classes customers watts o f term sink y is few
+        module _ (y : Transfer) (is : y ≡ x) where
+          pub losses : (y.holders ≤ 8) × ((i : ℕ) → i < 8 → sum_to y.holders (λ j. pair_at y.m i j) < 2 ^ 64)
+          losses = losses_fit froms tos classes customers watts o f term sink y is few
 
-            module _ (loss : Bool) (lost : loss ≡ any_below y.holders (λ i. ltb (holder_at y.load i) (sum_to y.holders (λ j. pair_at y.m i j)))) where
-              loses : loss ≡ loss_exceeds_load O L term sink lines
-              loses = lost ∙ loss_cause froms tos classes customers watts o f term sink y is few m e in_sinks past.in_term fit
+          module _ (loss : Bool) (lost : loss ≡ any_below y.holders (λ i. ltb (holder_at y.load i) (sum_to y.holders (λ j. pair_at y.m i j)))) where
+            loses : loss ≡ loss_exceeds_load O L term sink lines
+            loses = lost ∙ loss_cause froms tos classes customers watts o f term sink y is few m e in_sinks past.in_term fit
 
-              pub too_much : loss ≡ true → Outcome (Refused loss_above_load) f
-              too_much t = outcome (Refused loss_above_load) f (steps_refused o f m e (migrate term sink lines) loss_above_load (past.later loss_above_load (met_first loss_above_load _ _ (sym loses ∙ t))) reach (λ z. omega (arith, z)))
+            pub too_much : loss ≡ true → Outcome (Err LossAboveLoad) f
+            too_much t = outcome (Err LossAboveLoad) f (steps_refused o f m e (migrate term sink lines) LossAboveLoad (past.later loss_above_load (met_first loss_above_load _ _ (sym loses ∙ t))) reach)
 
-              module _ (covers : loss ≡ false) where
-                unrefused : 0 ≡ refusal O L (migrate term sink lines)
-                unrefused = past.later 0 (unmet_first loss_above_load _ _ (sym loses ∙ covers) no_more)
+            module _ (covers : loss ≡ false) where
+              unrefused : 0 ≡ refusal O L (migrate term sink lines)
+              unrefused = past.later 0 (unmet_first loss_above_load _ _ (sym loses ∙ covers) no_more)
 
-                facts : MigrateFacts O L term sink lines
-                facts = migrate_facts O L term sink lines (accepted_test O L (migrate term sink lines) 0 unrefused refl)
+              facts : MigrateFacts O L term sink lines
+              facts = migrate_facts O L term sink lines (accepted_test O L (migrate term sink lines) unrefused)
 
-                pub load_needs : HasColumn f sink (load_slot + term) × LossesWithinLoads y × (y.load ≡ column_at f sink (load_slot + term))
-                unfolding transfer_of
-                load_needs = (load_there, subst LossesWithinLoads (sym is) (covered o f m e reach term sink froms tos classes customers watts lengths facts), ap (λ z. z.load) is)
+              pub load_needs : HasColumn f sink (load_slot + term) × LossesWithinLoads y × (y.load ≡ column_at f sink (load_slot + term))
+              unfolding transfer_of
+              load_needs = (load_there, subst LossesWithinLoads (sym is) (covered o f m e reach term sink froms tos classes customers watts lengths facts), ap (λ z. z.load) is)
 
-                pub rights_needs : (one : List ℕ) → ColumnTransfer (column_where (load_at term sink) (load_column y)) f one → RightsFit o one term sink y
-                rights_needs one a = subst (RightsFit o one term sink) (sym is) (rights_fit o f m e reach term sink froms tos classes customers watts lengths facts one (subst (λ z. ColumnTransfer (column_where (load_at term sink) (load_column z)) f one) is a))
+              pub rights_needs : (one : List ℕ) → ColumnTransfer (column_where (load_at term sink) (load_column y)) f one → RightsFit o one term sink y
+              rights_needs one a = subst (RightsFit o one term sink) (sym is) (rights_fit o f m e reach term sink froms tos classes customers watts lengths facts one (subst (λ z. ColumnTransfer (column_where (load_at term sink) (load_column z)) f one) is a))
 
-                stay : (posted_of L ≡ posted_of (effect O L (migrate term sink lines))) × (evidence_of L ≡ evidence_of (effect O L (migrate term sink lines)))
-                unfolding posted_of posted_groups evidence_of evidence_groups effect migrated loads_after rights_after priors_after
-                stay = (refl, refl)
+              stay : (posted_of L ≡ posted_of (effect O L (migrate term sink lines))) × (evidence_of L ≡ evidence_of (effect O L (migrate term sink lines)))
+              unfolding posted_of posted_groups evidence_of evidence_groups effect migrated loads_after rights_after priors_after
+              stay = (refl, refl)
 
-                pub migrated_steps : (one two : List ℕ) → ColumnTransfer (column_where (load_at term sink) (load_column y)) f one → ColumnTransfer (column_where (moves_at O term sink) (share_column y)) one two → Outcome Done two
-                migrated_steps one two a b =
-                    outcome Done two
-                    (steps_accepted O L (migrate term sink lines) 0 unrefused two m e refl
-                    (figures_migrated o f m e reach term sink froms tos classes customers watts lengths facts one two (subst (λ z. ColumnTransfer (column_where (load_at term sink) (load_column z)) f one) is a) (subst (λ z. ColumnTransfer (column_where (moves_at O term sink) (share_column z)) one two) is b))
-                    (posted_known o f m e reach ∙ stay.0)
-                    (evidence_known o f m e reach ∙ stay.1))
+              pub migrated_steps : (one two : List ℕ) → ColumnTransfer (column_where (load_at term sink) (load_column y)) f one → ColumnTransfer (column_where (moves_at O term sink) (share_column y)) one two → Outcome (Ok tt) two
+              migrated_steps one two a b =
+                  outcome (Ok tt) two
+                  (steps_accepted O L (migrate term sink lines) unrefused two m e
+                  (figures_migrated o f m e reach term sink froms tos classes customers watts lengths facts one two (subst (λ z. ColumnTransfer (column_where (load_at term sink) (load_column z)) f one) is a) (subst (λ z. ColumnTransfer (column_where (moves_at O term sink) (share_column z)) one two) is b))
+                  (posted_known o f m e reach ∙ stay.0)
+                  (evidence_known o f m e reach ∙ stay.1))

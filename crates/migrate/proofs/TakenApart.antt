@@ -1,10 +1,8 @@
 -- Class lines taken apart into columns: up to 64 lines are migrated as the columns are, and more are refused. Assumes nothing.
-use Rattle.std.proofs.Common.{◌≡◌, ℕ, zero, suc, ◌<◌, ◌≤◌, Bool, true, false, ◌||◌, List, [], ◌∷◌, length, cond, get_or, take, refl, sym, ap, subst, ◌∙◌, arith}
+use Rattle.std.proofs.Common.{◌≡◌, ℕ, ◌<◌, ◌≤◌, Bool, true, false, ◌||◌, List, length, get_or, take, sym, ap, subst, ◌∙◌, arith}
 use mathlib.Core.Bool.{or-true}
-use native.Mathlib.Nat.{zero-lt-suc}
 use lib.Seq.{ext_get_or, get_or-take, length-take-le}
-use Rattle.std.specs.Bool.{MatchBool}
-use Rattle.std.specs.List.{AllWithin, HoldsAt}
+use Rattle.std.specs.Prelude.{Result, Err}
 use Rattle.tariff.specs.Sizes.{max_class_lines}
 use Rattle.tariff.specs.Sum.{any_of, tabulate}
 use Rattle.tariff.proofs.Tests.{or_left_true}
@@ -22,32 +20,15 @@ use Rattle.ledger.specs.Numbers.{not_in_book, out_of_range}
 use Rattle.ledger.specs.Ranges.{unknown_sink, unknown_holder_in, migration_out_of_range}
 use Rattle.ledger.specs.Call.{migrate}
 use Rattle.ledger.specs.Causes.{migrate_causes, call_causes, refusal}
-use Rattle.records.specs.declared.answers.Answer.{Answer}
-use Rattle.records.specs.declared.answers.Answer.TheVariants.{Refused}
+use Rattle.records.specs.declared.refusal.Refusal.{Refusal}
+use Rattle.records.specs.declared.refusal.Refusal.TheVariants.{NotInBook, OutOfRange}
 use Rattle.records.specs.Opening.{opening_in}
-use Rattle.records.proofs.CauseLaws.{link}
+use Rattle.records.proofs.MetCauses.{met_first, unmet_first}
 use Rattle.slots.specs.Layout.{ledger_in}
 use Rattle.slots.specs.Steps.{Reachable, Steps, StepsIf}
 use Rattle.slots.proofs.StepLaws.{steps_refused}
 use Rattle.migrate.specs.declared.class_lines.Columns.{Columns}
 use Rattle.migrate.specs.ClassLines.{no_line, column_of, taken_apart}
-
--- a search that found a line, or went through all of them
-module _ (test : ClassLine → Bool) where
-  one_passes : (lines : List ClassLine) (k : ℕ) → k < length lines → test (get_or lines k no_line) ≡ true → any_of lines test ≡ true
-  unfolding any_of
-  one_passes [] k l h = absurd (omega arith)
-  one_passes (x ∷ xs) zero l h = or_left_true (any_of xs test) h
-  one_passes (x ∷ xs) (suc k) l h = ap (λ t. test x || t) (one_passes xs k (omega arith) h) ∙ or-true (test x)
-
-  none_passes : (lines : List ClassLine) → ((k : ℕ) → k < length lines → test (get_or lines k no_line) ≡ false) → any_of lines test ≡ false
-  unfolding any_of
-  none_passes [] h = refl
-  none_passes (x ∷ xs) h = λ i. h 0 (zero-lt-suc (length xs)) i || none_passes xs (λ k l. h (suc k) (omega arith)) i
-
-  pub any_by_places : (lines : List ClassLine) (r : Bool) → MatchBool r ((k : ℕ) × (k < length lines) × HoldsAt (λ l. test l ≡ true) lines k) (AllWithin (λ l. test l ≡ false) lines 0 (length lines)) → r ≡ any_of lines test
-  any_by_places lines true (k, l, h) = sym (one_passes lines k l (h no_line))
-  any_by_places lines false h = sym (none_passes lines (λ k l. h k no_line (omega arith) l))
 
 module _ (lines : List ClassLine) (few : length lines ≤ max_class_lines) where
   abbrev first : (ClassLine → ℕ) → List ℕ
@@ -112,23 +93,20 @@ module _ (o f : List ℕ) (m : List Bool) (e : List Entry) (reach : Reachable o 
   abbrev L : Ledger
   L = ledger_in f m e
 
-  -- more than 64 lines: 2 for an unknown sink or holder, else 3
-  pub too_many : (unknown : Bool) (number : ℕ) → max_class_lines < length lines → unknown ≡ (unknown_sink O sink || unknown_holder_in O lines) → number ≡ cond unknown not_in_book out_of_range → Steps O L (migrate term sink lines) (Refused number) f m e
+  -- more than 64 lines: by cause 2 for an unknown sink or holder, else by 3
+  pub stranger : (unknown_sink O sink || unknown_holder_in O lines) ≡ true → Steps O L (migrate term sink lines) (Err NotInBook) f m e
+  unfolding refusal call_causes migrate_causes
+  stranger unknown = steps_refused o f m e (migrate term sink lines) NotInBook (met_first not_in_book _ _ unknown) reach
+
+  pub too_many : max_class_lines < length lines → (unknown_sink O sink || unknown_holder_in O lines) ≡ false → Steps O L (migrate term sink lines) (Err OutOfRange) f m e
   unfolding migration_out_of_range refusal call_causes migrate_causes
-  too_many unknown number many of_unknown is = steps_refused o f m e (migrate term sink lines) number found reach (some_number unknown is)
+  too_many many known = steps_refused o f m e (migrate term sink lines) OutOfRange (unmet_first not_in_book _ _ known (met_first out_of_range _ _ out)) reach
     where
-      out : true ≡ migration_out_of_range term lines
-      out = sym (or_left_true (any_of lines class_line_out_of_range) (ap (λ t. term_out_of_range term || t) (lt-ltb max_class_lines (length lines) many) ∙ or-true (term_out_of_range term)))
-
-      found : number ≡ refusal O L (migrate term sink lines)
-      found = link not_in_book _ _ _ is of_unknown (link out_of_range true _ _ refl out refl)
-
-      some_number : (t : Bool) → number ≡ cond t not_in_book out_of_range → number ≡ 0 → ⊥
-      some_number true q z = omega arith
-      some_number false q z = omega arith
+      out : migration_out_of_range term lines ≡ true
+      out = or_left_true (any_of lines class_line_out_of_range) (ap (λ t. term_out_of_range term || t) (lt-ltb max_class_lines (length lines) many) ∙ or-true (term_out_of_range term))
 
   -- up to 64 lines: a migration of the columns is one of the lines
-  pub moved : (all : Columns) (answer : Answer) (f' : List ℕ) → length lines ≤ max_class_lines → all ≡ taken_apart lines → StepsIf (same_counts (take (length lines) all.froms) (take (length lines) all.tos) (take (length lines) all.classes) (take (length lines) all.customers) (take (length lines) all.watts)) O L (migrate term sink (class_lines_of (take (length lines) all.froms) (take (length lines) all.tos) (take (length lines) all.classes) (take (length lines) all.customers) (take (length lines) all.watts))) answer f' m e → Steps O L (migrate term sink lines) answer f' m e
+  pub moved : (all : Columns) (answer : Result (Unit {0}) Refusal) (f' : List ℕ) → length lines ≤ max_class_lines → all ≡ taken_apart lines → StepsIf (same_counts (take (length lines) all.froms) (take (length lines) all.tos) (take (length lines) all.classes) (take (length lines) all.customers) (take (length lines) all.watts)) O L (migrate term sink (class_lines_of (take (length lines) all.froms) (take (length lines) all.tos) (take (length lines) all.classes) (take (length lines) all.customers) (take (length lines) all.watts))) answer f' m e → Steps O L (migrate term sink lines) answer f' m e
   unfolding taken_apart
   moved all answer f' few is s =
       let first = λ (xs : List ℕ). take (length lines) xs in

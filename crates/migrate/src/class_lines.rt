@@ -1,7 +1,7 @@
 // Migrate over a lent slice of class lines (01, Migration): the lines are taken apart, a column of numbers to a field, and the core migrates the columns.
-ghost use Rattle.std.specs.Prelude.{◌≡◌, ◌≤◌, ◌||◌, length};
+ghost use Rattle.std.specs.Prelude.{◌≡◌, ◌≤◌, length};
 ghost use Rattle.ledger.specs.Call.{migrate};
-ghost use Rattle.ledger.specs.Ranges.{unknown_sink, unknown_holder_in};
+ghost use Rattle.ledger.specs.Ranges.{unknown_holder_in};
 ghost use Rattle.records.specs.Opening.{opening_of};
 ghost use Rattle.slots.specs.Steps.{ReachableFigures, FiguresStep};
 ghost use Rattle.tariff.specs.Sizes.{max_class_lines};
@@ -10,9 +10,7 @@ ghost use Rattle.migrate.specs.ClassLines.{taken_apart};
 use crate::class_tests::names_unknown;
 use crate::migrate::migrate;
 use netting::netting::{ClassColumns, ClassLine};
-use records::answers::Answer;
-use records::numbers::{NOT_IN_BOOK, OUT_OF_RANGE};
-use records::refusals::refuse;
+use records::refusal::Refusal;
 use records::setup::unknown_sink;
 use tariff::sizes::MAX_CLASS_LINES;
 
@@ -57,23 +55,24 @@ fn any_line_unknown(o: &[u64], lines: &[ClassLine]) -> bool
         .any(|line| names_unknown(o, line.from, line.to))
 }
 
-// Whether the sink or a holder of some line is not in the book.
-fn some_unknown(o: &[u64], sink: u64, lines: &[ClassLine]) -> bool
-    ensures { result ≡ (unknown_sink (opening_of o.entry) sink || unknown_holder_in (opening_of o.entry) lines.now) }
-{
-    unknown_sink(o, sink) || any_line_unknown(o, lines)
-}
-
 // Moves loads, rights and last year's allocations with the customers of the class lines lent.
-// More than 64 lines are refused: 2 where the sink or a holder is not in the book, else 3.
-pub fn migrate_lines(o: &[u64], f: &mut [u64], term: u64, sink: u64, lines: &[ClassLine]) -> Answer
+// More than 64 lines are refused: by cause 2 where the sink or a holder is not in the book, else by 3.
+pub fn migrate_lines(
+    o: &[u64],
+    f: &mut [u64],
+    term: u64,
+    sink: u64,
+    lines: &[ClassLine],
+) -> Result<(), Refusal>
     requires { ReachableFigures o.now f.old }
     ensures { FiguresStep o.now f.old (migrate term sink lines.now) result f.new }
 {
     let n = lines.len();
     if MAX_CLASS_LINES < n {
-        let unknown = some_unknown(o, sink, lines);
-        return Answer::Refused(refuse(NOT_IN_BOOK, unknown, OUT_OF_RANGE));
+        if unknown_sink(o, sink) || any_line_unknown(o, lines) {
+            return Err(Refusal::NotInBook);
+        }
+        return Err(Refusal::OutOfRange);
     }
     let all = taken_apart(lines);
     let columns = ClassColumns {

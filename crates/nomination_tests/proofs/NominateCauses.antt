@@ -1,46 +1,30 @@
 -- The causes of a nomination as code finds them, but for what it has verified. Assumes nothing.
 use Prim.Native.Nat.{ℕ, ◌+◌, ◌*◌, ◌^◌, ◌≤◌, ◌<◌}
-use mathlib.Core.Path.{◌≡◌, sym, ap, ◌∙◌}
-use mathlib.Core.Bool.{Bool, false, ◌&&◌, ◌||◌}
+use mathlib.Core.Path.{◌≡◌, ap, ◌∙◌}
+use mathlib.Core.Bool.{Bool, ◌&&◌}
 use mathlib.Core.List.{List}
 use native.Mathlib.Nat.{le_trans, le_of_eq}
 use native.Mathlib.Omega.{arith}
 use lib.ListN.{length}
 use lib.Dec.{ltb, eqb}
-use borrow.Author.Tests.{leb-false}
 use Rattle.source_evidence.specs.declared.evidence.Entry.{Entry}
-use Rattle.tariff.specs.Ranges.{max_kw, kw_out_of_range}
+use Rattle.tariff.specs.Ranges.{max_kw}
 use Rattle.tariff.specs.Sum.{when_true}
 use Rattle.tariff.proofs.Sums.{sum_ext}
-use Rattle.tariff.proofs.Tests.{or_unmet}
-use Rattle.ledger.specs.Opening.{Opening, path_sink, path_base, has_base}
+use Rattle.ledger.specs.Opening.{Opening, path_base, has_base}
 use Rattle.ledger.specs.Ledger.{Ledger}
-use Rattle.ledger.specs.Ranges.{unknown_holder, unknown_path}
 use Rattle.ledger.specs.Limits.{sum_at_base, nominated_at, tier_limit}
-use Rattle.ledger.specs.Causes.{kind_ineligible, is_sub_lap, exceeds_prior, exceeds_limit}
-use Rattle.ledger.proofs.Unmet.{kw_in_range}
+use Rattle.ledger.specs.Causes.{exceeds_prior, exceeds_limit}
 use Rattle.records.specs.Opening.{opening_in}
 use Rattle.slots.specs.Cells.{HasCell, read_at}
 use Rattle.slots.specs.Layout.{prior_remaining_slot, nominated_slot, figure_slots, figure_count, current_tier_in, ledger_in}
 use Rattle.slots.specs.Sums.{on_path, max_figure}
-use Rattle.slots.specs.Steps.{Reachable, ReachableFigures}
+use Rattle.slots.specs.Steps.{Reachable}
 use Rattle.slots.proofs.Reachable.{counts, figures_long}
 use Rattle.slots.proofs.Figures.{from_zero, figure_fits, summable, room_for_more}
 use Rattle.slots.proofs.PathSums.{base_sum_fits}
 use Rattle.nomination_tests.specs.Inputs.{NominationInputs}
 use Rattle.nomination_tests.proofs.UsageLaws.{nominated_now}
-
--- a nomination that meets neither of the first two causes is in the book and in range
-pub in_book : (o f : List ℕ) (h p kw : ℕ) (unknown-holder unknown-path wrong : Bool) → ReachableFigures o f → unknown-holder ≡ unknown_holder (opening_in o) h → unknown-path ≡ unknown_path (opening_in o) p → (unknown-holder || unknown-path) ≡ false → wrong ≡ kw_out_of_range kw → wrong ≡ false → NominationInputs o f h p kw
-unfolding unknown_holder unknown_path
-in_book o f h p kw unknown-holder unknown-path wrong k a b known c range =
-    let both = or_unmet unknown-holder unknown-path known in
-    record {
-      figures = k;
-      holder = leb-false _ _ (sym a ∙ both.0);
-      path = leb-false _ _ (sym b ∙ both.1);
-      high = (kw_in_range kw (sym c ∙ range)).1;
-    }
 
 -- what a holder nominates at a base in the open tier, and that it leaves room
 module _ (o f : List ℕ) (m : List Bool) (x : List Entry) (r : Reachable o f m x) (h : ℕ) (l : h < (opening_in o).holders) where
@@ -60,11 +44,6 @@ module _ (o f : List ℕ) (m : List Bool) (x : List Entry) (h p : ℕ) where
 
   abbrev L : Ledger
   L = ledger_in f m x
-
-  -- cause 10
-  pub sink_test : (tier sink : ℕ) (a b : Bool) → tier ≡ current_tier_in f → sink ≡ path_sink O p → a ≡ kind_ineligible O h sink → b ≡ is_sub_lap O sink → (a || (eqb tier 1 && b)) ≡ (kind_ineligible O h (path_sink O p) || (eqb L.tiers.current_tier 1 && is_sub_lap O (path_sink O p)))
-  unfolding ledger_in
-  sink_test tier sink a b t e u v = λ i. (u ∙ ap (kind_ineligible O h) e) i || (eqb (t i) 1 && (v ∙ ap (is_sub_lap O) e) i)
 
   module _ (kw : ℕ) (inputs : NominationInputs o f h p kw) (r : Reachable o f m x) where
     holder : h < 8

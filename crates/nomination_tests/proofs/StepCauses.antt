@@ -14,7 +14,7 @@ use Rattle.tariff.specs.declared.settings.Settings.{Settings}
 use Rattle.tariff.specs.Eligible.{eligible_without_evidence}
 use Rattle.tariff.specs.Terms.{is_long_term_step}
 use Rattle.tariff.proofs.Sums.{sum_ext}
-use Rattle.ledger.specs.Opening.{Opening, holder_kind, path_source, path_base, has_base}
+use Rattle.ledger.specs.Opening.{Opening, obaalse, holder_kind, path_source, path_base, has_base}
 use Rattle.ledger.specs.Ledger.{Ledger}
 use Rattle.ledger.specs.Limits.{sum_at_base, long_term_at, nominated_at}
 use Rattle.ledger.specs.TenYear.{has_ten_year}
@@ -48,17 +48,17 @@ module _ (o f : List ℕ) (m : List Bool) (x : List Entry) where
   L = ledger_in f m x
 
   -- whether ten-year evidence is needed: by an OBAALSE ..
-  pub obaalse_needs : (tier h b kw kind : ℕ) → kind ≡ holder_kind O h → kind ≡ 2 → true ≡ needs_ten_year O L tier h b kw
+  pub obaalse_needs : (tier h b kw : ℕ) → eqb (holder_kind O h) obaalse ≡ true → true ≡ needs_ten_year O L tier h b kw
   unfolding needs_ten_year
-  obaalse_needs tier h b kw kind is e =
-      sym (ap (λ t. t || ltb (eligible_without_evidence O.settings (L.loads.kw h b 0)) (nominated_at O L h b tier + kw + long_term_at O L h b 1)) (eq-eqb (holder_kind O h) 2 (sym is ∙ e)))
+  obaalse_needs tier h b kw is =
+      sym (ap (λ t. t || ltb (eligible_without_evidence O.settings (L.loads.kw h b 0)) (nominated_at O L h b tier + kw + long_term_at O L h b 1)) is)
 
   -- .. and by another holder above what the step gives of its load without it
-  pub above_without : (r : Reachable o f m x) (settings : Settings) (h b kw kind load nominated carried without : ℕ) → (l : h < O.holders) → b < 16 → kind ≡ holder_kind O h → (kind ≡ 2 → ⊥) → load ≡ read_at figure_slots 0 f h b load_slot → nominated ≡ sum_at_base O b (on_path f h nominated_slot) → carried ≡ sum_at_base O b (on_path f h carried_slot) → settings ≡ O.settings → without ≡ eligible_without_evidence settings load → ltb without (nominated + kw + carried) ≡ needs_ten_year O L L.tiers.current_tier h b kw
+  pub above_without : (r : Reachable o f m x) (settings : Settings) (h b kw load nominated carried without : ℕ) → (l : h < O.holders) → b < 16 → eqb (holder_kind O h) obaalse ≡ false → load ≡ read_at figure_slots 0 f h b load_slot → nominated ≡ sum_at_base O b (on_path f h nominated_slot) → carried ≡ sum_at_base O b (on_path f h carried_slot) → settings ≡ O.settings → without ≡ eligible_without_evidence settings load → ltb without (nominated + kw + carried) ≡ needs_ten_year O L L.tiers.current_tier h b kw
   unfolding needs_ten_year long_term_at ledger_in
-  above_without r settings h b kw kind load nominated carried without l place is ne of_load n lt set q =
+  above_without r settings h b kw load nominated carried without l place is of_load n lt set q =
       (λ i. ltb ((q ∙ ap₂ eligible_without_evidence set (of_load ∙ from_zero f load_slot terms h b 0 holder place (omega arith))) i) ((n ∙ nominated_at_lem o f m x r h l b) i + kw + (lt ∙ month-1) i))
-      ∙ sym (ap (λ u. u || ltb (eligible_without_evidence O.settings (L.loads.kw h b 0)) (nominated_at O L h b L.tiers.current_tier + kw + long_term_at O L h b 1)) (ne_eqb (holder_kind O h) 2 (λ w. ne (is ∙ w))))
+      ∙ sym (ap (λ u. u || ltb (eligible_without_evidence O.settings (L.loads.kw h b 0)) (nominated_at O L h b L.tiers.current_tier + kw + long_term_at O L h b 1)) is)
     where
       holder : h < 8
       holder = le_trans l (counts o f m x r).0

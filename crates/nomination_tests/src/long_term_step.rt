@@ -7,7 +7,7 @@ ghost use Rattle.ledger.specs.Causes.{exceeds_tier1_award, needs_ten_year, needs
 ghost use Rattle.slots.specs.Steps.{InFigures};
 ghost use Rattle.nomination_tests.specs.Inputs.{NominationInputs, PathInputs, PathPair, BaseInputs};
 
-use records::kinds::OBAALSE;
+use records::kinds::HolderKind;
 use records::setup::{holder_kind, legal_settings, path_base, path_source, paths};
 use slots::calendar::current_tier;
 use slots::cells::read;
@@ -32,7 +32,7 @@ fn needs_ten_year(o: &[u64], f: &[u64], h: u64, base: u64, kw: u64) -> bool
     requires { BaseInputs o.now f.now h base kw }
     ensures { InFigures o.now f.now (λ O L. result ≡ needs_ten_year O L L.tiers.current_tier h base kw) }
 {
-    if holder_kind(o, h) == OBAALSE {
+    if holder_kind(o, h) == Some(HolderKind::Obaalse) {
         return true;
     }
     let load = read(f, h, base, LOAD_SLOT);

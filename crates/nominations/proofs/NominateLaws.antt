@@ -8,6 +8,7 @@ use native.Mathlib.Omega.{arith}
 use lib.ListN.{length, take, drop}
 use lib.Dec.{eqb}
 use borrow.Author.Tests.{eq-eqb}
+use Rattle.std.specs.Prelude.{Ok}
 use Rattle.source_evidence.specs.declared.evidence.Entry.{Entry}
 use Rattle.tariff.specs.Sum.{when_true}
 use Rattle.ledger.specs.Opening.{Opening}
@@ -16,7 +17,6 @@ use Rattle.ledger.specs.Call.{nominate}
 use Rattle.ledger.specs.Causes.{refusal}
 use Rattle.ledger.specs.Effects.{same2, same3, plus_at2, plus_at3, after_nominate, effect}
 use Rattle.ledger.proofs.TierFacts.{NominateFacts, nominate_facts}
-use Rattle.records.specs.declared.answers.Answer.TheVariants.{Done}
 use Rattle.records.specs.Opening.{opening_in}
 use Rattle.slots.specs.Cells.{HasCell, read_at, added_at}
 use Rattle.slots.specs.Groups.{slots_of}
@@ -28,7 +28,7 @@ use Rattle.slots.proofs.Reachable.{counts, figures_shown, posted_known, evidence
 use Rattle.slots.proofs.Figures.{figure_fits, room_for_more}
 use Rattle.slots.proofs.StepLaws.{accepted_test, steps_accepted}
 
-module _ (o f : List ℕ) (m : List Bool) (x : List Entry) (h p kw number : ℕ) (r : Reachable o f m x) (found : number ≡ refusal (opening_in o) (ledger_in f m x) (nominate h p kw)) (zero : number ≡ 0) where
+module _ (o f : List ℕ) (m : List Bool) (x : List Entry) (h p kw : ℕ) (r : Reachable o f m x) (unmet : 0 ≡ refusal (opening_in o) (ledger_in f m x) (nominate h p kw)) where
   abbrev O : Opening
   O = opening_in o
 
@@ -36,7 +36,7 @@ module _ (o f : List ℕ) (m : List Bool) (x : List Entry) (h p kw number : ℕ)
   L = ledger_in f m x
 
   facts : NominateFacts O L h p kw
-  facts = nominate_facts O L h p kw (accepted_test O L (nominate h p kw) number found zero)
+  facts = nominate_facts O L h p kw (accepted_test O L (nominate h p kw) unmet)
 
   -- the slot is there, and has room for the kW
   pub nominate_room : HasCell figure_slots h p nominated_slot × (length f ≡ figure_count) × (read_at figure_slots 0 f h p nominated_slot + kw < 2 ^ 64)
@@ -68,5 +68,5 @@ module _ (o f : List ℕ) (m : List Bool) (x : List Entry) (h p kw number : ℕ)
   unfolding evidence_of evidence_groups effect with_tiers
   filed = evidence_known o f m x r
 
-  pub nominate_steps : (f' : List ℕ) → f' ≡ added_at figure_slots f h p nominated_slot kw → Steps O L (nominate h p kw) Done f' m x
-  nominate_steps f' of_figures = steps_accepted O L (nominate h p kw) number found f' m x zero (nominated f' of_figures) posted filed
+  pub nominate_steps : (f' : List ℕ) → f' ≡ added_at figure_slots f h p nominated_slot kw → Steps O L (nominate h p kw) (Ok tt) f' m x
+  nominate_steps f' of_figures = steps_accepted O L (nominate h p kw) unmet f' m x (nominated f' of_figures) posted filed

@@ -4,25 +4,21 @@ ghost use Rattle.ledger.specs.Opening.{path_sink};
 ghost use Rattle.ledger.specs.Call.{nominate};
 ghost use Rattle.ledger.specs.Numbers.{first_met};
 ghost use Rattle.ledger.specs.Causes.{kind_ineligible, is_sub_lap, needs_verification, lacks_evidence, exceeds_verified, exceeds_prior, exceeds_limit, nominate_causes, refusal};
+ghost use Rattle.records.specs.Refusals.{refused_by};
 ghost use Rattle.slots.specs.Steps.{ReachableFigures, InFigures, FiguresStep};
 ghost use Rattle.nomination_tests.specs.Inputs.{NominationInputs, PathInputs};
 ghost use Rattle.nominations.specs.CauseOrder.{causes_before_tier, causes_before_step};
 
 use nomination_tests::long_term_step::{exceeds_tier_1_award, lacks_ten_year};
 use nomination_tests::source_usage::{has_evidence, source_usage, verified_kw};
-use records::answers::Answer;
-use records::calendar::tier_is_open;
-use records::kinds::OBAALSE;
-use records::numbers::{
-    ABOVE_LIMIT, ABOVE_PRIOR, ABOVE_TIER_1_AWARD, ABOVE_VERIFIED, NO_TEN_YEAR_EVIDENCE,
-    NOT_AT_THIS_TIME, NOT_IN_BOOK, OUT_OF_RANGE, SINK_INELIGIBLE, UNVERIFIED,
-};
-use records::refusals::{kw_out_of_range, refuse};
+use records::kinds::HolderKind;
+use records::ranges::kw_out_of_range;
+use records::refusal::Refusal;
 use records::setup::{
     holder_kind, is_sub_lap, kind_ineligible, path_base, path_sink, path_source, unknown_holder,
     unknown_path,
 };
-use slots::calendar::current_tier;
+use slots::calendar::{calendar, current_tier};
 use slots::cells::{add, read};
 use slots::layout::{NOMINATED_SLOT, PRIOR_REMAINING_SLOT};
 use slots::sums::sum_at_base;
@@ -30,33 +26,33 @@ use tariff::sizes::LONG_TERM_STEP;
 use tier_limits::limits::tier_limit;
 
 // Cause 10: the path's sink is not for the holder, or is a Sub-LAP in tier 1.
+#[tactic(auto, unfolding(slots::specs::Layout::ledger_in))]
 fn sink_ineligible(o: &[u64], f: &[u64], h: u64, p: u64) -> bool
     ensures { InFigures o.now f.now (λ O L. result ≡ (kind_ineligible O h (path_sink O p) || (eqb L.tiers.current_tier 1 && is_sub_lap O (path_sink O p)))) }
 {
     let sink = path_sink(o, p);
-    let sub_lap = (current_tier(f) == 1) & is_sub_lap(o, sink);
-    kind_ineligible(o, h, sink) | sub_lap
+    kind_ineligible(o, h, sink) || (current_tier(f) == 1 && is_sub_lap(o, sink))
 }
 
 // Causes 19 and 11: whether a holder has to verify its sources. An OBAALSE has to, in every tier but the Long Term step.
+#[tactic(auto, unfolding(ledger::specs::Causes::needs_verification, tariff::specs::Terms::is_long_term_step, slots::specs::Layout::ledger_in), using(records::proofs::KindLaws::names_obaalse))]
 fn needs_verification(o: &[u64], f: &[u64], h: u64) -> bool
     ensures { InFigures o.now f.now (λ O L. result ≡ needs_verification O L.tiers.current_tier h) }
 {
-    (current_tier(f) != LONG_TERM_STEP) & (holder_kind(o, h) == OBAALSE)
+    current_tier(f) != LONG_TERM_STEP && holder_kind(o, h) == Some(HolderKind::Obaalse)
 }
 
 // Cause 19: the path's source has no evidence for the tier's term.
+#[tactic(auto, unfolding(ledger::specs::Causes::lacks_evidence))]
 fn lacks_evidence(o: &[u64], f: &[u64], h: u64, p: u64) -> bool
     requires { PathInputs o.now f.now h p }
     ensures { InFigures o.now f.now (λ O L. result ≡ lacks_evidence O L L.tiers.current_tier h p) }
 {
-    if !needs_verification(o, f, h) {
-        return false;
-    }
-    !has_evidence(o, f, h, path_source(o, p))
+    needs_verification(o, f, h) && !has_evidence(o, f, h, path_source(o, p))
 }
 
 // Cause 11: with kw more, the holder uses more of the path's source than it has verified.
+#[tactic(auto, unfolding(ledger::specs::Causes::exceeds_verified))]
 fn exceeds_verified(o: &[u64], f: &[u64], h: u64, p: u64, kw: u64) -> bool
     requires { NominationInputs o.now f.now h p kw }
     ensures { InFigures o.now f.now (λ O L. result ≡ exceeds_verified O L L.tiers.current_tier h p kw) }
@@ -77,7 +73,7 @@ fn exceeds_prior(o: &[u64], f: &[u64], h: u64, p: u64, kw: u64) -> bool
 {
     let remaining = read(f, h, p, PRIOR_REMAINING_SLOT);
     let wanted = read(f, h, p, NOMINATED_SLOT) + kw;
-    (current_tier(f) == 1) & (remaining < wanted)
+    current_tier(f) == 1 && remaining < wanted
 }
 
 // Cause 13: with kw more, a holder's nominations at the path's base exceed the limit.
@@ -91,68 +87,69 @@ fn exceeds_limit(o: &[u64], f: &[u64], h: u64, p: u64, kw: u64) -> bool
     limit < wanted
 }
 
-// The first of causes 17, 18 and 13 that a nomination meets, 0 for none: those of the Long Term step come before the limit.
-fn refusal_by_limit(o: &[u64], f: &[u64], h: u64, p: u64, kw: u64) -> u64
+// Whether a nomination meets none of causes 17, 18 and 13, else the first that it meets: those of the Long Term step come before the limit.
+#[tactic(auto, unfolding(ledger::specs::Causes::nominate_causes, ledger::specs::Numbers::first_met))]
+fn check_limit(o: &[u64], f: &[u64], h: u64, p: u64, kw: u64) -> Result<(), Refusal>
     requires { NominationInputs o.now f.now h p kw }
-    ensures { InFigures o.now f.now (λ O L. result ≡ first_met (drop causes_before_step (nominate_causes O L h p kw))) }
+    ensures { InFigures o.now f.now (λ O L. refused_by result ≡ first_met (drop causes_before_step (nominate_causes O L h p kw))) }
 {
     if exceeds_tier_1_award(o, f, h, p, kw) {
-        return ABOVE_TIER_1_AWARD;
+        return Err(Refusal::AboveTier1Award);
     }
     if lacks_ten_year(o, f, h, p, kw) {
-        return NO_TEN_YEAR_EVIDENCE;
+        return Err(Refusal::NoTenYearEvidence);
     }
-    let limit = exceeds_limit(o, f, h, p, kw);
-    refuse(ABOVE_LIMIT, limit, 0)
+    if exceeds_limit(o, f, h, p, kw) {
+        return Err(Refusal::AboveLimit);
+    }
+    Ok(())
 }
 
-// The first cause that a nomination meets in the open tier, 0 for none: 10, 19, 11, 12 and then those above.
-fn refusal_in_tier(o: &[u64], f: &[u64], h: u64, p: u64, kw: u64) -> u64
+// Whether a nomination meets no cause in the open tier, else the first that it meets: 10, 19, 11, 12 and then those above.
+#[tactic(auto, unfolding(ledger::specs::Causes::nominate_causes, ledger::specs::Numbers::first_met))]
+fn check_in_tier(o: &[u64], f: &[u64], h: u64, p: u64, kw: u64) -> Result<(), Refusal>
     requires { NominationInputs o.now f.now h p kw }
-    ensures { InFigures o.now f.now (λ O L. result ≡ first_met (drop causes_before_tier (nominate_causes O L h p kw))) }
+    ensures { InFigures o.now f.now (λ O L. refused_by result ≡ first_met (drop causes_before_tier (nominate_causes O L h p kw))) }
 {
     if sink_ineligible(o, f, h, p) {
-        return SINK_INELIGIBLE;
+        return Err(Refusal::SinkIneligible);
     }
     if lacks_evidence(o, f, h, p) {
-        return UNVERIFIED;
+        return Err(Refusal::Unverified);
     }
     if exceeds_verified(o, f, h, p, kw) {
-        return ABOVE_VERIFIED;
+        return Err(Refusal::AboveVerified);
     }
     if exceeds_prior(o, f, h, p, kw) {
-        return ABOVE_PRIOR;
+        return Err(Refusal::AbovePrior);
     }
-    refusal_by_limit(o, f, h, p, kw)
+    check_limit(o, f, h, p, kw)
 }
 
-// The first cause that a nomination meets, 0 for none. Each is looked for only where none before it is met.
-fn nominate_refusal(o: &[u64], f: &[u64], h: u64, p: u64, kw: u64) -> u64
+// Whether a nomination meets no cause, else the first that it meets. Each is looked for only where none before it is met.
+#[tactic(auto, using(slots::proofs::CalendarLaws::open_as_ledger), unfolding(ledger::specs::Causes::refusal, ledger::specs::Causes::call_causes, ledger::specs::Causes::nominate_causes, ledger::specs::Numbers::first_met, ledger::specs::Ranges::unknown_holder, ledger::specs::Ranges::unknown_path, tariff::specs::Ranges::kw_out_of_range, tariff::specs::Ranges::within))]
+fn check_nominate(o: &[u64], f: &[u64], h: u64, p: u64, kw: u64) -> Result<(), Refusal>
     requires { ReachableFigures o.now f.now }
-    ensures { InFigures o.now f.now (λ O L. result ≡ refusal O L (nominate h p kw)) }
+    ensures { InFigures o.now f.now (λ O L. refused_by result ≡ refusal O L (nominate h p kw)) }
 {
-    let unknown = unknown_holder(o, h) | unknown_path(o, p);
-    if unknown {
-        return NOT_IN_BOOK;
+    if unknown_holder(o, h) || unknown_path(o, p) {
+        return Err(Refusal::NotInBook);
     }
     if kw_out_of_range(kw) {
-        return OUT_OF_RANGE;
+        return Err(Refusal::OutOfRange);
     }
-    if !tier_is_open(current_tier(f)) {
-        return NOT_AT_THIS_TIME;
+    if !calendar(f).tier_is_open() {
+        return Err(Refusal::NotAtThisTime);
     }
-    refusal_in_tier(o, f, h, p, kw)
+    check_in_tier(o, f, h, p, kw)
 }
 
 // Nominates kw for a holder on a path in the open tier.
-pub fn nominate(o: &[u64], f: &mut [u64], h: u64, p: u64, kw: u64) -> Answer
+pub fn nominate(o: &[u64], f: &mut [u64], h: u64, p: u64, kw: u64) -> Result<(), Refusal>
     requires { ReachableFigures o.now f.old }
     ensures { FiguresStep o.now f.old (nominate h p kw) result f.new }
 {
-    let number = nominate_refusal(o, f, h, p, kw);
-    if number != 0 {
-        return Answer::Refused(number);
-    }
+    check_nominate(o, f, h, p, kw)?;
     add(f, h, p, NOMINATED_SLOT, kw);
-    Answer::Done
+    Ok(())
 }

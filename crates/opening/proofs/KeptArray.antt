@@ -1,20 +1,15 @@
 -- The array that keeps an opening: its counts are stored, and its lists are copied in one after another. Assumes nothing.
-use Prim.Native.Nat.{ℕ, ◌+◌, ◌-◌, ◌≤◌, ◌<◌, min}
-use mathlib.Core.Bool.{true, false}
-use mathlib.Core.Logic.{◌⊎◌, inl, inr}
-use lib.Dec.{ltb}
-use borrow.Author.Tests.{ltb-true, ltb-false}
-use Rattle.tariff.proofs.Tests.{decided}
-use Rattle.std.proofs.lemmas.List.{length-replicate, get_or-replicate, get_or-append_right, get_or_past}
+use Prim.Native.Nat.{ℕ, ◌+◌, ◌≤◌}
 use mathlib.Core.Path.{◌≡◌, refl, sym, ap, ◌∙◌}
 use mathlib.Core.List.{List, [], ◌∷◌, ◌++◌, append_assoc}
 use native.Mathlib.Nat.{le_of_eq}
 use native.Mathlib.Omega.{arith}
-use lib.ListN.{length, get_or, take, drop, set, replicate, length-append, length-set, length-drop, get_or-append}
-use lib.Seq.{get_or-take, length-take-le, take_all, take_at, drop-drop}
-use borrow.Rule.Slice.PartMut.{mid_of, post_of, put_mid, same_len_mid}
+use lib.ListN.{length, take, drop, set, replicate, length-append, length-set, length-drop}
+use lib.Seq.{length-take-le, take_all, take_at, drop-drop}
+use borrow.Rule.Slice.PartMut.{mid_of, put_mid, same_len_mid}
+use Rattle.std.proofs.lemmas.Slice.{take-put_mid}
 use Rattle.tariff.specs.Sum.{tabulate}
-use Rattle.tariff.proofs.Lists.{length_tabulate, list_is}
+use Rattle.tariff.proofs.Lists.{length_tabulate}
 use Rattle.tariff.specs.declared.settings.Settings.{Settings}
 use Rattle.tariff.specs.Sizes.{setting_count}
 use Rattle.tariff.specs.Settings.{fraction_at, settings_of, present_settings, settings_numbers}
@@ -29,27 +24,6 @@ counts_first (a ∷ b ∷ []) holders sources sinks paths l = absurd (omega arit
 counts_first (a ∷ b ∷ c ∷ []) holders sources sinks paths l = absurd (omega arith)
 counts_first (a ∷ b ∷ c ∷ d ∷ rest) holders sources sinks paths l = refl
 
--- a list copied in front, as much as there is room for, and 0 behind it
-pub copied_in : (to from front back : List ℕ) (n room : ℕ) → n ≡ min (length to) (length from) → front ≡ take n from → room + n ≡ length to → back ≡ replicate room 0 → front ++ back ≡ tabulate (length to) (λ k. get_or from k 0)
-copied_in to from front back n room fits f e b = list_is (length to) (λ k. get_or from k 0) (front ++ back) (omega (arith, length-append front back, long, behind)) (λ k l. go k l (decided (ltb k n)))
-  where
-    long : length front ≡ n
-    long = ap length f ∙ length-take-le n from (omega arith)
-
-    behind : length back ≡ room
-    behind = ap length b ∙ length-replicate room 0
-
-    go : (k : ℕ) → k < length to → (ltb k n ≡ true) ⊎ (ltb k n ≡ false) → get_or (front ++ back) k 0 ≡ get_or from k 0
-    go k l (inl t) =
-        let below = ltb-true k n t in
-        get_or-append front back 0 k (omega (arith, long)) ∙ ap (λ xs. get_or xs k 0) f ∙ get_or-take n from k 0 below
-    go k l (inr t) =
-        let above = ltb-false k n t in
-        get_or-append_right front back n k 0 long above
-        ∙ ap (λ xs. get_or xs (k - n) 0) b
-        ∙ get_or-replicate room (k - n) 0 0 (omega arith)
-        ∙ sym (get_or_past from k 0 (omega arith))
-
 -- a list copied in after what stands there
 module _ (a k : ℕ) (xs from ys : List ℕ) (size : length xs ≡ opening_count) (fits : a + k ≤ opening_count) (copied : ys ≡ with_room (length (mid_of a k xs)) from) where
   room : length (mid_of a k xs) ≡ k
@@ -62,10 +36,7 @@ module _ (a k : ℕ) (xs from ys : List ℕ) (size : length xs ≡ opening_count
   copied-size = same_len_mid a k xs ys (ap length copied ∙ length_tabulate _ _) ∙ size
 
   copied_take : take (a + k) (put_mid a k xs ys) ≡ take a xs ++ with_room k from
-  copied_take =
-      ap (take (a + k)) (sym (append_assoc (take a xs) ys (post_of a k xs)))
-      ∙ take_at (take a xs ++ ys) (post_of a k xs) (a + k) (let many = length-append (take a xs) ys in let before = length-take-le a xs (omega arith) in let new = ap length copied-list ∙ length_tabulate k _ in omega arith)
-      ∙ ap (λ z. take a xs ++ z) copied-list
+  copied_take = take-put_mid a k xs ys (a + k) (let many = ap length copied-list ∙ length_tabulate k _ in omega arith) (omega arith) ∙ ap (λ z. take a xs ++ z) copied-list
 
 -- the settings are twelve numbers
 pub numbers_many : (s : Settings) → length (settings_numbers s) ≡ setting_count
@@ -73,11 +44,10 @@ unfolding settings_numbers
 numbers_many s = refl
 
 -- bases copied in after the settings
-pub bases_stored : (o bases ys : List ℕ) → length o ≡ opening_count → length bases ≡ 16 → ys ≡ with_room (length (mid_of bases_at 16 o)) bases → put_mid bases_at 16 o ys ≡ take bases_at o ++ bases
-bases_stored o bases ys size many copied =
-    sym (take_all opening_count (put_mid bases_at 16 o ys) (le_of_eq (copied-size bases_at 16 o bases ys size (omega arith) copied)))
-    ∙ copied_take bases_at 16 o bases ys size (omega arith) copied
-    ∙ ap (λ z. take bases_at o ++ z) (sym (list_is 16 (λ k. get_or bases k 0) bases many (λ k l. refl)))
+pub bases_stored : (o bases : List ℕ) → length o ≡ opening_count → length bases ≡ 16 → put_mid bases_at 16 o bases ≡ take bases_at o ++ bases
+bases_stored o bases size many =
+    let long = same_len_mid bases_at 16 o bases (many ∙ sym (length-take-le 16 (drop bases_at o) (omega (arith, length-drop bases_at o)))) ∙ size in
+    sym (take_all opening_count (put_mid bases_at 16 o bases) (le_of_eq long)) ∙ take-put_mid bases_at 16 o bases opening_count (omega arith) (omega arith)
 
 pub bases_many : (o : List ℕ) → length (path_bases (opening_in o)) ≡ 16
 unfolding path_bases
@@ -87,40 +57,37 @@ module _ (o : List ℕ) (size : length o ≡ opening_count) (holders sources sin
   abbrev counted : List ℕ
   counted = set (set (set (set o 0 holders) 1 sources) 2 sinks) 3 paths
 
-  pub counted_size : length counted ≡ opening_count
-  counted_size = simp length-set size
+  counted-size : length counted ≡ opening_count
+  counted-size = simp length-set size
 
   module _ (holder_kinds ys1 : List ℕ) (first : ys1 ≡ with_room (length (mid_of 4 8 counted)) holder_kinds) where
-    pub size_1 : length (put_mid 4 8 counted ys1) ≡ opening_count
-    size_1 = copied-size 4 8 counted holder_kinds ys1 counted_size (omega arith) first
+    size-1 : length (put_mid 4 8 counted ys1) ≡ opening_count
+    size-1 = copied-size 4 8 counted holder_kinds ys1 counted-size (omega arith) first
 
     module _ (sink_kinds ys2 : List ℕ) (second : ys2 ≡ with_room (length (mid_of 12 16 (put_mid 4 8 counted ys1))) sink_kinds) where
       abbrev to2 : List ℕ
       to2 = put_mid 12 16 (put_mid 4 8 counted ys1) ys2
 
-      pub size_2 : length to2 ≡ opening_count
-      size_2 = copied-size 12 16 (put_mid 4 8 counted ys1) sink_kinds ys2 size_1 (omega arith) second
+      size-2 : length to2 ≡ opening_count
+      size-2 = copied-size 12 16 (put_mid 4 8 counted ys1) sink_kinds ys2 size-1 (omega arith) second
 
       module _ (sink_parents ys3 : List ℕ) (third : ys3 ≡ with_room (length (mid_of 28 16 to2)) sink_parents) where
         abbrev to3 : List ℕ
         to3 = put_mid 28 16 to2 ys3
 
-        pub size_3 : length to3 ≡ opening_count
-        size_3 = copied-size 28 16 to2 sink_parents ys3 size_2 (omega arith) third
+        size-3 : length to3 ≡ opening_count
+        size-3 = copied-size 28 16 to2 sink_parents ys3 size-2 (omega arith) third
 
         module _ (path_sources ys4 : List ℕ) (fourth : ys4 ≡ with_room (length (mid_of 44 16 to3)) path_sources) where
           abbrev to4 : List ℕ
           to4 = put_mid 44 16 to3 ys4
 
-          pub size_4 : length to4 ≡ opening_count
-          size_4 = copied-size 44 16 to3 path_sources ys4 size_3 (omega arith) fourth
+          size-4 : length to4 ≡ opening_count
+          size-4 = copied-size 44 16 to3 path_sources ys4 size-3 (omega arith) fourth
 
           module _ (path_sinks ys5 : List ℕ) (fifth : ys5 ≡ with_room (length (mid_of 60 16 to4)) path_sinks) where
             abbrev to5 : List ℕ
             to5 = put_mid 60 16 to4 ys5
-
-            pub size_5 : length to5 ≡ opening_count
-            size_5 = copied-size 60 16 to4 path_sinks ys5 size_4 (omega arith) fifth
 
             abbrev front : List ℕ
             front = holders ∷ sources ∷ sinks ∷ paths ∷ []
@@ -128,11 +95,11 @@ module _ (o : List ℕ) (size : length o ≡ opening_count) (holders sources sin
             -- the lists stand after the counts
             copied_all : take settings_at to5 ≡ ((((front ++ with_room 8 holder_kinds) ++ with_room 16 sink_kinds) ++ with_room 16 sink_parents) ++ with_room 16 path_sources) ++ with_room 16 path_sinks
             copied_all =
-                copied_take 60 16 to4 path_sinks ys5 size_4 (omega arith) fifth
-                ∙ ap (λ z. z ++ with_room 16 path_sinks) (copied_take 44 16 to3 path_sources ys4 size_3 (omega arith) fourth)
-                ∙ ap (λ z. (z ++ with_room 16 path_sources) ++ with_room 16 path_sinks) (copied_take 28 16 to2 sink_parents ys3 size_2 (omega arith) third)
-                ∙ ap (λ z. ((z ++ with_room 16 sink_parents) ++ with_room 16 path_sources) ++ with_room 16 path_sinks) (copied_take 12 16 (put_mid 4 8 counted ys1) sink_kinds ys2 size_1 (omega arith) second)
-                ∙ ap (λ z. (((z ++ with_room 16 sink_kinds) ++ with_room 16 sink_parents) ++ with_room 16 path_sources) ++ with_room 16 path_sinks) (copied_take 4 8 counted holder_kinds ys1 counted_size (omega arith) first)
+                copied_take 60 16 to4 path_sinks ys5 size-4 (omega arith) fifth
+                ∙ ap (λ z. z ++ with_room 16 path_sinks) (copied_take 44 16 to3 path_sources ys4 size-3 (omega arith) fourth)
+                ∙ ap (λ z. (z ++ with_room 16 path_sources) ++ with_room 16 path_sinks) (copied_take 28 16 to2 sink_parents ys3 size-2 (omega arith) third)
+                ∙ ap (λ z. ((z ++ with_room 16 sink_parents) ++ with_room 16 path_sources) ++ with_room 16 path_sinks) (copied_take 12 16 (put_mid 4 8 counted ys1) sink_kinds ys2 size-1 (omega arith) second)
+                ∙ ap (λ z. (((z ++ with_room 16 sink_kinds) ++ with_room 16 sink_parents) ++ with_room 16 path_sources) ++ with_room 16 path_sinks) (copied_take 4 8 counted holder_kinds ys1 counted-size (omega arith) first)
                 ∙ ap (λ z. ((((z ++ with_room 8 holder_kinds) ++ with_room 16 sink_kinds) ++ with_room 16 sink_parents) ++ with_room 16 path_sources) ++ with_room 16 path_sinks) (counts_first o holders sources sinks paths (omega arith))
 
             pub opening_kept_lem : (settings : Settings) → take settings_at to5 ≡ opening_lists (opening_from holders sources sinks paths holder_kinds sink_kinds sink_parents path_sources path_sinks settings)
@@ -140,10 +107,8 @@ module _ (o : List ℕ) (size : length o ≡ opening_count) (holders sources sin
             opening_kept_lem settings = copied_all ∙ simp append_assoc
 
 -- settings copied in after the lists
-pub settings_stored : (o numbers ys : List ℕ) → length o ≡ opening_count → length numbers ≡ setting_count → ys ≡ with_room (length (mid_of settings_at setting_count o)) numbers → put_mid settings_at setting_count o ys ≡ take settings_at o ++ (numbers ++ drop bases_at o)
-settings_stored o numbers ys size many copied =
-    ap (λ zs. take settings_at o ++ (ys ++ zs)) (drop-drop setting_count settings_at o)
-    ∙ ap (λ zs. take settings_at o ++ (zs ++ drop bases_at o)) (copied-list settings_at setting_count o numbers ys size (omega arith) copied ∙ sym (list_is setting_count (λ k. get_or numbers k 0) numbers many (λ k l. refl)))
+pub settings_stored : (o numbers : List ℕ) → put_mid settings_at setting_count o numbers ≡ take settings_at o ++ (numbers ++ drop bases_at o)
+settings_stored o numbers = ap (λ zs. take settings_at o ++ (numbers ++ zs)) (drop-drop setting_count settings_at o)
 
 -- then the array has the opening's numbers before the bases
 pub numbers_kept : (o : Opening) (before : List ℕ) → length before ≡ opening_count → take settings_at before ≡ opening_lists o → take bases_at (take settings_at before ++ (settings_numbers o.settings ++ drop bases_at before)) ≡ opening_numbers o

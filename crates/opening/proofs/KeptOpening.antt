@@ -9,12 +9,13 @@ use lib.ListN.{length, get_or, take, drop}
 use lib.Seq.{length-take-le}
 use borrow.Author.Tests.{eq-eqb}
 use borrow.Rule.Slice.PartMut.{mid_len}
+use Rattle.std.specs.Prelude.{Ok, Err}
 use Rattle.tariff.specs.Sum.{all_below}
 use Rattle.tariff.specs.Settings.{settings_legal}
 use Rattle.tariff.proofs.Tests.{decided, and_join, and_right_false}
-use Rattle.ledger.specs.Opening.{Opening, counts_fit, lists_fit, holder_legal, sink_legal, path_legal, path_new, legal, opening_refusal}
+use Rattle.ledger.specs.Opening.{Opening, counts_fit, lists_fit, holder_legal, sink_legal, path_legal, path_new, legal}
 use Rattle.ledger.proofs.LegalFacts.{legal_facts}
-use Rattle.records.specs.declared.answers.Answer.TheVariants.{Done, Refused}
+use Rattle.records.specs.declared.refusal.Refusal.TheVariants.{BreaksRules}
 use Rattle.records.specs.Opening.{opening_count, bases_at, opening_in, opening_lists, opening_numbers, path_bases, opening_array, empty_opening}
 use Rattle.records.proofs.OpeningLaws.{counts_small, opening_before, opening_by_lists}
 use Rattle.opening.specs.Opened.{opening_answer, resulting_opening}
@@ -82,14 +83,14 @@ module _ (o : Opening) (kept : List ℕ) (keeps : take bases_at kept ≡ opening
         legal-by-lists-kept : legal o ≡ true → opening_in kept ≡ o
         legal-by-lists-kept ok = let fits = legal_facts o ok in opening_by_lists o kept keeps fits.counts_fit fits.lists_fit
 
-    pub opened_done : (left : List ℕ) → (lists && lines) ≡ true → left ≡ take bases_at kept ++ path_bases (opening_in kept) → (Done ≡ opening_answer o) × (left ≡ opening_array (resulting_opening o))
+    pub opened_done : (left : List ℕ) → (lists && lines) ≡ true → left ≡ take bases_at kept ++ path_bases (opening_in kept) → (Ok tt ≡ opening_answer o) × (left ≡ opening_array (resulting_opening o))
     unfolding opening_answer resulting_opening
     opened_done left e bases =
         let t = tested e in
-        (sym (ap (λ t. cond t Done (Refused (opening_refusal o))) t), with-bases left t bases ∙ sym (ap (λ t. opening_array (cond t o empty_opening)) t))
+        (sym (ap (λ t. cond t (Ok tt) (Err BreaksRules)) t), with-bases left t bases ∙ sym (ap (λ t. opening_array (cond t o empty_opening)) t))
 
-    pub opened_refused : (left : List ℕ) → (lists && lines) ≡ false → left ≡ opening_array empty_opening → (Refused 16 ≡ opening_answer o) × (left ≡ opening_array (resulting_opening o))
-    unfolding opening_answer resulting_opening opening_refusal
+    pub opened_refused : (left : List ℕ) → (lists && lines) ≡ false → left ≡ opening_array empty_opening → (Err BreaksRules ≡ opening_answer o) × (left ≡ opening_array (resulting_opening o))
+    unfolding opening_answer resulting_opening
     opened_refused left e cleared =
         let t = tested e in
-        (sym (ap (λ t. cond t Done (Refused (cond t 0 16))) t), cleared ∙ sym (ap (λ t. opening_array (cond t o empty_opening)) t))
+        (sym (ap (λ t. cond t (Ok tt) (Err BreaksRules)) t), cleared ∙ sym (ap (λ t. opening_array (cond t o empty_opening)) t))

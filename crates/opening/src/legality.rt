@@ -4,7 +4,7 @@ ghost use Rattle.tariff.specs.Sum.{all_below};
 ghost use Rattle.ledger.specs.Opening.{counts_fit, holder_legal, parent_legal, sink_legal, path_legal, paths_alike, path_new, legal};
 ghost use Rattle.records.specs.Opening.{opening_count, opening_of};
 
-use records::kinds::{DEFAULT_LAP, LSE, OBAALSE, SCHEDULING_POINT, SUB_LAP};
+use records::kinds::SinkKind;
 use records::setup::{
     holder_kind, holders, path_sink, path_source, paths, settings, sink_base, sink_kind, sinks,
     sources,
@@ -23,36 +23,32 @@ fn counts_fit(o: &[u64]) -> bool
 }
 
 // A holder is of kind 1 or 2.
-#[tactic(auto, unfolding(ledger::specs::Opening::holder_legal))]
+#[tactic(auto, unfolding(ledger::specs::Opening::holder_legal, records::specs::Kinds::holder_kind_of))]
 fn holder_legal(o: &[u64], h: u64) -> bool
     ensures { result ≡ holder_legal (opening_of o.entry) h }
 {
-    let kind = holder_kind(o, h);
-    kind == LSE || kind == OBAALSE
+    holder_kind(o, h).is_some()
 }
 
 // A Sub-LAP's parent has a lower number and is a Default LAP.
-#[tactic(auto, unfolding(ledger::specs::Opening::parent_legal))]
+#[tactic(auto, unfolding(ledger::specs::Opening::parent_legal), using(records::proofs::KindLaws::names_default_lap))]
 fn parent_legal(o: &[u64], s: u64) -> bool
     ensures { result ≡ parent_legal (opening_of o.entry) s }
 {
     let parent = sink_base(o, s);
-    parent < s && sink_kind(o, parent) == DEFAULT_LAP
+    parent < s && sink_kind(o, parent) == Some(SinkKind::DefaultLap)
 }
 
 // A sink is of kind 1 to 4; a Sub-LAP has a parent, any other sink names itself.
-#[tactic(auto, unfolding(ledger::specs::Opening::sink_legal))]
+#[tactic(auto, unfolding(ledger::specs::Opening::sink_legal, records::specs::Kinds::sink_kind_of))]
 fn sink_legal(o: &[u64], s: u64) -> bool
     ensures { result ≡ sink_legal (opening_of o.entry) s }
 {
-    let kind = sink_kind(o, s);
-    if !(DEFAULT_LAP..=SCHEDULING_POINT).contains(&kind) {
-        return false;
+    match sink_kind(o, s) {
+        None => false,
+        Some(SinkKind::SubLap) => parent_legal(o, s),
+        Some(_) => sink_base(o, s) == s,
     }
-    if kind == SUB_LAP {
-        return parent_legal(o, s);
-    }
-    sink_base(o, s) == s
 }
 
 // A path's source and sink are in the book.

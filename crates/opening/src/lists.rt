@@ -1,9 +1,8 @@
 // The counts, lists and settings that a book is opened with, kept in an array (01, The book; 02, 3/14).
-ghost use Rattle.std.specs.Prelude.{◌≡◌, ◌++◌, length, get_or, take, drop};
+ghost use Rattle.std.specs.Prelude.{◌≡◌, ◌++◌, ℕ, length, map, take, drop};
 ghost use Rattle.tariff.specs.Settings.{settings_numbers};
-ghost use Rattle.tariff.specs.Sum.{tabulate};
 ghost use Rattle.ledger.specs.Opening.{lists_fit};
-ghost use Rattle.records.specs.Opening.{opening_count, settings_at, bases_at, opening_in, opening_of, opening_lists, path_bases, opening_array, empty_opening};
+ghost use Rattle.records.specs.Opening.{opening_count, settings_at, bases_at, opening_in, opening_of, with_room, opening_lists, path_bases, opening_array, empty_opening};
 ghost use Rattle.opening.specs.Opened.{opening_asked};
 
 use crate::book_setup::BookSetup;
@@ -14,14 +13,17 @@ use records::setup::{
 use tariff::settings::Settings;
 use tariff::sizes::{MAX_PLACES, SETTING_COUNT};
 
-// A list copied into an array: 0 past the list's end, and what finds no room is left out.
-fn copy_into(to: &mut [u64], from: &[u64])
-    ensures { to.new ≡ tabulate (length to.old) (λ k. get_or from.now k 0) }
+// A number of each line copied into an array: 0 past the last line, and what finds no room is left out.
+fn copy_into<T: Copy, F: Fn(T) -> u64>(to: &mut [u64], from: &[T], number: F)
+    requires { F.IsAlwaysCallable number }
+    ensures { (on_line : T → ℕ) → ((line : T) (r : ℕ) → F.post number line r → r ≡ on_line line) → to.new ≡ with_room (length to.old) (map on_line from.now) }
 {
-    let n = to.len().min(from.len());
-    let (front, rest) = to.split_at_mut(n);
-    front.copy_from_slice(&from[..n]);
-    rest.fill(0);
+    for (k, place) in to.iter_mut().enumerate() {
+        *place = match from.get(k) {
+            Some(line) => number(*line),
+            None => 0,
+        };
+    }
 }
 
 // The counts and lists that a book is opened with, kept in an array.
@@ -33,11 +35,31 @@ pub fn keep_opening(o: &mut [u64], setup: BookSetup)
     o[1] = setup.sources;
     o[2] = setup.sinks;
     o[3] = setup.paths;
-    copy_into(&mut o[HOLDER_KINDS_AT..SINK_KINDS_AT], setup.holder_kinds);
-    copy_into(&mut o[SINK_KINDS_AT..SINK_PARENTS_AT], setup.sink_kinds);
-    copy_into(&mut o[SINK_PARENTS_AT..PATH_SOURCES_AT], setup.sink_parents);
-    copy_into(&mut o[PATH_SOURCES_AT..PATH_SINKS_AT], setup.path_sources);
-    copy_into(&mut o[PATH_SINKS_AT..SETTINGS_AT], setup.path_sinks);
+    copy_into(
+        &mut o[HOLDER_KINDS_AT..SINK_KINDS_AT],
+        setup.holder_kinds,
+        |kind| kind,
+    );
+    copy_into(
+        &mut o[SINK_KINDS_AT..SINK_PARENTS_AT],
+        setup.sink_lines,
+        |line| line.kind,
+    );
+    copy_into(
+        &mut o[SINK_PARENTS_AT..PATH_SOURCES_AT],
+        setup.sink_lines,
+        |line| line.parent,
+    );
+    copy_into(
+        &mut o[PATH_SOURCES_AT..PATH_SINKS_AT],
+        setup.path_lines,
+        |line| line.source,
+    );
+    copy_into(
+        &mut o[PATH_SINKS_AT..SETTINGS_AT],
+        setup.path_lines,
+        |line| line.sink,
+    );
 }
 
 // The settings kept after the lists.
@@ -46,7 +68,7 @@ pub fn keep_settings(o: &mut [u64], settings: Settings)
     ensures { o.new ≡ take settings_at o.old ++ (settings_numbers settings ++ drop bases_at o.old) }
 {
     let numbers: [u64; SETTING_COUNT] = settings.into();
-    copy_into(&mut o[SETTINGS_AT..BASES_AT], &numbers);
+    o[SETTINGS_AT..BASES_AT].copy_from_slice(&numbers);
 }
 
 // An opening with nothing in it, by the present figures.
@@ -71,17 +93,15 @@ pub fn keep_bases(o: &mut [u64])
     ensures { o.new ≡ take bases_at o.old ++ path_bases (opening_in o.old) }
 {
     let bases = path_bases(o);
-    copy_into(&mut o[BASES_AT..OPENING_COUNT], &bases);
+    o[BASES_AT..OPENING_COUNT].copy_from_slice(&bases);
 }
 
-// Each list has as many entries as are counted.
+// There are as many lines of each kind as are counted.
 #[tactic(auto, unfolding(ledger::specs::Opening::lists_fit, records::specs::Opening::opening_from))]
 pub fn lists_fit(setup: BookSetup) -> bool
     ensures { result ≡ lists_fit (opening_asked setup.entry) }
 {
     setup.holder_kinds.len() as u64 == setup.holders
-        && setup.sink_kinds.len() as u64 == setup.sinks
-        && setup.sink_parents.len() as u64 == setup.sinks
-        && setup.path_sources.len() as u64 == setup.paths
-        && setup.path_sinks.len() as u64 == setup.paths
+        && setup.sink_lines.len() as u64 == setup.sinks
+        && setup.path_lines.len() as u64 == setup.paths
 }

@@ -6,11 +6,10 @@ ghost use Rattle.opening.specs.Opened.{opening_asked, opening_answer, resulting_
 use crate::book_setup::BookSetup;
 use crate::legality::is_legal;
 use crate::lists::{keep_bases, keep_nothing, keep_opening, keep_settings, lists_fit};
-use records::answers::Answer;
-use records::numbers::BREAKS_RULES;
+use records::refusal::Refusal;
 
 // Opens a book, for any counts, slices and settings. A refused one leaves an opening with nothing in it, so that what is left is always a book.
-pub fn open(o: &mut [u64], setup: BookSetup) -> Answer
+pub fn open(o: &mut [u64], setup: BookSetup) -> Result<(), Refusal>
     requires { length o.old ≡ opening_count }
     ensures answered { result ≡ opening_answer (opening_asked setup.entry) }
     ensures kept { o.new ≡ opening_array (resulting_opening (opening_asked setup.entry)) }
@@ -20,8 +19,8 @@ pub fn open(o: &mut [u64], setup: BookSetup) -> Answer
     let lists = lists_fit(setup);
     if lists && is_legal(o) {
         keep_bases(o);
-        return Answer::Done;
+        return Ok(());
     }
     keep_nothing(o);
-    Answer::Refused(BREAKS_RULES)
+    Err(Refusal::BreaksRules)
 }

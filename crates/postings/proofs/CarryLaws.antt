@@ -6,6 +6,7 @@ use mathlib.Core.List.{List, []}
 use native.Mathlib.Nat.{le_trans}
 use native.Mathlib.Omega.{arith}
 use lib.ListN.{length, take, drop}
+use Rattle.std.specs.Prelude.{Ok}
 use Rattle.source_evidence.specs.declared.evidence.Entry.{Entry}
 use Rattle.tariff.specs.Sizes.{last_month}
 use Rattle.ledger.specs.Opening.{Opening}
@@ -14,7 +15,6 @@ use Rattle.ledger.specs.Call.{carry}
 use Rattle.ledger.specs.Causes.{refusal}
 use Rattle.ledger.specs.Effects.{after_carry, effect}
 use Rattle.ledger.proofs.PostingFacts.{CarryFacts, carry_facts}
-use Rattle.records.specs.declared.answers.Answer.TheVariants.{Done}
 use Rattle.records.specs.Opening.{opening_in}
 use Rattle.slots.specs.Cells.{HasCell, stored_at}
 use Rattle.slots.specs.Groups.{slots_of}
@@ -28,7 +28,7 @@ use Rattle.slots.proofs.Reachable.{counts, figures_shown, posted_shown, evidence
 use Rattle.slots.proofs.Figures.{figure_fits, room_for_more}
 use Rattle.slots.proofs.StepLaws.{accepted_test, steps_accepted}
 
-module _ (o f : List ℕ) (m : List Bool) (x : List Entry) (h p kw number : ℕ) (r : Reachable o f m x) (found : number ≡ refusal (opening_in o) (ledger_in f m x) (carry h p kw)) (zero : number ≡ 0) where
+module _ (o f : List ℕ) (m : List Bool) (x : List Entry) (h p kw : ℕ) (r : Reachable o f m x) (unmet : 0 ≡ refusal (opening_in o) (ledger_in f m x) (carry h p kw)) where
   abbrev O : Opening
   O = opening_in o
 
@@ -36,7 +36,7 @@ module _ (o f : List ℕ) (m : List Bool) (x : List Entry) (h p kw number : ℕ)
   L = ledger_in f m x
 
   facts : CarryFacts O L h p kw
-  facts = carry_facts O L h p kw (accepted_test O L (carry h p kw) number found zero)
+  facts = carry_facts O L h p kw (accepted_test O L (carry h p kw) unmet)
 
   holder : h < 8
   holder = le_trans facts.holder (counts o f m x r).0
@@ -75,5 +75,5 @@ module _ (o f : List ℕ) (m : List Bool) (x : List Entry) (h p kw number : ℕ)
   unfolding evidence_of evidence_groups effect with_rights
   filed = evidence_known o f m x r
 
-  pub carry_steps : (f' : List ℕ) (m' : List Bool) → f' ≡ added_in_term f h p carried_slot 0 kw → m' ≡ stored_at posted_slots m h p carry_posted_slot true → Steps O L (carry h p kw) Done f' m' x
-  carry_steps f' m' of_figures of_posted = steps_accepted O L (carry h p kw) number found f' m' x zero (carried f' of_figures) (noted m' of_posted) filed
+  pub carry_steps : (f' : List ℕ) (m' : List Bool) → f' ≡ added_in_term f h p carried_slot 0 kw → m' ≡ stored_at posted_slots m h p carry_posted_slot true → Steps O L (carry h p kw) (Ok tt) f' m' x
+  carry_steps f' m' of_figures of_posted = steps_accepted O L (carry h p kw) unmet f' m' x (carried f' of_figures) (noted m' of_posted) filed

@@ -1,3 +1,2 @@
 pub mod CarryLaws
-pub mod PostedSlotLaws
 pub mod PriorLaws

@@ -6,6 +6,7 @@ use mathlib.Core.List.{List, []}
 use native.Mathlib.Nat.{le_trans}
 use native.Mathlib.Omega.{arith}
 use lib.ListN.{length, take, drop}
+use Rattle.std.specs.Prelude.{Ok}
 use Rattle.source_evidence.specs.declared.evidence.Entry.{Entry}
 use Rattle.ledger.specs.Opening.{Opening}
 use Rattle.ledger.specs.Ledger.{Ledger, with_priors}
@@ -13,7 +14,6 @@ use Rattle.ledger.specs.Call.{Call, prior}
 use Rattle.ledger.specs.Causes.{refusal}
 use Rattle.ledger.specs.Effects.{plus_at2, after_prior, effect}
 use Rattle.ledger.proofs.PostingFacts.{PriorFacts, prior_facts}
-use Rattle.records.specs.declared.answers.Answer.TheVariants.{Done}
 use Rattle.records.specs.Opening.{opening_in}
 use Rattle.slots.specs.Cells.{HasCell, stored_at, added_at}
 use Rattle.slots.specs.Groups.{slots_of}
@@ -27,7 +27,7 @@ use Rattle.slots.proofs.Reachable.{counts, figures_shown, posted_shown, evidence
 use Rattle.slots.proofs.Figures.{figure_fits, room_for_more}
 use Rattle.slots.proofs.StepLaws.{accepted_test, steps_accepted}
 
-module _ (o f : List ℕ) (m : List Bool) (x : List Entry) (h p a l number : ℕ) (r : Reachable o f m x) (found : number ≡ refusal (opening_in o) (ledger_in f m x) (prior h p a l)) (zero : number ≡ 0) where
+module _ (o f : List ℕ) (m : List Bool) (x : List Entry) (h p a l : ℕ) (r : Reachable o f m x) (unmet : 0 ≡ refusal (opening_in o) (ledger_in f m x) (prior h p a l)) where
   abbrev O : Opening
   O = opening_in o
 
@@ -38,7 +38,7 @@ module _ (o f : List ℕ) (m : List Bool) (x : List Entry) (h p a l number : ℕ
   call = prior h p a l
 
   facts : PriorFacts O L h p a l
-  facts = prior_facts O L h p a l (accepted_test O L call number found zero)
+  facts = prior_facts O L h p a l (accepted_test O L call unmet)
 
   holder : h < 8
   holder = le_trans facts.holder (counts o f m x r).0
@@ -87,5 +87,5 @@ module _ (o f : List ℕ) (m : List Bool) (x : List Entry) (h p a l number : ℕ
   unfolding evidence_of evidence_groups effect with_priors
   filed = evidence_known o f m x r
 
-  pub prior_steps : (f₁ f₂ : List ℕ) (m' : List Bool) → f₁ ≡ added_at figure_slots f h p prior_allocated_slot a → f₂ ≡ added_at figure_slots f₁ h p prior_remaining_slot (a - l) → m' ≡ stored_at posted_slots m h p prior_posted_slot true → Steps O L call Done f₂ m' x
-  prior_steps f₁ f₂ m' first second of_posted = steps_accepted O L call number found f₂ m' x zero (allocated f₁ f₂ first second) (noted m' of_posted) filed
+  pub prior_steps : (f₁ f₂ : List ℕ) (m' : List Bool) → f₁ ≡ added_at figure_slots f h p prior_allocated_slot a → f₂ ≡ added_at figure_slots f₁ h p prior_remaining_slot (a - l) → m' ≡ stored_at posted_slots m h p prior_posted_slot true → Steps O L call (Ok tt) f₂ m' x
+  prior_steps f₁ f₂ m' first second of_posted = steps_accepted O L call unmet f₂ m' x (allocated f₁ f₂ first second) (noted m' of_posted) filed

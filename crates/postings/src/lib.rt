@@ -2,5 +2,4 @@
 #![tactic(auto)]
 
 pub mod carry;
-pub mod posted_slot;
 pub mod prior;

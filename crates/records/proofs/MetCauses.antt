@@ -1,7 +1,7 @@
 -- Causes found one after the other: each that is met returns its number at once. Assumes nothing.
 use Prim.Native.Nat.{ℕ}
-use mathlib.Core.Path.{◌≡◌, sym, ap, ap₂, ◌∙◌}
-use mathlib.Core.Bool.{Bool, true, false, cond, ◌||◌}
+use mathlib.Core.Path.{◌≡◌, sym, ap, ◌∙◌}
+use mathlib.Core.Bool.{Bool, true, false, cond}
 use mathlib.Core.List.{List, ◌∷◌}
 use Rattle.ledger.specs.Numbers.{Cause, cause, first_met}
 
@@ -13,7 +13,3 @@ met_first number test rows e = sym (ap (λ t. cond t number (first_met rows)) e)
 pub unmet_first : (number : ℕ) (test : Bool) (rows : List Cause) {r : ℕ} → test ≡ false → r ≡ first_met rows → r ≡ first_met (cause number test ∷ rows)
 unfolding first_met
 unmet_first number test rows {r} e later = later ∙ sym (ap (λ t. cond t number (first_met rows)) e)
-
--- cause 2 names a holder and a path, and neither is missing
-pub neither : {a b x y : Bool} → a ≡ x → a ≡ false → b ≡ y → b ≡ false → (x || y) ≡ false
-neither e f g h = ap₂ (λ x y. x || y) (sym e ∙ f) (sym g ∙ h)

@@ -1,18 +1,34 @@
 -- The ledger's answers as code gives them.
-use Rattle.std.specs.Prelude.{[], ◌∷◌}
+use Rattle.std.specs.Prelude.{ℕ, [], ◌∷◌, Option, None, Some, Result, Ok, Err}
 use Rattle.ledger.specs.Season as season
-use Rattle.records.specs.declared.answers.Answer.{Answer}
-use Rattle.records.specs.declared.answers.Answer.TheVariants.{Done, Value, Refused}
+use Rattle.records.specs.declared.refusal.Refusal.{Refusal}
+use Rattle.records.specs.Refusals.{number_of, refusal_of}
 
--- 01's number and values for each case of an answer
+-- what a call answers, and what a query answers with its figure
+unfoldable pub called : season.Answer → Result (Unit {0}) Refusal
+called (season.values vs) = Ok tt
+called (season.refused number) = Err (refusal_of number)
+
+unfoldable pub queried : season.Answer → Result ℕ Refusal
+queried (season.values []) = Ok 0
+queried (season.values (v ∷ vs)) = Ok v
+queried (season.refused number) = Err (refusal_of number)
+
+-- either of them
+abbrev pub Answer : Type 0
+Answer = Result (Option ℕ) Refusal
+
+-- 01's number and values for each answer
 unfoldable pub answer_in : Answer → season.Answer
-answer_in Done = season.done
-answer_in (Value v) = season.value v
-answer_in (Refused number) = season.refused number
+answer_in (Ok None) = season.done
+answer_in (Ok (Some v)) = season.value v
+answer_in (Err refusal) = season.refused (number_of refusal)
 
--- and back; the enum has no case yet for two or more values, which no call or query answers: they are given as Done
-unfoldable pub answer_of : season.Answer → Answer
-answer_of (season.values []) = Done
-answer_of (season.values (v ∷ [])) = Value v
-answer_of (season.values (v ∷ w ∷ vs)) = Done
-answer_of (season.refused number) = Refused number
+-- a call's answer, and a query's, as one of them
+unfoldable pub of_call : Result (Unit {0}) Refusal → Answer
+of_call (Ok done) = Ok None
+of_call (Err refusal) = Err refusal
+
+unfoldable pub of_query : Result ℕ Refusal → Answer
+of_query (Ok v) = Ok (Some v)
+of_query (Err refusal) = Err refusal

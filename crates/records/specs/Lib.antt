@@ -1,3 +1,6 @@
--- The opening that stands in an array, and the ledger's answers as code gives them.
+-- The opening that stands in an array, when calls can run, and the ledger's refusals and answers as code gives them.
 pub mod Opening
+pub mod Calendar
+pub mod Kinds
+pub mod Refusals
 pub mod Answers

@@ -1,64 +1,90 @@
 // When a call can run, by the tier last closed, the open one, and whether the Long Term step was held (01, Tiers; 02, 1/14; cause 4).
-ghost use Rattle.std.specs.Prelude.{◌≡◌, cond, not, ◌&&◌, ◌||◌, leb, ltb, eqb, suc};
-ghost use Rattle.tariff.specs.Sizes.{last_season_tier};
-ghost use Rattle.tariff.specs.Terms.{first_tier_of, is_long_term_step};
+ghost use Rattle.std.specs.Prelude.{◌≡◌, cond, eqb, suc};
+ghost use Rattle.tariff.specs.Terms.{is_long_term_step};
 
 use tariff::sizes::{LAST_SEASON_TIER, LONG_TERM_STEP};
 
-// A tier is open.
-pub fn tier_is_open(current_tier: u64) -> bool
-    ensures { result ≡ not (eqb current_tier 0) }
-{
-    current_tier != 0
+// How far the tiers have come.
+#[derive(Clone, Copy)]
+pub struct Calendar {
+    // The tier last closed, 0 for none. The Long Term step does not count.
+    pub last_closed: u64,
+    // The open tier, 0 for none.
+    pub current_tier: u64,
+    // Whether the Long Term step was held, or is open.
+    pub step_held: bool,
 }
 
-// No tier is open, and this one has never been.
-pub fn before_tier(tier: u64, last_closed: u64, current_tier: u64) -> bool
-    ensures { result ≡ (not (not (eqb current_tier 0)) && ltb last_closed tier) }
-{
-    !tier_is_open(current_tier) && last_closed < tier
-}
+impl Calendar {
+    ghost use Rattle.records.specs.Calendar.{tier_is_open, before_tier, load_in_time, migration_in_time, step_in_time, is_next_tier};
 
-// The postings for a term have not ended: no tier is open, and tier 1, or for month k tier 2k + 2, has never been.
-// Half of the tier last closed is compared with the month, as twice a caller's number may not fit.
-#[tactic(auto, unfolding(tariff::specs::Terms::first_tier_of))]
-pub fn load_in_time(term: u64, last_closed: u64, current_tier: u64) -> bool
-    ensures { result ≡ (not (not (eqb current_tier 0)) && ltb last_closed (first_tier_of term)) }
-{
-    if term == 0 {
-        return before_tier(1, last_closed, current_tier);
+    // A tier is open.
+    #[tactic(auto, unfolding(crate::specs::Calendar::tier_is_open))]
+    pub fn tier_is_open(self) -> bool
+        ensures { result ≡ tier_is_open self }
+    {
+        self.current_tier != 0
     }
-    !tier_is_open(current_tier) && last_closed / 2 <= term
-}
 
-// A migration comes at its time: as a posting for its term, and for a month after tier 3.
-pub fn migration_in_time(term: u64, last_closed: u64, current_tier: u64) -> bool
-    ensures { result ≡ ((not (not (eqb current_tier 0)) && ltb last_closed (first_tier_of term)) && (eqb term 0 || leb last_season_tier last_closed)) }
-{
-    load_in_time(term, last_closed, current_tier) && (term == 0 || LAST_SEASON_TIER <= last_closed)
-}
-
-// A tier is the one after the last closed.
-pub fn follows(tier: u64, last_closed: u64) -> bool
-    ensures { result ≡ eqb tier (suc last_closed) }
-{
-    last_closed < tier && tier - last_closed == 1
-}
-
-// A tier comes in its order: the Long Term step between tiers 1 and 2, and once; any other tier after the last closed.
-#[tactic(auto, unfolding(tariff::specs::Terms::is_long_term_step))]
-fn is_in_order(tier: u64, last_closed: u64, step_held: bool) -> bool
-    ensures { result ≡ cond (is_long_term_step tier) (eqb last_closed 1 && not step_held) (eqb tier (suc last_closed)) }
-{
-    if tier == LONG_TERM_STEP {
-        return last_closed == 1 && !step_held;
+    // No tier is open, and this one has never been.
+    #[tactic(auto, unfolding(crate::specs::Calendar::before_tier))]
+    pub fn before_tier(self, tier: u64) -> bool
+        ensures { result ≡ before_tier tier self }
+    {
+        !self.tier_is_open() && self.last_closed < tier
     }
-    follows(tier, last_closed)
-}
 
-// No tier is open, and this one comes in its order.
-pub fn is_next_tier(tier: u64, last_closed: u64, current_tier: u64, step_held: bool) -> bool
-    ensures { result ≡ (not (not (eqb current_tier 0)) && cond (is_long_term_step tier) (eqb last_closed 1 && not step_held) (eqb tier (suc last_closed))) }
-{
-    !tier_is_open(current_tier) && is_in_order(tier, last_closed, step_held)
+    // The postings for a term have not ended: no tier is open, and tier 1, or for month k tier 2k + 2, has never been.
+    // Half of the tier last closed is compared with the month, as twice a caller's number may not fit.
+    #[tactic(auto, unfolding(crate::specs::Calendar::load_in_time, crate::specs::Calendar::before_tier, tariff::specs::Terms::first_tier_of))]
+    pub fn load_in_time(self, term: u64) -> bool
+        ensures { result ≡ load_in_time term self }
+    {
+        if term == 0 {
+            return self.before_tier(1);
+        }
+        !self.tier_is_open() && self.last_closed / 2 <= term
+    }
+
+    // A migration comes at its time: as a posting for its term, and for a month after tier 3.
+    #[tactic(auto, unfolding(crate::specs::Calendar::migration_in_time, crate::specs::Calendar::load_in_time))]
+    pub fn migration_in_time(self, term: u64) -> bool
+        ensures { result ≡ migration_in_time term self }
+    {
+        self.load_in_time(term) && (term == 0 || LAST_SEASON_TIER <= self.last_closed)
+    }
+
+    // The Long Term step comes at its time: between tiers 1 and 2, and once.
+    #[tactic(auto, unfolding(crate::specs::Calendar::step_in_time))]
+    fn step_in_time(self) -> bool
+        ensures { result ≡ step_in_time self }
+    {
+        self.last_closed == 1 && !self.step_held
+    }
+
+    // A tier is the one after the last closed.
+    fn follows_last_closed(self, tier: u64) -> bool
+        ensures { result ≡ eqb tier (suc self.last_closed) }
+    {
+        self.last_closed < tier && tier - self.last_closed == 1
+    }
+
+    // A tier comes in its order: the Long Term step at its time, any other after the last closed.
+    #[tactic(auto, unfolding(tariff::specs::Terms::is_long_term_step))]
+    fn is_in_order(self, tier: u64) -> bool
+        ensures { result ≡ cond (is_long_term_step tier) (step_in_time self) (eqb tier (suc self.last_closed)) }
+    {
+        if tier == LONG_TERM_STEP {
+            return self.step_in_time();
+        }
+        self.follows_last_closed(tier)
+    }
+
+    // No tier is open, and this one comes in its order.
+    #[tactic(auto, unfolding(crate::specs::Calendar::is_next_tier))]
+    pub fn is_next_tier(self, tier: u64) -> bool
+        ensures { result ≡ is_next_tier tier self }
+    {
+        !self.tier_is_open() && self.is_in_order(tier)
+    }
 }

@@ -1,11 +1,11 @@
-// What every call reads beside a book's figures: the opening kept in an array, the calendar's tests, the causes and their numbers, the answers.
+// What every call reads beside a book's figures: the opening kept in an array, the calendar's tests, the refusals and their numbers, the answers.
 #![tactic(auto)]
 
 pub mod answers;
 pub mod calendar;
 pub mod kinds;
 pub mod lists;
-pub mod numbers;
-pub mod refusals;
+pub mod ranges;
+pub mod refusal;
 pub mod setup;
 pub mod sums;

@@ -6,9 +6,10 @@ ghost use Rattle.tariff.specs.Settings.{fraction_at, settings_legal};
 ghost use Rattle.ledger.specs.Opening.{holder_kind, sink_kind, base, path_source, path_sink, path_base};
 ghost use Rattle.ledger.specs.Ranges.{unknown_holder, unknown_source, unknown_sink, unknown_path};
 ghost use Rattle.ledger.specs.Causes.{kind_ineligible, is_sub_lap};
+ghost use Rattle.records.specs.Kinds.{holder_kind_of, sink_kind_of};
 ghost use Rattle.records.specs.Opening.{settings_at, opening_of, KeepsBases};
 
-use crate::kinds::{LSE, SCHEDULING_POINT, SUB_LAP};
+use crate::kinds::{HolderKind, SinkKind};
 use crate::lists::{list_entry, number_at};
 use tariff::legal_settings::LegalSettings;
 use tariff::settings::{Fraction, Settings};
@@ -91,17 +92,19 @@ pub fn unknown_path(o: &[u64], p: u64) -> bool
 }
 
 #[tactic(auto, unfolding(crate::specs::Opening::opening_in, ledger::specs::Opening::holder_kind))]
-pub fn holder_kind(o: &[u64], h: u64) -> u64
-    ensures { result ≡ holder_kind (opening_of o.entry) h }
+pub fn holder_kind(o: &[u64], h: u64) -> Option<HolderKind>
+    ensures { result ≡ holder_kind_of (holder_kind (opening_of o.entry) h) }
 {
-    list_entry(o, HOLDER_KINDS_AT, MAX_HOLDERS as u64, holders(o), h)
+    let number = list_entry(o, HOLDER_KINDS_AT, MAX_HOLDERS as u64, holders(o), h);
+    HolderKind::try_from(number).ok()
 }
 
 #[tactic(auto, unfolding(crate::specs::Opening::opening_in, ledger::specs::Opening::sink_kind))]
-pub fn sink_kind(o: &[u64], s: u64) -> u64
-    ensures { result ≡ sink_kind (opening_of o.entry) s }
+pub fn sink_kind(o: &[u64], s: u64) -> Option<SinkKind>
+    ensures { result ≡ sink_kind_of (sink_kind (opening_of o.entry) s) }
 {
-    list_entry(o, SINK_KINDS_AT, MAX_PLACES as u64, sinks(o), s)
+    let number = list_entry(o, SINK_KINDS_AT, MAX_PLACES as u64, sinks(o), s);
+    SinkKind::try_from(number).ok()
 }
 
 #[tactic(auto, unfolding(crate::specs::Opening::opening_in, ledger::specs::Opening::base))]
@@ -180,20 +183,20 @@ pub fn legal_settings(o: &[u64]) -> LegalSettings
 }
 
 // Cause 10 by kinds: a scheduling point is not for an LSE, and nothing else is for an OBAALSE.
-#[tactic(auto, unfolding(ledger::specs::Causes::kind_ineligible))]
+#[tactic(auto, unfolding(ledger::specs::Causes::kind_ineligible), using(crate::proofs::KindLaws::names_lse, crate::proofs::KindLaws::names_scheduling_point))]
 pub fn kind_ineligible(o: &[u64], h: u64, s: u64) -> bool
     ensures { result ≡ kind_ineligible (opening_of o.entry) h s }
 {
-    let scheduling_point = sink_kind(o, s) == SCHEDULING_POINT;
-    if holder_kind(o, h) == LSE {
+    let scheduling_point = sink_kind(o, s) == Some(SinkKind::SchedulingPoint);
+    if holder_kind(o, h) == Some(HolderKind::Lse) {
         return scheduling_point;
     }
     !scheduling_point
 }
 
-#[tactic(auto, unfolding(ledger::specs::Causes::is_sub_lap))]
+#[tactic(auto, unfolding(ledger::specs::Causes::is_sub_lap), using(crate::proofs::KindLaws::names_sub_lap))]
 pub fn is_sub_lap(o: &[u64], s: u64) -> bool
     ensures { result ≡ is_sub_lap (opening_of o.entry) s }
 {
-    sink_kind(o, s) == SUB_LAP
+    sink_kind(o, s) == Some(SinkKind::SubLap)
 }

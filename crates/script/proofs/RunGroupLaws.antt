@@ -11,12 +11,9 @@ use Rattle.source_evidence.specs.declared.evidence.Entry.{Entry}
 use Rattle.ledger.specs.Ledger.{empty_ledger}
 use Rattle.ledger.specs.Season.{call, query}
 use Rattle.slots.specs.Layout.{figure_count, posted_count, evidence_of}
-use Rattle.records.specs.declared.answers.Answer.{Answer}
 use Rattle.book.specs.declared.book.Book.{Book}
-use Rattle.book.specs.declared.book.Outcome.{Outcome}
-use Rattle.records.specs.Answers.{answer_in}
+use Rattle.records.specs.Answers.{Answer, answer_in}
 use Rattle.book.specs.Reading.{book_in, book_of}
-use Rattle.book.specs.Outcomes.{refused_with}
 use Rattle.book.specs.Reachable.{Reachable}
 use Rattle.book.proofs.EmptyBook.{empty_figures, empty_posted}
 use Rattle.lines.specs.Rows.{rows_of}
@@ -31,8 +28,8 @@ use Rattle.lines.proofs.WritingLaws.{written_length, written_again}
 use Rattle.groups.specs.Groups.{Group, unreadable_group, request, lines_counted, request_of, groups_from, groups_of}
 use Rattle.script.specs.Answers.{text_of, texts_of}
 use Rattle.script.specs.GroupTexts.{answers_of, text_from}
-use Rattle.script.specs.Writing.{TwoDigits, Writable}
-use Rattle.groups.specs.Outcome.{head_group, head_bytes, first_group, group_bytes, Answers, outcome_of_group}
+use Rattle.script.specs.Writing.{Writable}
+use Rattle.groups.specs.Outcome.{Answered, head_group, head_bytes, first_group, group_bytes, Answers, outcome_of_group}
 use Rattle.groups.proofs.GroupLaws.{first_group_lem, drop_shorter}
 use Rattle.script.proofs.GroupTextLaws.{group_reachable}
 use Rattle.script.proofs.AnswerLaws.{refused_writable}
@@ -40,8 +37,8 @@ use Rattle.script.proofs.WritableLaws.{outcome_writable, query_writable}
 
 -- what a group is answered fits its line
 pub group_writable : (b : Book) → Reachable b → (g : Group) → Writable (answer_in (outcome_of_group b g).answer)
-unfolding outcome_of_group refused_with answer_in
-group_writable b r unreadable_group = refused_writable 1 (omega arith)
+unfolding outcome_of_group answer_in
+group_writable b r unreadable_group = refused_writable 1
 group_writable b r (request (call c)) = outcome_writable b r c
 group_writable b r (request (query q)) = query_writable b r q
 
@@ -162,7 +159,7 @@ module _ (script : List ℕ) (first : Book) (from start : ℕ) (out₀ out : Lis
 
     -- what the group is answered, the book that it leads to, and where the next one begins
     module _ (a : Answer) (next : Book) (consumed : ℕ) (answered : Answers b (first_group part) a next) (taken : consumed ≡ group_bytes part) where
-      as-group : ◌≡◌ {A = Outcome} (record { answer = a; book = next }) (outcome_of_group b (first_group rest))
+      as-group : ◌≡◌ {A = Answered} (record { answer = a; book = next }) (outcome_of_group b (first_group rest))
       as-group = answered ∙ ap (λ s. outcome_of_group b (first_group s)) (rest_all script at)
 
       consumed-is : consumed ≡ group_bytes rest
@@ -182,8 +179,8 @@ module _ (script : List ℕ) (first : Book) (from start : ℕ) (out₀ out : Lis
       text = text_of (answer_in a)
 
       -- what writing the answer needs
-      pub turn_writable : (written + length text ≤ length out) × TwoDigits (answer_in a)
-      turn_writable = let room = turn-room in let short = turn-fits.short in (omega arith, turn-fits.two_digits)
+      pub turn_writable : written + length text ≤ length out
+      turn_writable = let room = turn-room in let short = turn-fits.short in omega arith
 
       abbrev at₁ : ℕ
       at₁ = at + consumed

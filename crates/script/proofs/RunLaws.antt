@@ -8,13 +8,14 @@ use native.Mathlib.Omega.{arith}
 use lib.ListN.{length, drop}
 use lib.Dec.{ltb}
 use borrow.Author.Tests.{lt-ltb, le-ltb}
-use Rattle.tariff.proofs.Tests.{and_both}
+use Rattle.std.specs.Prelude.{Ok, Err}
+use Rattle.std.specs.Result.{is_ok}
 use Rattle.ledger.specs.Opening.{Opening, legal, opening_refusal}
 use Rattle.ledger.specs.Ledger.{empty_ledger}
 use Rattle.ledger.specs.Season as ledger
 use Rattle.ledger.specs.Season.{after, after_from}
-use Rattle.records.specs.declared.answers.Answer.TheVariants.{Done, Refused}
-use Rattle.records.specs.Answers.{answer_in}
+use Rattle.records.specs.declared.refusal.Refusal.TheVariants.{Unreadable, BreaksRules}
+use Rattle.records.specs.Answers.{answer_in, of_call}
 use Rattle.opening.specs.Opened.{opening_answer}
 use Rattle.book.specs.Reading.{book_of}
 use Rattle.book.specs.Opened.{opening_outcome}
@@ -31,18 +32,18 @@ use Rattle.script.specs.GroupTexts.{answers_of, text_from}
 use Rattle.book_group.specs.BookGroup.{book_group_with, opening_left, book_group_of, opening_after}
 use Rattle.script.specs.Run.{too_long, too_short, answers_text, written, run_refusal, run_number, output_after}
 use Rattle.script.proofs.GroupTextLaws.{groups_answered}
-use Rattle.book_group.proofs.BookGroupLaws.{group_rows}
+use Rattle.book_group.proofs.BookGroupLaws.{group_rows, group_opens}
 
 -- what the groups after a legal opening are answered
 groups_text : (o : Opening) → legal o ≡ true → (rows : List Row) → texts_of (map answer_in (answers_of (opening_outcome o).book (groups_of rows))) ≡ texts_of (answers_to o empty_ledger (groups_of rows))
 unfolding after after_from
 groups_text o e rows = ap (λ b. texts_of (map answer_in (answers_of b (groups_of rows)))) (opened_at o e) ∙ ap texts_of (groups_answered o e [] (groups_of rows))
 
-opened_answer : (o : Opening) → legal o ≡ true → answer_in (opening_outcome o).answer ≡ ledger.done
-unfolding opening_outcome opening_answer answer_in
-opened_answer o e = ap (λ t. answer_in (cond t Done (Refused (opening_refusal o)))) e
+opened_answer : (o : Opening) → legal o ≡ true → answer_in (of_call (opening_outcome o).answer) ≡ ledger.done
+unfolding opening_outcome opening_answer answer_in of_call
+opened_answer o e = ap (λ t. answer_in (of_call (cond t (Ok (tt {0})) (Err BreaksRules)))) e
 
-after_text : (o : Opening) → legal o ≡ true → (rows : List Row) → texts_of (answers_after o rows) ≡ text_of (answer_in (opening_outcome o).answer) ++ texts_of (map answer_in (answers_of (opening_outcome o).book (groups_of rows)))
+after_text : (o : Opening) → legal o ≡ true → (rows : List Row) → texts_of (answers_after o rows) ≡ text_of (answer_in (of_call (opening_outcome o).answer)) ++ texts_of (map answer_in (answers_of (opening_outcome o).book (groups_of rows)))
 unfolding answers_after texts_of
 after_text o e rows =
     ap (λ t. texts_of (cond t (ledger.done ∷ answers_to o empty_ledger (groups_of rows)) (ledger.refused (opening_refusal o) ∷ []))) e
@@ -50,20 +51,19 @@ after_text o e rows =
 
 module _ (head : Row) (rows : List Row) (consumed : ℕ) where
   -- a book group that ends the run is answered by itself
-  stops : (book_group_with head rows consumed).is_open ≡ false → texts_of (script_answers (head ∷ rows)) ≡ text_of (answer_in (book_group_with head rows consumed).answer)
-  unfolding book_group_with script_answers answers_after texts_of opening_answer answer_in
+  stops : is_ok (book_group_with head rows consumed).answer ≡ false → texts_of (script_answers (head ∷ rows)) ≡ text_of (answer_in (of_call (book_group_with head rows consumed).answer))
+  unfolding book_group_with script_answers answers_after texts_of opening_answer opening_refusal answer_in of_call
   stops e = go (book_readable head rows) (legal (opening_of_rows head rows)) e
     where
-      go : (readable is_legal : Bool) → (readable && is_legal) ≡ false → texts_of (cond readable (cond is_legal (ledger.done ∷ answers_to (opening_of_rows head rows) empty_ledger (groups_of (call_rows head rows))) (ledger.refused (opening_refusal (opening_of_rows head rows)) ∷ [])) (ledger.refused 1 ∷ [])) ≡ text_of (answer_in (cond readable (cond is_legal Done (Refused (opening_refusal (opening_of_rows head rows)))) (Refused 1)))
+      go : (readable is_legal : Bool) → is_ok (cond readable (cond is_legal (Ok (tt {0})) (Err BreaksRules)) (Err Unreadable)) ≡ false → texts_of (cond readable (cond is_legal (ledger.done ∷ answers_to (opening_of_rows head rows) empty_ledger (groups_of (call_rows head rows))) (ledger.refused (cond is_legal 0 16) ∷ [])) (ledger.refused 1 ∷ [])) ≡ text_of (answer_in (of_call (cond readable (cond is_legal (Ok (tt {0})) (Err BreaksRules)) (Err Unreadable))))
       go true true w = cc
       go true false w = append-nil _
       go false is_legal w = append-nil _
 
   -- one that does not is answered, and then the groups after it
-  continues : (o : List ℕ) → (book_group_with head rows consumed).is_open ≡ true → texts_of (script_answers (head ∷ rows)) ≡ text_of (answer_in (book_group_with head rows consumed).answer) ++ texts_of (map answer_in (answers_of (book_of (opening_left head rows o) empty_ledger) (groups_of (call_rows head rows))))
+  continues : (o : List ℕ) → (book_readable head rows ≡ true) × (legal (opening_of_rows head rows) ≡ true) → texts_of (script_answers (head ∷ rows)) ≡ text_of (answer_in (of_call (book_group_with head rows consumed).answer)) ++ texts_of (map answer_in (answers_of (book_of (opening_left head rows o) empty_ledger) (groups_of (call_rows head rows))))
   unfolding book_group_with opening_left script_answers opening_outcome
-  continues o e =
-      let both = and_both (book_readable head rows) (legal (opening_of_rows head rows)) e in
+  continues o both =
       rw both.0 (after_text (opening_of_rows head rows) both.1 (call_rows head rows))
 
 -- of a script that has a line
@@ -74,16 +74,16 @@ module _ (script : List ℕ) (some : 1 ≤ length script) where
   rows : List Row
   rows = rows_of (drop (next_row script).consumed script)
 
-  pub run_stops : (book_group_of script).is_open ≡ false → answers_text script ≡ text_of (answer_in (book_group_of script).answer)
+  pub run_stops : is_ok (book_group_of script).answer ≡ false → answers_text script ≡ text_of (answer_in (of_call (book_group_of script).answer))
   unfolding answers_text book_group_of head rows
   run_stops e = ap (λ all. texts_of (script_answers all)) (first_row_lem script some) ∙ stops head rows _ e
 
-  pub run_continues : (o : List ℕ) → (book_group_of script).is_open ≡ true → answers_text script ≡ text_of (answer_in (book_group_of script).answer) ++ text_from (book_of (opening_after script o) empty_ledger) (drop (book_group_of script).consumed script)
+  pub run_continues : (o : List ℕ) → is_ok (book_group_of script).answer ≡ true → answers_text script ≡ text_of (answer_in (of_call (book_group_of script).answer)) ++ text_from (book_of (opening_after script o) empty_ledger) (drop (book_group_of script).consumed script)
   unfolding answers_text book_group_of opening_after head rows text_from
   run_continues o e =
       ap (λ all. texts_of (script_answers all)) (first_row_lem script some)
-      ∙ continues head rows _ o e
-      ∙ ap (λ calls. text_of (answer_in (book_group_of script).answer) ++ texts_of (map answer_in (answers_of (book_of (opening_after script o) empty_ledger) (groups_of calls)))) (sym (group_rows script))
+      ∙ continues head rows _ o (group_opens script e)
+      ∙ ap (λ calls. text_of (answer_in (of_call (book_group_of script).answer)) ++ texts_of (map answer_in (answers_of (book_of (opening_after script o) empty_ledger) (groups_of calls)))) (sym (group_rows script))
 
 -- what is written from the start on
 from_start : (out text : List ℕ) → written_at out 0 text ≡ text ++ drop (length text) out

@@ -6,10 +6,12 @@ use mathlib.Core.List.{List, ◌++◌}
 use native.Mathlib.Nat.{le_trans, le_of_eq, zero-add}
 use native.Mathlib.Omega.{arith}
 use lib.ListN.{length, drop, length-append}
-use Rattle.records.specs.Answers.{answer_in}
-use Rattle.ledger.specs.Opening.{legal, opening_refusal}
+use Rattle.std.specs.Prelude.{Ok, Err}
+use Rattle.std.specs.Result.{is_ok}
+use Rattle.records.specs.Answers.{Answer, answer_in, of_call}
+use Rattle.ledger.specs.Opening.{legal}
 use Rattle.ledger.specs.Ledger.{empty_ledger}
-use Rattle.records.specs.declared.answers.Answer.TheVariants.{Done, Refused}
+use Rattle.records.specs.declared.refusal.Refusal.TheVariants.{Unreadable, BreaksRules}
 use Rattle.opening.specs.Opened.{opening_answer}
 use Rattle.lines.specs.declared.rows.Row.{Row}
 use Rattle.book.specs.Reading.{book_of}
@@ -24,19 +26,18 @@ use Rattle.groups.specs.Groups.{book_readable, opening_of_rows, call_rows}
 use Rattle.script.specs.Answers.{text_of}
 use Rattle.script.specs.GroupTexts.{text_from}
 use Rattle.book_group.specs.BookGroup.{book_group_with, book_group_of, opening_after}
-use Rattle.script.specs.Writing.{TwoDigits, Writable}
+use Rattle.script.specs.Writing.{Writable}
 use Rattle.script.specs.Run.{answers_text}
 use Rattle.groups.proofs.GroupLaws.{drop_shorter}
 use Rattle.book_group.proofs.BookGroupLaws.{group_rows, group_within, book_group_reachable}
 use Rattle.script.proofs.AnswerLaws.{done_writable, refused_writable}
-use Rattle.script.proofs.WritableLaws.{opening_refusal_small}
 use Rattle.script.proofs.RunLaws.{run_stops, run_continues}
 use Rattle.lines.specs.Text.{max_lines}
 
 -- what the book group is answered fits its line
-group_writable : (script : List ℕ) → Writable (answer_in (book_group_of script).answer)
-unfolding book_group_of book_group_with opening_answer answer_in
-group_writable script = go (book_readable first left) (legal (opening_of_rows first left)) (opening_refusal (opening_of_rows first left)) (opening_refusal_small (opening_of_rows first left))
+group_writable : (script : List ℕ) → Writable (answer_in (of_call (book_group_of script).answer))
+unfolding book_group_of book_group_with opening_answer answer_in of_call
+group_writable script = go (book_readable first left) (legal (opening_of_rows first left))
   where
     first : Row
     first = (next_row script).row
@@ -44,14 +45,14 @@ group_writable script = go (book_readable first left) (legal (opening_of_rows fi
     left : List Row
     left = rows_of (drop (next_row script).consumed script)
 
-    go : (t u : Bool) (n : ℕ) → n < 100 → Writable (answer_in (cond t (cond u Done (Refused n)) (Refused 1)))
-    go true true n l = done_writable
-    go true false n l = refused_writable n l
-    go false u n l = refused_writable 1 (omega arith)
+    go : (t u : Bool) → Writable (answer_in (of_call (cond t (cond u (Ok (tt {0})) (Err BreaksRules)) (Err Unreadable))))
+    go true true = done_writable
+    go true false = refused_writable 16
+    go false u = refused_writable 1
 
-module _ (script out : List ℕ) (some : 1 ≤ length script) (few : length (rows_of script) ≤ max_lines) (room : 16 * length (rows_of script) ≤ length out) (x : BookGroup) (is : x ≡ book_group_of script) (o₀ o : List ℕ) (opening : o ≡ opening_after script o₀) where
+module _ (script out : List ℕ) (some : 1 ≤ length script) (few : length (rows_of script) ≤ max_lines) (room : 16 * length (rows_of script) ≤ length out) (x : BookGroup) (is : x ≡ book_group_of script) (a : Answer) (given : a ≡ of_call x.answer) (o₀ o : List ℕ) (opening : o ≡ opening_after script o₀) where
   abbrev text : List ℕ
-  text = text_of (answer_in x.answer)
+  text = text_of (answer_in a)
 
   abbrev rest : List ℕ
   rest = drop x.consumed script
@@ -60,12 +61,12 @@ module _ (script out : List ℕ) (some : 1 ≤ length script) (few : length (row
   first-room : 16 ≤ length out
   first-room = let all = ap length (first_row_lem script some) in omega arith
 
-  first_fits : Writable (answer_in x.answer)
-  first_fits = subst (λ y. Writable (answer_in y.answer)) (sym is) (group_writable script)
+  first_fits : Writable (answer_in a)
+  first_fits = subst (λ y. Writable (answer_in y)) (sym (given ∙ ap (λ y. of_call y.answer) is)) (group_writable script)
 
   -- what writing it needs
-  pub first_writable : (0 + length text ≤ length out) × TwoDigits (answer_in x.answer)
-  first_writable = let room = first-room in let short = first_fits.short in (omega arith, first_fits.two_digits)
+  pub first_writable : 0 + length text ≤ length out
+  first_writable = let room = first-room in let short = first_fits.short in omega arith
 
   -- at least the head is not among the rows that are left
   rows_left : length (rows_of rest) + 1 ≤ length (rows_of script)
@@ -81,13 +82,13 @@ module _ (script out : List ℕ) (some : 1 ≤ length script) (few : length (row
 
   module _ (w : ℕ) (out₁ : List ℕ) (place : w ≡ 0 + length text) (bytes : out₁ ≡ written_at out 0 text) where
     -- a refused book group is all that is answered
-    pub stopped : x.is_open ≡ false → (w ≡ length (answers_text script)) × (out₁ ≡ written_at out 0 (answers_text script))
+    pub stopped : is_ok x.answer ≡ false → (w ≡ length (answers_text script)) × (out₁ ≡ written_at out 0 (answers_text script))
     stopped e =
-        let all = run_stops script some (sym (ap (λ y. y.is_open) is) ∙ e) ∙ ap (λ y. text_of (answer_in y.answer)) (sym is) in
+        let all = run_stops script some (sym (ap (λ y. is_ok y.answer) is) ∙ e) ∙ ap (λ y. text_of (answer_in y)) (sym (given ∙ ap (λ y. of_call y.answer) is)) in
         (place ∙ zero-add (length text) ∙ ap length (sym all), bytes ∙ ap (written_at out 0) (sym all))
 
-    pub left_reachable : x.is_open ≡ true → Reachable (book_of o empty_ledger)
-    left_reachable e = subst (λ z. Reachable (book_of z empty_ledger)) (sym opening) (book_group_reachable script o₀ (sym (ap (λ y. y.is_open) is) ∙ e))
+    pub left_reachable : is_ok x.answer ≡ true → Reachable (book_of o empty_ledger)
+    left_reachable e = subst (λ z. Reachable (book_of z empty_ledger)) (sym opening) (book_group_reachable script o₀ (sym (ap (λ y. is_ok y.answer) is) ∙ e))
 
     pub left_within : x.consumed ≤ length script
     left_within = le_trans (le_of_eq (ap (λ y. y.consumed) is)) (group_within script)
@@ -107,9 +108,9 @@ module _ (script out : List ℕ) (some : 1 ≤ length script) (few : length (row
     abbrev later : List ℕ
     later = text_from (book_of o empty_ledger) rest
 
-    pub gone_on : x.is_open ≡ true → (w₂ : ℕ) (out₂ : List ℕ) → w₂ ≡ w + length later → out₂ ≡ written_at out₁ w later → w₂ ≤ length out₁ → (w₂ ≡ length (answers_text script)) × (out₂ ≡ written_at out 0 (answers_text script))
+    pub gone_on : is_ok x.answer ≡ true → (w₂ : ℕ) (out₂ : List ℕ) → w₂ ≡ w + length later → out₂ ≡ written_at out₁ w later → w₂ ≤ length out₁ → (w₂ ≡ length (answers_text script)) × (out₂ ≡ written_at out 0 (answers_text script))
     gone_on e w₂ out₂ n b within =
-        let all = run_continues script some o₀ (sym (ap (λ y. y.is_open) is) ∙ e) ∙ (λ i. text_of (answer_in (sym is i).answer) ++ text_from (book_of (sym opening i) empty_ledger) (drop (sym is i).consumed script)) in
+        let all = run_continues script some o₀ (sym (ap (λ y. is_ok y.answer) is) ∙ e) ∙ (λ i. text_of (answer_in (sym (given ∙ ap (λ y. of_call y.answer) is) i)) ++ text_from (book_of (sym opening i) empty_ledger) (drop (sym is i).consumed script)) in
         let sum = length-append text later in
         let same = same_length in
         (n ∙ omega arith ∙ ap length (sym all), b ∙ (λ i. written_at (bytes i) (place i) later) ∙ written_again out 0 text later (omega arith) ∙ ap (written_at out 0) (sym all))

@@ -1,8 +1,7 @@
 -- Groups put to a book, one after another, and the text of what it answers.
 use Rattle.std.specs.Prelude.{ℕ, List, [], ◌∷◌, map}
 use Rattle.book.specs.declared.book.Book.{Book}
-use Rattle.records.specs.declared.answers.Answer.{Answer}
-use Rattle.records.specs.Answers.{answer_in}
+use Rattle.records.specs.Answers.{Answer, answer_in}
 use Rattle.lines.specs.Rows.{rows_of}
 use Rattle.groups.specs.Groups.{Group, groups_of}
 use Rattle.groups.specs.Outcome.{outcome_of_group}

@@ -9,15 +9,16 @@ use crate::answers::write_answer;
 use crate::run_groups::run_groups;
 use book_group::book_group::open_from_script;
 use lines::text::{BYTES_PER_LINE, MAX_BYTES, MAX_LINES, count_lines};
-use records::numbers::{OUTPUT_TOO_SHORT, UNREADABLE};
+use records::answers::of_call;
+use records::refusal::Refusal;
 use records::setup::OPENING_COUNT;
 
 // The refusal of a whole run is given in these units, so that a length fits below.
 pub const REFUSAL_UNIT: u64 = 1_000_000;
 
-const SCRIPT_TOO_LONG_RESULT: u64 = UNREADABLE * REFUSAL_UNIT;
+const SCRIPT_TOO_LONG_RESULT: u64 = Refusal::Unreadable as u64 * REFUSAL_UNIT;
 
-const OUTPUT_TOO_SHORT_RESULT: u64 = OUTPUT_TOO_SHORT * REFUSAL_UNIT;
+const OUTPUT_TOO_SHORT_RESULT: u64 = Refusal::OutputTooShort as u64 * REFUSAL_UNIT;
 
 // Answers a script that is neither too long for a run nor too long for the buffer; says how many bytes were written.
 fn answer_script(script: &[u8], out: &mut [u8]) -> usize
@@ -30,13 +31,11 @@ fn answer_script(script: &[u8], out: &mut [u8]) -> usize
 {
     let mut o = [0u64; OPENING_COUNT];
     let group = open_from_script(script, &mut o);
-    let answer = group.answer;
-    let written = write_answer(out, 0, answer);
-    if !group.is_open {
+    let written = write_answer(out, 0, of_call(group.answer));
+    if !group.opens() {
         return written;
     }
-    let consumed = group.consumed;
-    run_groups(script, consumed, &o, out, written)
+    run_groups(script, group.consumed, &o, out, written)
 }
 
 // Runs a script: the refusal, 0 for a run, times 1,000,000, plus the written length. Nothing is asked of the two slices.

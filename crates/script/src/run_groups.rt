@@ -30,8 +30,7 @@ pub fn run_groups(script: &[u8], from: usize, o: &[u64], out: &mut [u8], start: 
     let mut written = start;
     while at < script.len() {
         let outcome = run_group(o, &mut f, &mut m, &script[at..]);
-        let answer = outcome.answer;
-        written = write_answer(out, written, answer);
+        written = write_answer(out, written, outcome.answer);
         at += outcome.consumed;
     }
     written

@@ -1,13 +1,30 @@
--- The calendar's tests, as code makes them of the numbers after the figures. Assumes nothing.
+-- A call comes at its time by the calendar in a book's figures where it does by the ledger in the arrays. Assumes nothing.
 use Prim.Native.Nat.{ℕ}
-use mathlib.Core.Path.{◌≡◌, ap, ◌∙◌}
-use mathlib.Core.Bool.{Bool, not, ◌&&◌}
-use lib.Dec.{ltb, eqb}
+use mathlib.Core.Path.{◌≡◌, refl}
+use mathlib.Core.Bool.{Bool}
+use mathlib.Core.List.{List}
+use Rattle.source_evidence.specs.declared.evidence.Entry.{Entry}
+use Rattle.ledger.specs.Calendar as ledger
+use Rattle.records.specs.Calendar.{tier_is_open, before_tier, load_in_time, migration_in_time, step_in_time, is_next_tier}
+use Rattle.slots.specs.Layout.{calendar_in, ledger_in}
 
--- a tier has been opened, or one is open
-pub late_test : (tier last current closed opened : ℕ) (early : Bool) → early ≡ (not (not (eqb current 0)) && ltb last tier) → last ≡ closed → current ≡ opened → not early ≡ not (not (not (eqb opened 0)) && ltb closed tier)
-late_test tier last current closed opened early e l c = ap not (e ∙ (λ i. not (not (eqb (c i) 0)) && ltb (l i) tier))
+module _ (f : List ℕ) (m : List Bool) (x : List Entry) where
+  pub open_as_ledger : ledger.tier_is_open (ledger_in f m x) ≡ tier_is_open (calendar_in f)
+  unfolding ledger.tier_is_open tier_is_open calendar_in ledger_in
+  open_as_ledger = refl
 
--- a tier is open, or none is
-pub open_test : (current opened : ℕ) (is_open : Bool) → is_open ≡ not (eqb current 0) → current ≡ opened → is_open ≡ not (eqb opened 0)
-open_test current opened is_open e c = e ∙ ap (λ n. not (eqb n 0)) c
+  pub before_as_ledger : (tier : ℕ) → ledger.before_tier tier (ledger_in f m x) ≡ before_tier tier (calendar_in f)
+  unfolding ledger.tier_is_open ledger.before_tier tier_is_open before_tier calendar_in ledger_in
+  before_as_ledger tier = refl
+
+  pub load_as_ledger : (term : ℕ) → ledger.load_in_time term (ledger_in f m x) ≡ load_in_time term (calendar_in f)
+  unfolding ledger.tier_is_open ledger.before_tier ledger.load_in_time tier_is_open before_tier load_in_time calendar_in ledger_in
+  load_as_ledger term = refl
+
+  pub migration_as_ledger : (term : ℕ) → ledger.migration_in_time term (ledger_in f m x) ≡ migration_in_time term (calendar_in f)
+  unfolding ledger.tier_is_open ledger.before_tier ledger.migration_in_time tier_is_open before_tier migration_in_time calendar_in ledger_in
+  migration_as_ledger term = refl
+
+  pub next_as_ledger : (tier : ℕ) → ledger.is_next_tier tier (ledger_in f m x) ≡ is_next_tier tier (calendar_in f)
+  unfolding ledger.tier_is_open ledger.step_in_time ledger.is_next_tier tier_is_open step_in_time is_next_tier calendar_in ledger_in
+  next_as_ledger tier = refl

@@ -66,9 +66,6 @@ one_cell width a b c h p slot there here e =
     let row : h ≡ a = omega arith in
     and_join (and_join (eq-eqb h a row) (eq-eqb p b (omega arith))) (eq-eqb slot c (sym slots))
 
-some_width : (width h p slot : ℕ) → HasCell width h p slot → 0 < width
-some_width width h p slot c = let l = c.in_row in omega arith
-
 module _ {A : Type 0} where
   -- what stands in a cell after one was stored
   read-stored : (width : ℕ) (none v : A) (cells : List A) (a b c h p slot : ℕ) → rows * width ≤ length cells → HasCell width a b c → HasCell width h p slot → read_at width none (stored_at width cells a b c v) h p slot ≡ cond (same3 a b c h p slot) v (read_at width none cells h p slot)

@@ -13,6 +13,6 @@ pub mod Reachable
 pub mod StepLaws
 pub mod PathSums
 pub mod Figures
-pub mod PostedLaws
 pub mod CalendarLaws
+pub mod PostedLaws
 pub mod Places

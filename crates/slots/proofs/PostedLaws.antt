@@ -3,11 +3,9 @@ use Prim.Native.Nat.{ℕ, ◌+◌, ◌-◌, ◌≤◌, ◌<◌, zero-le}
 use mathlib.Core.Path.{◌≡◌, sym, ap, ◌∙◌}
 use mathlib.Core.Bool.{Bool, true, false, cond, ◌&&◌, and-true}
 use mathlib.Core.List.{List}
-use mathlib.Core.Logic.{◌⊎◌, inl, inr}
 use native.Mathlib.Omega.{arith}
-use lib.Dec.{leb, ltb}
-use borrow.Author.Tests.{lt-ltb, le-ltb, le-leb, lt-leb}
-use Rattle.tariff.proofs.Tests.{and_left_false, and_right_false}
+use lib.Dec.{ltb}
+use borrow.Author.Tests.{lt-ltb, le-leb}
 use Rattle.slots.specs.Cells.{read_at, look_at}
 use Rattle.slots.specs.Groups.{in_group, figure_from}
 use Rattle.slots.specs.Layout.{posted_slots, is_posted_in}
@@ -24,17 +22,9 @@ module _ (m : List Bool) (h p from count low k : ℕ) where
       there : Bool
       there = read_at posted_slots false m h p (from + (k - low))
 
-  -- a number that it has not is looked for where there is no slot
-  pub posted_nowhere : (k < low) ⊎ (low + count ≤ k) → look_at posted_slots false m h p posted_slots ≡ is_posted_in m from count low h p k
-  unfolding look_at is_posted_in figure_from in_group
-  posted_nowhere outside =
-      ap (λ t. cond t (read_at posted_slots false m h p posted_slots) false) (and_right_false (ltb h 8 && ltb p 16) (le-ltb posted_slots posted_slots (omega arith)))
-      ∙ sym (ap (λ t. cond t (read_at posted_slots false m h p (from + (k - low))) false) (none outside))
-    where
-      none : (k < low) ⊎ (low + count ≤ k) → (ltb h 8 && ltb p 16 && leb low k && ltb k (low + count)) ≡ false
-      none (inl l) = and_left_false (ltb k (low + count)) (and_right_false (ltb h 8 && ltb p 16) (lt-leb low k l))
-      none (inr l) = and_right_false (ltb h 8 && ltb p 16 && leb low k) (le-ltb k (low + count) l)
+-- a posting by a number from 0, and one that has no number
+pub posted_from_zero : (m : List Bool) (h p from count k : ℕ) → from + count ≤ posted_slots → k < count → look_at posted_slots false m h p (from + k) ≡ is_posted_in m from count 0 h p k
+posted_from_zero m h p from count k fits below = ap (look_at posted_slots false m h p) (let e : from + k ≡ from + (k - 0) = omega arith in e) ∙ posted_number m h p from count 0 k fits zero-le (omega arith)
 
--- a posting that has one slot and no number
 pub posted_one : (m : List Bool) (h p from : ℕ) → from < posted_slots → look_at posted_slots false m h p from ≡ is_posted_in m from 1 0 h p 0
-posted_one m h p from l = ap (look_at posted_slots false m h p) (let e : from ≡ from + (0 - 0) = omega arith in e) ∙ posted_number m h p from 1 0 0 (omega arith) zero-le (omega arith)
+posted_one m h p from l = ap (look_at posted_slots false m h p) (let e : from ≡ from + 0 = omega arith in e) ∙ posted_from_zero m h p from 1 0 (omega arith) (omega arith)

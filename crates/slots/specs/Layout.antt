@@ -5,6 +5,7 @@ use Rattle.source_evidence.specs.declared.evidence.Entry.{Entry}
 use Rattle.source_evidence.specs.Evidence.{empty_entry, is_ten_year}
 use Rattle.tariff.specs.Sum.{when_true}
 use Rattle.ledger.specs.Ledger.{Ledger}
+use Rattle.records.specs.declared.calendar.Calendar.{Calendar}
 use Rattle.slots.specs.Cells.{rows, array_of}
 use Rattle.slots.specs.Groups.{SlotGroup, slot_group, in_slot, figure_from}
 use Rattle.slots.specs.Coverage.{coverage}
@@ -136,7 +137,7 @@ module _ (L : Ledger) where
   unfoldable pub evidence_of : List Entry
   evidence_of = array_of evidence_slots (in_slot empty_entry evidence_groups) []
 
--- the tier last closed, the open one, and whether the step was held
+-- the tier last closed, the open one, and whether the step was held; and the calendar of the three
 unfoldable pub last_closed_in : List ℕ → ℕ
 last_closed_in f = get_or f last_closed_at 0
 
@@ -145,6 +146,9 @@ current_tier_in f = get_or f current_tier_at 0
 
 unfoldable pub step_held_in : List ℕ → Bool
 step_held_in f = eqb (get_or f step_held_at 0) 1
+
+unfoldable pub calendar_in : List ℕ → Calendar
+calendar_in f = record { last_closed = last_closed_in f; current_tier = current_tier_in f; step_held = step_held_in f }
 
 -- the figures of a group that begins at a slot, with so many numbers from the lowest on
 unfoldable pub figure_in : List ℕ → (from count low : ℕ) → ℕ → ℕ → ℕ → ℕ

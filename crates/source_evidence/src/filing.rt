@@ -31,7 +31,7 @@ pub struct OutOfRange;
 
 impl Filing {
     ghost use Rattle.source_evidence.specs.Kind.{number_of};
-    ghost use Rattle.source_evidence.specs.Filing.{is_out_of_range, is_out_of_range_as, filing_outcome};
+    ghost use Rattle.source_evidence.specs.Filing.{is_out_of_range_as, filing_outcome};
 
     // Whether the numbers beside the kind are in range, as those of a kind.
     fn is_in_range_as(self, kind: EvidenceKind) -> bool
@@ -43,16 +43,6 @@ impl Filing {
             && (1..=LAST_MONTH).contains(&self.last)
             && self.first <= self.last
             && self.mark <= TEN_YEAR
-    }
-
-    // Whether the numbers are those of an evidence.
-    pub fn is_in_range(self) -> bool
-        ensures { result ≡ not (is_out_of_range self) }
-    {
-        match EvidenceKind::try_from(self.kind) {
-            Ok(kind) => self.is_in_range_as(kind),
-            Err(_) => false,
-        }
     }
 
     // The entry that the numbers file, under its kind.

@@ -1,7 +1,7 @@
 -- A test of each number that an iterator counts from 0 on is the rules' test of the numbers below a count. Assumes nothing.
-use Rattle.std.proofs.Common.{◌≡◌, ℕ, zero, suc, ◌+◌, Bool, true, false, ◌&&◌, ◌||◌, [], ◌∷◌, ◌++◌, refl, ap, ◌∙◌, arith}
+use Rattle.std.proofs.Common.{◌≡◌, ℕ, zero, suc, ◌+◌, Bool, ◌&&◌, ◌||◌, [], ◌∷◌, ◌++◌, refl, ap, ◌∙◌, arith}
 use mathlib.Core.Path.{ap₂}
-use mathlib.Core.Bool.{or-false}
+use mathlib.Core.Bool.{and-true, or-false}
 use denote.Param.Members.{Mut}
 use Rattle.std.specs.declared.ops.Range.{Range}
 use Rattle.std.proofs.iter.Yields.{nat_range_steps}
@@ -18,15 +18,11 @@ range_last : (a n j : ℕ) → a + n ≡ j → range_with_len a (suc n) ≡ rang
 range_last a zero j e = ap (λ k. k ∷ []) (let same : a ≡ j = omega arith in same)
 range_last a (suc n) j e = ap (λ ks. a ∷ ks) (range_last (a + 1) n j (omega arith))
 
-and_true : (t : Bool) → (t && true) ≡ t
-and_true true = refl
-and_true false = refl
-
 module _ (test : ℕ → Bool) where
   pub list_all-range : (n : ℕ) → list_all test (range_with_len 0 n) ≡ all_below n test
   unfolding all_below
   list_all-range zero = refl
-  list_all-range (suc n) = ap (list_all test) (range_last 0 n n (omega arith)) ∙ list_all-append test (range_with_len 0 n) (n ∷ []) ∙ ap₂ (λ s t. s && t) (list_all-range n) (and_true (test n))
+  list_all-range (suc n) = ap (list_all test) (range_last 0 n n (omega arith)) ∙ list_all-append test (range_with_len 0 n) (n ∷ []) ∙ ap₂ (λ s t. s && t) (list_all-range n) (and-true (test n))
 
   pub list_any-range : (n : ℕ) → list_any test (range_with_len 0 n) ≡ any_below n test
   unfolding any_below

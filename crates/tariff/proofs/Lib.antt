@@ -6,7 +6,6 @@ pub mod LongTerm
 pub mod Limits
 pub mod PresentFigures
 pub mod Entering
-pub mod Products
 pub mod Formulas
 pub mod Lists
 pub mod FromFn

@@ -7,8 +7,6 @@ use native.Mathlib.Nat.{not-suc-le-zero}
 use native.Mathlib.Omega.{arith}
 use Prim.Native.Nat.{zero, suc, ◌+◌}
 use native.Mathlib.Numerals.{add-one}
-use lib.Dec.{leb, ltb}
-use borrow.Author.Tests.{ltb-true, ltb-false, leb-true, leb-false, le-leb, lt-leb, le-ltb, lt-ltb}
 use Rattle.tariff.specs.Sum.{all_below, any_below}
 use Rattle.tariff.proofs.Sums.{below_suc}
 
@@ -79,29 +77,6 @@ none_below (suc n) test e i h = go (below_suc h) (none_below n test (or_unmet (a
     go : (i < n) ⊎ (i ≡ n) → (i < n → test i ≡ false) → test i ≡ false
     go (inl l) ih = ih l
     go (inr q) ih = ap test q ∙ (or_unmet (any_below n test) (test n) e).1
-
--- a test and its opposite
-pub not_or : (a b : Bool) → not (a || b) ≡ (not a && not b)
-not_or true b = refl
-not_or false b = refl
-
-pub not_not : (a : Bool) → not (not a) ≡ a
-not_not true = refl
-not_not false = refl
-
-pub not_ltb : (a b : ℕ) → not (ltb a b) ≡ leb b a
-not_ltb a b = go (ltb a b) refl
-  where
-    go : (t : Bool) → ltb a b ≡ t → not t ≡ leb b a
-    go true e = sym (lt-leb b a (ltb-true a b e))
-    go false e = sym (le-leb b a (ltb-false a b e))
-
-pub not_leb : (a b : ℕ) → not (leb a b) ≡ ltb b a
-not_leb a b = go (leb a b) refl
-  where
-    go : (t : Bool) → leb a b ≡ t → not t ≡ ltb b a
-    go true e = sym (le-ltb b a (leb-true a b e))
-    go false e = sym (lt-ltb b a (leb-false a b e))
 
 -- a test that one number below n passes
 pub any_at : (n : ℕ) (test : ℕ → Bool) (i : ℕ) → i < n → test i ≡ true → any_below n test ≡ true

@@ -7,4 +7,3 @@ pub mod Eligible
 pub mod Terms
 pub mod Limit
 pub mod Ranges
-pub mod Placed

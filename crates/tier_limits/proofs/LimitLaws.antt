@@ -8,6 +8,7 @@ use native.Mathlib.Omega.{arith}
 use lib.ListN.{length}
 use lib.Dec.{leb, eqb}
 use borrow.Author.Tests.{leb-true, leb-false, eqb-false}
+use Rattle.std.specs.Prelude.{Ok}
 use Rattle.tariff.specs.Sizes.{last_month, last_term, terms, long_term_step}
 use Rattle.source_evidence.specs.declared.evidence.Entry.{Entry}
 use Rattle.tariff.specs.declared.limit.Sums.{Sums}
@@ -26,7 +27,6 @@ use Rattle.ledger.specs.Call.{limit_of}
 use Rattle.ledger.specs.Causes.{limit_causes, query_causes, query_refusal}
 use Rattle.ledger.specs.Season.{query_value}
 use Rattle.ledger.proofs.Unmet.{unmet}
-use Rattle.records.specs.declared.answers.Answer.TheVariants.{Value}
 use Rattle.records.specs.Opening.{opening_in}
 use Rattle.slots.specs.Cells.{HasCell, read_at}
 use Rattle.slots.specs.Layout.{load_slot, prior_allocated_slot, carried_slot, awards_slot, tier_slots, figure_slots, figure_count, current_tier_in, ledger_in}
@@ -82,12 +82,12 @@ module _ (o f : List ℕ) (tier h base month last : ℕ) (rule : TierRule) (inpu
   month_range e = subst (λ n. (1 ≤ n) × (n ≤ last_month)) (sym e) (carried_range rule.term term_fits)
 
   -- the figures of all paths can be summed
-  pub all_summable : month ≡ carried_month rule.term → last ≡ tier - 1 → PathsSummable o f h (carried_slot + (month - 1)) (awards_slot + last)
+  pub all_summable : month ≡ carried_month rule.term → last ≡ tier - 1 → PathsSummable o f h (record { carried = carried_slot + (month - 1); before = awards_slot + last })
   all_summable e l =
       let months = month_range e in
       let few = inputs.last in
       record {
-        slots = λ slot i. summable o f _ _ inputs.figures.reachable h slot inputs.holder i;
+        each = λ slot i. summable o f _ _ inputs.figures.reachable h slot inputs.holder i;
         carried_in_row = omega arith;
         before_in_row = omega arith;
       }
@@ -109,9 +109,9 @@ module _ (o f : List ℕ) (tier h base month last : ℕ) (rule : TierRule) (inpu
     awards-at t l = at_base (awards_slot + t) _ (λ p k. from_zero f awards_slot tier_slots h p t holder k l)
 
     -- the sums over all paths are those of the limit
-    pub limit_sums_are : (load ten_year kind : ℕ) (sums : PathSums) → month ≡ carried_month rule.term → last ≡ tier - 1 → load ≡ read_at figure_slots 0 f h base (load_slot + rule.term) → sums ≡ sums_to O f h base (carried_slot + (month - 1)) (awards_slot + last) O.paths → ten_year ≡ when_true (is_long_term_step tier) (ten_year_sum O L h) → kind ≡ opening.holder_kind O h → ◌≡◌ {A = Sums} (record { load = load; carried = sums.carried; prior = sums.prior; tier1 = sums.tier1; tier2 = sums.tier2; tier3 = sums.tier3; before = sums.before; ten_year_kw = ten_year; obaalse = eqb kind opening.obaalse }) (limit_sums O L tier h base)
+    pub limit_sums_are : (load ten_year : ℕ) (sums : PathSums) (obaalse : Bool) → month ≡ carried_month rule.term → last ≡ tier - 1 → load ≡ read_at figure_slots 0 f h base (load_slot + rule.term) → sums ≡ sums_to O f h base (record { carried = carried_slot + (month - 1); before = awards_slot + last }) O.paths → ten_year ≡ when_true (is_long_term_step tier) (ten_year_sum O L h) → obaalse ≡ eqb (opening.holder_kind O h) opening.obaalse → ◌≡◌ {A = Sums} (record { load = load; carried = sums.carried; prior = sums.prior; tier1 = sums.tier1; tier2 = sums.tier2; tier3 = sums.tier3; before = sums.before; ten_year_kw = ten_year; obaalse = obaalse }) (limit_sums O L tier h base)
     unfolding sums_to limit_sums long_term_at prior_year_at ledger_in
-    limit_sums_are load ten_year kind sums of_term before of_load is of_evidence of_kind =
+    limit_sums_are load ten_year sums obaalse of_term before of_load is of_evidence of_kind =
         let months = month_range of_term in
         let final = inputs.last in
         λ i.
@@ -124,7 +124,7 @@ module _ (o f : List ℕ) (tier h base month last : ℕ) (rule : TierRule) (inpu
           tier3 = (ap (λ (s : PathSums). s.tier3) is ∙ awards-at 3 (omega arith)) i;
           before = (ap (λ (s : PathSums). s.before) is ∙ awards-at last (omega arith) ∙ ap (awards_at O L h base) before) i;
           ten_year_kw = of_evidence i;
-          obaalse = eqb (of_kind i) opening.obaalse;
+          obaalse = of_kind i;
         }
 
 -- a limit query that meets no cause is of a holder and a sink in the book
@@ -132,11 +132,11 @@ query_facts : (o : opening.Opening) (L : Ledger) (h s : ℕ) → query_refusal o
 unfolding query_refusal query_causes limit_causes unknown_holder unknown_sink
 query_facts o L h s e = let known = or_unmet _ _ (unmet 1 _ _ e).0 in (leb-false _ _ known.0, leb-false _ _ known.1)
 
-module _ (o f : List ℕ) (h s number tier base : ℕ) (found : InFigures o f (λ O L. number ≡ query_refusal O L (limit_of h s))) (zero : number ≡ 0) (now : tier ≡ current_tier_in f) (there : base ≡ opening.base (opening_in o) s) where
+module _ (o f : List ℕ) (h s tier base : ℕ) (unmet : InFigures o f (λ O L. 0 ≡ query_refusal O L (limit_of h s))) (now : tier ≡ current_tier_in f) (there : base ≡ opening.base (opening_in o) s) where
   -- its limit can be asked for
   pub query_inputs : ReachableFigures o f → LimitInputs o f tier h base
   query_inputs k =
-      let known = query_facts (opening_in o) (ledger_in f k.posted k.evidence) h s (sym (found _ _ k.reachable) ∙ zero) in
+      let known = query_facts (opening_in o) (ledger_in f k.posted k.evidence) h s (sym (unmet _ _ k.reachable)) in
       record {
         figures = k;
         last = open_last_lem o f _ _ k.reachable tier now;
@@ -145,6 +145,6 @@ module _ (o f : List ℕ) (h s number tier base : ℕ) (found : InFigures o f (�
       }
 
   -- and is its answer
-  pub limit_answered : (m : List Bool) (x : List Entry) (v : ℕ) → Reachable o f m x → v ≡ tier_limit (opening_in o) (ledger_in f m x) tier h base → Value v ≡ query_answer (opening_in o) (ledger_in f m x) (limit_of h s)
+  pub limit_answered : (m : List Bool) (x : List Entry) (v : ℕ) → Reachable o f m x → v ≡ tier_limit (opening_in o) (ledger_in f m x) tier h base → Ok v ≡ query_answer (opening_in o) (ledger_in f m x) (limit_of h s)
   unfolding query_value ledger_in
-  limit_answered m x v r e = query_answered (opening_in o) (ledger_in f m x) (limit_of h s) number (found m x r) v zero (e ∙ (λ i. tier_limit (opening_in o) (ledger_in f m x) (now i) h (there i)))
+  limit_answered m x v r e = query_answered (opening_in o) (ledger_in f m x) (limit_of h s) v (unmet m x r) (e ∙ (λ i. tier_limit (opening_in o) (ledger_in f m x) (now i) h (there i)))

@@ -4,20 +4,18 @@ ghost use Rattle.ledger.specs.Call.{limit_of};
 ghost use Rattle.ledger.specs.Causes.{query_refusal};
 ghost use Rattle.ledger.specs.Limits.{limit_sums, tier_limit};
 ghost use Rattle.records.specs.Opening.{opening_of};
+ghost use Rattle.records.specs.Refusals.{refused_by};
 ghost use Rattle.slots.specs.Steps.{ReachableFigures, InFigures, query_answer};
 ghost use Rattle.tier_limits.specs.Inputs.{LimitInputs};
-ghost use Rattle.tier_limits.specs.PathSums.{with_path, sums_to, PathSummable, PathsSummable};
+ghost use Rattle.tier_limits.specs.PathSums.{sums_to, PathsSummable};
 
 use crate::ten_year::ten_year_in;
-use records::answers::Answer;
-use records::calendar::tier_is_open;
-use records::kinds::OBAALSE;
-use records::numbers::{NOT_AT_THIS_TIME, NOT_IN_BOOK};
-use records::refusals::refuse;
+use records::kinds::HolderKind;
+use records::refusal::Refusal;
 use records::setup::{
     holder_kind, legal_settings, path_base, paths, sink_base, unknown_holder, unknown_sink,
 };
-use slots::calendar::current_tier;
+use slots::calendar::{calendar, current_tier};
 use slots::cells::read;
 use slots::layout::{AWARDS_SLOT, CARRIED_SLOT, LOAD_SLOT, PRIOR_ALLOCATED_SLOT};
 use tariff::limit::{Sums, tier_rule};
@@ -34,37 +32,39 @@ pub struct PathSums {
     pub before: u64,
 }
 
-// The sums with the figures of one path more, where it counts. `carried` is the slot of the month's carried holding, `before` that of the awards of
-// the tier before.
-fn with_path(
-    f: &[u64],
-    h: u64,
-    p: u64,
-    carried: u64,
-    before: u64,
-    counts: bool,
-    sums: PathSums,
-) -> PathSums
-    requires { PathSummable f.now h p carried before sums }
-    ensures { result ≡ with_path f.now h p carried before counts sums }
-{
-    if !counts {
-        return sums;
-    }
-    PathSums {
-        carried: sums.carried + read(f, h, p, carried),
-        prior: sums.prior + read(f, h, p, PRIOR_ALLOCATED_SLOT),
-        tier1: sums.tier1 + read(f, h, p, AWARDS_SLOT + 1),
-        tier2: sums.tier2 + read(f, h, p, AWARDS_SLOT + 2),
-        tier3: sums.tier3 + read(f, h, p, AWARDS_SLOT + 3),
-        before: sums.before + read(f, h, p, before),
+// The two slots that a limit reads by its tier: that of the month's carried holding, and that of the awards of the tier before.
+#[derive(Clone, Copy)]
+pub struct TierSlots {
+    pub carried: u64,
+    pub before: u64,
+}
+
+impl PathSums {
+    ghost use Rattle.tier_limits.specs.PathSums.{with_path, PathSummable};
+
+    // The sums with the figures of one path more, where it counts.
+    fn with_path(self, f: &[u64], h: u64, p: u64, slots: TierSlots, counts: bool) -> PathSums
+        requires { PathSummable f.now h p slots self }
+        ensures { result ≡ with_path f.now h p slots counts self }
+    {
+        if !counts {
+            return self;
+        }
+        PathSums {
+            carried: self.carried + read(f, h, p, slots.carried),
+            prior: self.prior + read(f, h, p, PRIOR_ALLOCATED_SLOT),
+            tier1: self.tier1 + read(f, h, p, AWARDS_SLOT + 1),
+            tier2: self.tier2 + read(f, h, p, AWARDS_SLOT + 2),
+            tier3: self.tier3 + read(f, h, p, AWARDS_SLOT + 3),
+            before: self.before + read(f, h, p, slots.before),
+        }
     }
 }
 
 // The sums over all paths whose sink has this base.
-fn sum_paths(o: &[u64], f: &[u64], h: u64, base: u64, carried: u64, before: u64) -> PathSums
-    requires { PathsSummable o.now f.now h carried before }
-    ensures { result ≡ sums_to (opening_of o.entry) f.now h base carried before (opening_of o.entry).paths }
+fn sum_paths(o: &[u64], f: &[u64], h: u64, base: u64, slots: TierSlots) -> PathSums
+    requires { PathsSummable o.now f.now h slots }
+    ensures { result ≡ sums_to (opening_of o.entry) f.now h base slots (opening_of o.entry).paths }
 {
     let past = paths(o);
     let mut sums = PathSums {
@@ -77,7 +77,7 @@ fn sum_paths(o: &[u64], f: &[u64], h: u64, base: u64, carried: u64, before: u64)
     };
     for p in 0..past {
         let counts = path_base(o, p) == base;
-        sums = with_path(f, h, p, carried, before, counts, sums);
+        sums = sums.with_path(f, h, p, slots, counts);
     }
     sums
 }
@@ -92,10 +92,13 @@ fn limit_sums(o: &[u64], f: &[u64], tier: u64, h: u64, base: u64) -> Sums
     let month = carried_month(term);
     let last = tier.saturating_sub(1);
     let load = read(f, h, base, LOAD_SLOT + term);
-    let carried = CARRIED_SLOT + (month - 1);
-    let sums = sum_paths(o, f, h, base, carried, AWARDS_SLOT + last);
+    let slots = TierSlots {
+        carried: CARRIED_SLOT + (month - 1),
+        before: AWARDS_SLOT + last,
+    };
+    let sums = sum_paths(o, f, h, base, slots);
     let ten_year_kw = ten_year_in(o, f, tier, h);
-    let obaalse = holder_kind(o, h) == OBAALSE;
+    let obaalse = holder_kind(o, h) == Some(HolderKind::Obaalse);
     Sums {
         load,
         carried: sums.carried,
@@ -118,24 +121,26 @@ pub fn tier_limit(o: &[u64], f: &[u64], tier: u64, h: u64, base: u64) -> u64
     legal_settings(o).limit_of_sums(tier, sums)
 }
 
-// The first cause that a limit query meets, 0 for none.
-fn limit_refusal(o: &[u64], f: &[u64], h: u64, s: u64) -> u64
-    ensures { InFigures o.now f.now (λ O L. result ≡ query_refusal O L (limit_of h s)) }
+// Whether a limit query meets no cause, else the first that it meets.
+#[tactic(auto, using(slots::proofs::CalendarLaws::open_as_ledger), unfolding(ledger::specs::Causes::query_refusal, ledger::specs::Causes::query_causes, ledger::specs::Causes::limit_causes, ledger::specs::Numbers::first_met))]
+fn check_limit(o: &[u64], f: &[u64], h: u64, s: u64) -> Result<(), Refusal>
+    ensures { InFigures o.now f.now (λ O L. refused_by result ≡ query_refusal O L (limit_of h s)) }
 {
-    let unknown = unknown_holder(o, h) | unknown_sink(o, s);
-    let idle = !tier_is_open(current_tier(f));
-    refuse(NOT_IN_BOOK, unknown, refuse(NOT_AT_THIS_TIME, idle, 0))
+    if unknown_holder(o, h) || unknown_sink(o, s) {
+        return Err(Refusal::NotInBook);
+    }
+    if !calendar(f).tier_is_open() {
+        return Err(Refusal::NotAtThisTime);
+    }
+    Ok(())
 }
 
 // A holder's limit at a sink's base in the open tier.
-pub fn limit(o: &[u64], f: &[u64], h: u64, s: u64) -> Answer
+pub fn limit(o: &[u64], f: &[u64], h: u64, s: u64) -> Result<u64, Refusal>
     requires { ReachableFigures o.now f.now }
     ensures { InFigures o.now f.now (λ O L. result ≡ query_answer O L (limit_of h s)) }
 {
-    let number = limit_refusal(o, f, h, s);
-    if number != 0 {
-        return Answer::Refused(number);
-    }
+    check_limit(o, f, h, s)?;
     let base = sink_base(o, s);
-    Answer::Value(tier_limit(o, f, current_tier(f), h, base))
+    Ok(tier_limit(o, f, current_tier(f), h, base))
 }

@@ -18,9 +18,7 @@ pub fn has_ten_year(o: &[u64], f: &[u64], h: u64, s: u64) -> bool
     requires { SourceInputs o.now f.now h s }
     ensures { InFigures o.now f.now (λ O L. result ≡ has_ten_year L h s) }
 {
-    let ownership = read(f, h, s, TEN_YEAR_SLOT) == 1;
-    let contract = read(f, h, s, TEN_YEAR_SLOT + 1) == 1;
-    ownership | contract
+    read(f, h, s, TEN_YEAR_SLOT) == 1 || read(f, h, s, TEN_YEAR_SLOT + 1) == 1
 }
 
 // What a holder's ten-year evidence comes to at a source: ownership and contract add.

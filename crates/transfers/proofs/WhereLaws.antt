@@ -13,10 +13,6 @@ use Rattle.transfers.specs.Transfers.{column_where}
 use Rattle.transfers.proofs.ColumnLaws.{transferred_long, transferred_then}
 
 module _ (column : (ℕ → ℕ) → ℕ → ℕ) where
-  where-on : (test : ℕ → ℕ → Bool) (p slot : ℕ) (v : ℕ → ℕ) (h : ℕ) → test p slot ≡ true → column_where test column p slot v h ≡ column v h
-  unfolding column_where
-  where-on test p slot v h e = ap (λ t. cond t (column v h) (v h)) e
-
   pub where_off : (test : ℕ → ℕ → Bool) (p slot : ℕ) (v : ℕ → ℕ) (h : ℕ) → test p slot ≡ false → column_where test column p slot v h ≡ v h
   unfolding column_where
   where_off test p slot v h e = ap (λ t. cond t (column v h) (v h)) e

@@ -9,7 +9,7 @@ use native.Mathlib.Omega.{arith}
 use lib.ListN.{take, drop}
 use lib.Dec.{eqb}
 use borrow.Author.Tests.{eq-eqb, ne_eqb, eqb-true, eqb-false}
-use Rattle.std.specs.Prelude.{Ok, Err}
+use Rattle.std.specs.Prelude.{Ok}
 use Rattle.source_evidence.specs.declared.evidence.Entry.{Entry}
 use Rattle.source_evidence.specs.declared.filing.Filing.{Filing}
 use Rattle.source_evidence.specs.declared.filing.Filed.{Filed}
@@ -17,7 +17,7 @@ use Rattle.tariff.specs.Sizes.{terms, ownership, contract, evidence_kinds}
 use Rattle.source_evidence.specs.Evidence.{empty_entry, entry_of, is_ten_year}
 use Rattle.source_evidence.specs.Filing.{is_out_of_range, filed_of, filing_outcome}
 use Rattle.source_evidence.specs.Kind.{number_of, index_of, kind_of}
-use Rattle.verify.specs.Decision.{verify_of, decision}
+use Rattle.verify.specs.Asked.{verify_of}
 use Rattle.source_evidence.proofs.EvidenceRange.{evidence_facts}
 use Rattle.tariff.proofs.Tests.{decided, and_right_false}
 use Rattle.ledger.specs.Opening.{Opening}
@@ -25,11 +25,9 @@ use Rattle.ledger.specs.Ledger.{Ledger, with_evidence}
 use Rattle.ledger.specs.Call.{Call}
 use Rattle.ledger.specs.Causes.{refusal}
 use Rattle.ledger.specs.Effects.{same2, same3, after_verify, effect}
-use Rattle.ledger.specs.Season.{accepted}
 use Rattle.ledger.specs.Season as season
 use Rattle.ledger.proofs.Steps.{step_accepted}
 use Rattle.ledger.proofs.PostingFacts.{VerifyFacts, verify_facts}
-use Rattle.records.specs.declared.answers.Answer.TheVariants.{Done}
 use Rattle.records.specs.Opening.{opening_in}
 use Rattle.slots.specs.Cells.{HasCell, look_at, stored_at, Shows}
 use Rattle.slots.specs.Groups.{SlotGroup, slot_group, slots_of, in_slot}
@@ -40,18 +38,9 @@ use Rattle.slots.proofs.CellLaws.{array_shows, shown_is}
 use Rattle.slots.proofs.PostedLaws.{posted_number}
 use Rattle.slots.proofs.StoreLaws.{StoredIn, slot_stored, number_posted}
 use Rattle.slots.proofs.Reachable.{counts, figures_shown, posted_shown, evidence_known}
-use Rattle.slots.proofs.StepLaws.{steps_accepted}
+use Rattle.slots.proofs.StepLaws.{accepted_test, steps_accepted}
 use Rattle.verify.specs.StoredEntry.{stored_by_term, stored_entry}
 use Rattle.verify.proofs.TermLaws.{terms_stored}
-
--- what a decision says: a filing is accepted and files its entry under its kind, or it is refused
-pub decided_ok : (O : Opening) (L : Ledger) (h s : ℕ) (f : Filing) (filed : Filed) → Ok filed ≡ decision O L h s f → (accepted O L (verify_of h s f) ≡ true) × (filed ≡ filed_of f)
-unfolding decision
-decided_ok O L h s f filed e = (grind arith, grind arith)
-
-pub decided_err : (O : Opening) (L : Ledger) (h s : ℕ) (f : Filing) (number : ℕ) → Err number ≡ decision O L h s f → (number ≡ refusal O L (verify_of h s f)) × (number ≡ 0 → ⊥)
-unfolding decision accepted
-decided_err O L h s f number e = (grind arith, λ z. grind arith)
 
 -- the kind that a number in range names has that number
 kind_numbered : (number : ℕ) → 1 ≤ number → number ≤ 2 → number_of (kind_of number) ≡ number
@@ -90,7 +79,7 @@ posted_as m h s f filed e =
     ∙ ap (λ n. look_at posted_slots false m h s (evidence_posted_slot + (n - ownership))) (kind_numbered f.kind range.0 range.1)
     ∙ posted_number m h s evidence_posted_slot evidence_kinds 1 f.kind (omega arith) range.0 (omega arith)
 
-module _ (o f : List ℕ) (m : List Bool) (x : List Entry) (h s : ℕ) (filing : Filing) (filed_as : Filed) (r : Reachable o f m x) (d : Ok filed_as ≡ decision (opening_in o) (ledger_in f m x) h s filing) where
+module _ (o f : List ℕ) (m : List Bool) (x : List Entry) (h s : ℕ) (filing : Filing) (filed_as : Filed) (r : Reachable o f m x) (unmet : 0 ≡ refusal (opening_in o) (ledger_in f m x) (verify_of h s filing)) (files : filed_as ≡ filed_of filing) where
   abbrev O : Opening
   O = opening_in o
 
@@ -106,11 +95,8 @@ module _ (o f : List ℕ) (m : List Bool) (x : List Entry) (h s : ℕ) (filing :
   abbrev filed : Entry
   filed = entry_of filing.kind filing.capacity filing.right filing.first filing.last filing.mark
 
-  is_accepted : accepted O L call ≡ true
-  is_accepted = (decided_ok O L h s filing filed_as d).0
-
   facts : VerifyFacts O L h s filing.kind filing.capacity filing.right filing.first filing.last filing.mark
-  facts = verify_facts O L h s filing.kind filing.capacity filing.right filing.first filing.last filing.mark is_accepted
+  facts = verify_facts O L h s filing.kind filing.capacity filing.right filing.first filing.last filing.mark (accepted_test O L call unmet)
 
   -- the kind is 1 or 2
   verify_kinds : (1 ≤ kind) × (kind ≤ 2)
@@ -118,11 +104,11 @@ module _ (o f : List ℕ) (m : List Bool) (x : List Entry) (h s : ℕ) (filing :
 
   slot_is : index_of filed_as.kind ≡ kind - 1
   unfolding filed_of
-  slot_is = ap (λ y. index_of y.kind) (decided_ok O L h s filing filed_as d).1 ∙ ap (λ n. n - ownership) (kind_numbered kind verify_kinds.0 verify_kinds.1)
+  slot_is = ap (λ y. index_of y.kind) files ∙ ap (λ n. n - ownership) (kind_numbered kind verify_kinds.0 verify_kinds.1)
 
   entry_is : filed_as.entry ≡ filed
   unfolding filed_of
-  entry_is = ap (λ y. y.entry) (decided_ok O L h s filing filed_as d).1
+  entry_is = ap (λ y. y.entry) files
 
   holder : h < 8
   holder = le_trans facts.holder (counts o f m x r).0
@@ -200,16 +186,15 @@ module _ (o f : List ℕ) (m : List Bool) (x : List Entry) (h s : ℕ) (filing :
       evidence-shown)
 
   same : season.step O L call ≡ effect O L call
-  same = step_accepted O L call is_accepted
+  same = step_accepted O L call (accepted_test O L call unmet)
 
   -- the entry is filed, whatever evidence the book has
   pub decided_filed : (x' : List Entry) → x' ≡ stored_at evidence_slots x h s (index_of filed_as.kind) filed_as.entry → x' ≡ evidence_of (season.step O L call)
   decided_filed x' e = entered x' (e ∙ (λ i. stored_at evidence_slots x h s (slot_is i) (entry_is i))) ∙ ap evidence_of (sym same)
 
-  pub decided_steps : (f' : List ℕ) (m' : List Bool) → f' ≡ stored_entry f h s (index_of filed_as.kind) filed_as.entry → m' ≡ stored_at posted_slots m h s (evidence_posted_slot + index_of filed_as.kind) true → Steps O L call Done f' m' (evidence_of (season.step O L call))
-  unfolding accepted
+  pub decided_steps : (f' : List ℕ) (m' : List Bool) → f' ≡ stored_entry f h s (index_of filed_as.kind) filed_as.entry → m' ≡ stored_at posted_slots m h s (evidence_posted_slot + index_of filed_as.kind) true → Steps O L call (Ok tt) f' m' (evidence_of (season.step O L call))
   decided_steps f' m' of_figures of_posted =
-      steps_accepted O L call (refusal O L call) refl f' m' (evidence_of (season.step O L call)) (eqb-true (refusal O L call) 0 is_accepted)
+      steps_accepted O L call unmet f' m' (evidence_of (season.step O L call))
       (verified f' (of_figures ∙ (λ i. stored_entry f h s (slot_is i) (entry_is i))))
       (noted m' (of_posted ∙ (λ i. stored_at posted_slots m h s (evidence_posted_slot + slot_is i) true)))
       (ap evidence_of same)

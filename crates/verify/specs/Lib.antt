@@ -1,3 +1,3 @@
--- What a filing comes to in a book, and what is stored of an entry.
-pub mod Decision
+-- The verify that a filing asks for, and what is stored of an entry.
+pub mod Asked
 pub mod StoredEntry

@@ -1,19 +1,20 @@
 // Verify: evidence for a source (01, Posting, Verify).
-ghost use Rattle.std.specs.Prelude.{◌≡◌, ◌+◌, true, length};
+ghost use Rattle.std.specs.Prelude.{◌≡◌, ◌+◌, true, length, IfOk};
+ghost use Rattle.source_evidence.specs.Filing.{filed_of};
 ghost use Rattle.source_evidence.specs.Kind.{index_of};
+ghost use Rattle.ledger.specs.Causes.{refusal};
 ghost use Rattle.slots.specs.Cells.{HasCell, stored_at};
 ghost use Rattle.slots.specs.Layout.{figure_count, posted_slots, posted_count, evidence_slots, evidence_posted_slot, ledger_in};
 ghost use Rattle.slots.specs.Steps.{Reachable, ReachablePostings, InPostings, EvidenceStep, Steps};
 ghost use Rattle.records.specs.Opening.{opening_of};
-ghost use Rattle.verify.specs.Decision.{verify_of, decision};
+ghost use Rattle.records.specs.Refusals.{refused_by};
+ghost use Rattle.verify.specs.Asked.{verify_of};
 ghost use Rattle.verify.specs.StoredEntry.{stored_by_term, HasTerms, stored_entry};
 
-use records::answers::Answer;
-use records::calendar::tier_is_open;
-use records::numbers::{NOT_AT_THIS_TIME, NOT_IN_BOOK, OUT_OF_RANGE, POSTED_BEFORE};
+use records::refusal::Refusal;
 use records::setup::{unknown_holder, unknown_source};
 use records::sums::when_true;
-use slots::calendar::current_tier;
+use slots::calendar::calendar;
 use slots::cells::{cell, is_posted, set_posted, store};
 use slots::coverage::coverage;
 use slots::layout::{
@@ -24,23 +25,29 @@ use source_evidence::filing::{Filed, Filing};
 use source_evidence::kind::EvidenceKind;
 use tariff::sizes::TERMS;
 
-// What a filing files, or the number of the first cause that it meets.
-#[tactic(auto, unfolding(crate::specs::Decision::decision, ledger::specs::Season::accepted, ledger::specs::Causes::refusal, ledger::specs::Causes::call_causes, ledger::specs::Causes::verify_causes, ledger::specs::Numbers::first_met, ledger::specs::Calendar::tier_is_open, slots::specs::Layout::ledger_in, source_evidence::specs::Filing::filing_outcome))]
-fn decide(o: &[u64], f: &[u64], m: &[bool], h: u64, s: u64, filing: Filing) -> Result<Filed, u64>
+// What a filing files, or the first cause that it meets.
+#[tactic(auto, using(slots::proofs::CalendarLaws::open_as_ledger, crate::proofs::VerifyLaws::posted_as), unfolding(ledger::specs::Causes::refusal, ledger::specs::Causes::call_causes, ledger::specs::Causes::verify_causes, ledger::specs::Numbers::first_met, slots::specs::Layout::ledger_in, source_evidence::specs::Filing::filing_outcome))]
+fn decide(
+    o: &[u64],
+    f: &[u64],
+    m: &[bool],
+    h: u64,
+    s: u64,
+    filing: Filing,
+) -> Result<Filed, Refusal>
     requires { ReachablePostings o.now f.now m.now }
-    ensures { InPostings o.now f.now m.now (λ O L. result ≡ decision O L h s filing) }
+    ensures refused { InPostings o.now f.now m.now (λ O L. refused_by result ≡ refusal O L (verify_of h s filing)) }
+    ensures filed { IfOk result (λ filed. filed ≡ filed_of filing) }
 {
     if unknown_holder(o, h) || unknown_source(o, s) {
-        return Err(NOT_IN_BOOK);
+        return Err(Refusal::NotInBook);
     }
-    let Ok(filed) = filing.filed() else {
-        return Err(OUT_OF_RANGE);
-    };
-    if tier_is_open(current_tier(f)) {
-        return Err(NOT_AT_THIS_TIME);
+    let filed = filing.filed()?;
+    if calendar(f).tier_is_open() {
+        return Err(Refusal::NotAtThisTime);
     }
     if is_posted(m, h, s, EVIDENCE_POSTED_SLOT + filed.kind.index()) {
-        return Err(POSTED_BEFORE);
+        return Err(Refusal::PostedBefore);
     }
     Ok(filed)
 }
@@ -91,17 +98,20 @@ fn file(evidence: &mut [Entry; EVIDENCE_COUNT], h: u64, s: u64, filed: Filed)
 }
 
 // Posts evidence of a holder for a source: its coverage of each term and whether it is ten-year evidence is stored, and it is noted as posted.
-pub fn verify(o: &[u64], f: &mut [u64], m: &mut [bool], h: u64, s: u64, filing: Filing) -> Answer
+pub fn verify(
+    o: &[u64],
+    f: &mut [u64],
+    m: &mut [bool],
+    h: u64,
+    s: u64,
+    filing: Filing,
+) -> Result<(), Refusal>
     requires { ReachablePostings o.now f.old m.old }
     ensures { EvidenceStep o.now f.old m.old (verify_of h s filing) result f.new m.new }
 {
-    match decide(o, f, m, h, s, filing) {
-        Ok(filed) => {
-            post(f, m, h, s, filed);
-            Answer::Done
-        }
-        Err(number) => Answer::Refused(number),
-    }
+    let filed = decide(o, f, m, h, s, filing)?;
+    post(f, m, h, s, filed);
+    Ok(())
 }
 
 // Posts evidence and files its entry among the book's.
@@ -113,16 +123,12 @@ pub fn verify_and_file(
     h: u64,
     s: u64,
     filing: Filing,
-) -> Answer
+) -> Result<(), Refusal>
     requires { Reachable o.now f.old m.old evidence.old }
     ensures { Steps (opening_of o.entry) (ledger_in f.old m.old evidence.old) (verify_of h s filing) result f.new m.new evidence.new }
 {
-    match decide(o, f, m, h, s, filing) {
-        Ok(filed) => {
-            post(f, m, h, s, filed);
-            file(evidence, h, s, filed);
-            Answer::Done
-        }
-        Err(number) => Answer::Refused(number),
-    }
+    let filed = decide(o, f, m, h, s, filing)?;
+    post(f, m, h, s, filed);
+    file(evidence, h, s, filed);
+    Ok(())
 }

@@ -2,14 +2,15 @@
 use native.Mathlib.Omega.{arith}
 use lib.ListN.{length-set}
 use Rattle.tariff.specs.Terms.{is_long_term_step}
+use Rattle.std.proofs.lemmas.Result.{err_from_is_err_and}
 use Rattle.slots.proofs.Reachable.{figures_long}
 use Rattle.slots.proofs.StepLaws.{steps_refused}
 use Rattle.awards.proofs.OpenCloseLaws.{open_steps}
 use borrow.Author.Rules.{rules}
 use Rattle.awards.proofs.open_close.open_tier.Goals as goal
 
-pub returns-then-number-ne0 : goal.returns-then-number-ne0
-returns-then-number-ne0 c = λ o m x r. steps_refused o _ m x _ _ (c.open_refusal-number.ensures _ m x) r c.if-number-ne0.true
+pub returns-in_err-check_open : goal.returns-in_err-check_open
+returns-in_err-check_open c = λ o m x r. let p = err_from_is_err_and c.from_residual.result c.from_residual.ensures.1 in rw (p.1, p.2) (steps_refused o _ m x _ _ (c.in_err-check_open.ensures _ m x) r)
 
 pub clear-requires : goal.clear-requires
 clear-requires c = let long = figures_long _ _ _ _ c.requires.reachable in search rules
@@ -22,4 +23,4 @@ bounds-f-4354 c = let long = figures_long _ _ _ _ c.requires.reachable in simp l
 
 pub returns : goal.returns
 unfolding is_long_term_step
-returns c = λ o m x r. open_steps o _ _ m x _ r c.if-number-ne0.false c.clear.ensures _ (c.open_refusal-number.ensures _ m x) _ _ c.step_held.ensures c.when_true-held.ensures
+returns c = λ o m x r. open_steps o _ _ m x r c.clear.ensures _ (c.in_ok-check_open.ensures _ m x) _ _ c.calendar.ensures c.when_true-held.ensures

@@ -9,16 +9,10 @@ pub slice_bounds-open-end : goal.slice_bounds-open-end
 slice_bounds-open-end c = lent_long _ _ c.lent_length-holders.ensures _ c.requires.lists.of_holder_kinds
 
 pub slice_bounds-open-end-2 : goal.slice_bounds-open-end-2
-slice_bounds-open-end-2 c = lent_long _ _ c.lent_length-sinks.ensures _ c.requires.lists.of_sink_kinds
+slice_bounds-open-end-2 c = lent_long _ _ c.lent_length-sinks.ensures _ c.requires.lists.of_sink_lines
 
 pub slice_bounds-open-end-3 : goal.slice_bounds-open-end-3
-slice_bounds-open-end-3 c = lent_long _ _ c.lent_length-sinks.ensures _ c.requires.lists.of_sink_parents
-
-pub slice_bounds-open-end-4 : goal.slice_bounds-open-end-4
-slice_bounds-open-end-4 c = lent_long _ _ c.lent_length-paths.ensures _ c.requires.lists.of_path_sources
-
-pub slice_bounds-open-end-5 : goal.slice_bounds-open-end-5
-slice_bounds-open-end-5 c = lent_long _ _ c.lent_length-paths.ensures _ c.requires.lists.of_path_sinks
+slice_bounds-open-end-3 c = lent_long _ _ c.lent_length-paths.ensures _ c.requires.lists.of_path_lines
 
 pub returns : goal.returns
 returns c =

@@ -5,7 +5,7 @@ use Rattle.tariff.proofs.Tests.{and_join, and_left_false, and_right_false}
 use Rattle.lines.specs.declared.rows.LineKind.TheVariants.{Book}
 use Rattle.lines.specs.Rows.{same_kind}
 use Rattle.lines.proofs.KindLaws.{kinds_compared}
-use Rattle.counted_lines.proofs.PairLaws.{here_within}
+use Rattle.counted_lines.proofs.LineBytes.{here_within}
 use Rattle.book_group.proofs.CutLists.{full_lists}
 use Rattle.book_group.proofs.BookGroupLaws.{after_head, lists_fit_lem, group_opened, opening_put, group_refused, opening_stays, whole_group, whole_opening}
 use borrow.Author.Rules.{rules}
@@ -29,8 +29,7 @@ returns-then-eq c =
     let first = c.next_row-first in
     let lists = c.read_book_lines-lists in
     let readable = and_join c.if-lists.true (sym (c.if-eq.ensures ∙ kinds_compared first.result.row.kind Book)) in
-    let opened = c.open_from_lists-answer.ensures in
-    let done = c.is_done-is_open in record { group = group_opened first.result.row _ lists.result lists.ensures readable first.result.consumed _ done.result opened.answer done.ensures ∙ whole_group _ first.result first.ensures; opening = opening_put first.result.row _ lists.result lists.ensures readable _ _ opened.opening ∙ whole_opening _ _ first.result first.ensures }
+    let opened = c.open_from_lists-answer.ensures in record { group = group_opened first.result.row _ lists.result lists.ensures readable first.result.consumed _ opened.answer ∙ whole_group _ first.result first.ensures; opening = opening_put first.result.row _ lists.result lists.ensures readable _ _ opened.opening ∙ whole_opening _ _ first.result first.ensures }
 
 pub returns : goal.returns
 returns c =

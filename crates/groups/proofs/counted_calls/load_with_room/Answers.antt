@@ -1,5 +1,5 @@
 -- `groups::counted_calls::load_with_room` meets its contract: the lines are read, and the load put to the book if they are complete. Assumes nothing.
-use Rattle.std.proofs.Common.{ap, ◌∙◌, arith}
+use Rattle.std.proofs.Common.{refl, ap, ◌∙◌, arith}
 use borrow.Author.Tests.{not-true, not-false}
 use Rattle.ledger.specs.Call.{load}
 use Rattle.book.specs.Reading.{book_in}
@@ -7,9 +7,8 @@ use Rattle.book.specs.Outcomes.{outcome_of}
 use Rattle.book.proofs.OutcomeBooks.{outcome_book}
 use Rattle.lines.specs.Rows.{field}
 use Rattle.counted_lines.specs.Counted.{block_of}
-use Rattle.groups.specs.Outcome.{outcome_of_group}
 use Rattle.groups.proofs.OutcomeLaws.{fits_counted, count_fits, lines_are, outcome_bytes, incomplete_outcome, complete_outcome, load_counts}
-use Rattle.groups.proofs.HeadLaws.{load_request}
+use Rattle.groups.proofs.HeadLaws.{load_request, by_call, answers_as}
 use Rattle.groups.proofs.counted_calls.load_with_room.Goals as goal
 
 pub whole_as_slice-read_counted : goal.whole_as_slice-read_counted
@@ -25,19 +24,22 @@ unfolding field
 returns-then-not-read-clause-consumed g c =
     outcome_bytes _ _ _ _ _ _ c.read_counted-read.ensures.counted (load_counts _ c.requires.load) (load_request _ _ c.requires.load)
 
-pub shared_whole_as_front-posted : goal.shared_whole_as_front-posted
+pub shared_whole_as_front-metered : goal.shared_whole_as_front-metered
 unfolding field
-shared_whole_as_front-posted g c =
+shared_whole_as_front-metered g c =
     let few = c.requires.few in
     (count_fits _ _ _ _ c.read_counted-read.ensures.counted (not-false _ c.if-not-read.false) _ (fits_counted _ _ _ (load_counts _ c.requires.load) _ c.requires.room), omega arith)
 
 pub returns-clause-answer : goal.returns-clause-answer
-unfolding field outcome_of_group
+unfolding field
 returns-clause-answer g c x k =
     complete_outcome _ _ _ _ _ _ c.read_counted-read.ensures.counted (load_counts _ c.requires.load) (load_request _ _ c.requires.load) _ (not-false _ c.if-not-read.false) _ _
-    (outcome_book _ _ _ _ _ _ _ _ _ (c.load-answer.ensures x k)
+    (answers_as _ _ _ _ _ c.of_call.ensures
+    (by_call _ _ _ _ _
+    (outcome_book _ _ _ _ _ _ _ _ _ (c.load-called.ensures x k)
     ∙ ap (λ blocks. outcome_of (book_in c.args.o.now c.args.f.now c.args.m.now x) (load (field 0 c.args.head) (field 1 c.args.head) (field 2 c.args.head) (field 3 c.args.head) (field 4 c.args.head) blocks))
     (lines_are _ _ _ _ c.read_counted-read.ensures.counted (not-false _ c.if-not-read.false) block_of _ _ _ (fits_counted _ _ _ (load_counts _ c.requires.load) _ c.requires.room) c.read_counted-read.ensures.kept))
+    refl))
 
 pub returns-clause-consumed : goal.returns-clause-consumed
 unfolding field

@@ -10,5 +10,5 @@ use Rattle.heads.proofs.heads.run_verify.Goals as goal
 pub returns : goal.returns
 unfolding field head_group
 returns c =
-    let one = c.of_one_line.ensures in
+    let one = c.of_call_line.ensures in
     let kind = c.requires.verify in record { answer = λ rest x k. answers_one_line _ _ one _ _ _ (beside_evidence _ _ _ _ _ _ _ (by_call _ _ _ _ _ (outcome_book _ _ _ _ _ _ _ _ _ (c.verify.ensures x k)) (verify_request _ _ kind))); consumed = λ rest. bytes_one_line _ _ one _ _ (kind_counts _ _ _ kind refl refl) }

@@ -1,16 +1,18 @@
 -- `load::load::load` meets its contract: a refusal leaves the arrays, and an accepted load adds to the load of its term and is noted. Assumes nothing.
 use native.Mathlib.Omega.{arith}
-use Rattle.load.proofs.LoadSteps.{load_refused, room_in_load, posted_cell, load_accepted}
+use Rattle.std.proofs.lemmas.Result.{err_from_is_err_and}
+use Rattle.slots.proofs.StepLaws.{steps_refused}
+use Rattle.load.proofs.LoadLaws.{load_room, load_cell, load_steps}
 use Rattle.load.proofs.load.load.Goals as goal
 
+pub returns-in_err-kw : goal.returns-in_err-kw
+returns-in_err-kw c x r = let p = err_from_is_err_and c.from_residual.result c.from_residual.ensures.1 in rw (p.1, p.2) (steps_refused _ _ _ x _ _ (c.in_err-kw.ensures.refused x r) r)
+
 pub add-requires : goal.add-requires
-add-requires c = room_in_load _ _ _ _ _ _ _ _ _ _ _ c.requires.reachable (c.load_posting.ensures _ c.requires.reachable) _ c.in-Kw.is _ (omega arith)
+add-requires c = load_room _ _ _ _ _ _ _ _ _ _ _ c.requires.reachable (c.in_ok-kw.ensures.refused _ c.requires.reachable) c.in_ok-kw.ensures.posted _ (omega arith)
 
 pub set_posted-requires : goal.set_posted-requires
-set_posted-requires c = posted_cell _ _ _ _ _ _ _ _ _ _ _ c.requires.reachable (c.load_posting.ensures _ c.requires.reachable) _ c.in-Kw.is _ (omega arith)
+set_posted-requires c = load_cell _ _ _ _ _ _ _ _ _ _ _ c.requires.reachable (c.in_ok-kw.ensures.refused _ c.requires.reachable) c.in_ok-kw.ensures.posted _ (omega arith)
 
-pub returns-in-Refused : goal.returns-in-Refused
-returns-in-Refused c x r = load_refused _ _ _ x _ _ _ _ _ _ _ r (c.load_posting.ensures x r) _ c.in-Refused.is
-
-pub returns-in-Kw : goal.returns-in-Kw
-returns-in-Kw c x r = load_accepted _ _ _ x _ _ _ _ _ _ _ r (c.load_posting.ensures x r) _ c.in-Kw.is _ _ c.add.ensures c.set_posted.ensures
+pub returns : goal.returns
+returns c x r = load_steps _ _ _ x _ _ _ _ _ _ _ r (c.in_ok-kw.ensures.refused x r) c.in_ok-kw.ensures.posted _ _ c.add.ensures c.set_posted.ensures

@@ -1,7 +1,7 @@
--- `opening::lists::copy_into` meets its contract: what stands in front is the list's, and behind it 0. Assumes nothing.
-use Rattle.std.proofs.Common.{rules}
-use Rattle.opening.proofs.KeptArray.{copied_in}
+-- `opening::lists::copy_into` meets its contract: at the end every place holds the number of its line, or 0. Assumes nothing.
+use Rattle.std.proofs.Common.{map, get_or, arith}
+use Rattle.tariff.proofs.Lists.{list_is}
 use Rattle.opening.proofs.lists.copy_into.Goals as goal
 
 pub returns : goal.returns
-returns c = copied_in c.args.to.now c.args.from.now _ _ _ _ c.min-n.ensures c.copy_from_slice.ensures.after c.split_at_mut-front.ensures.back_len (c.fill.ensures.after (λ y same. search rules))
+returns g c = λ on_line is. list_is _ (λ k. get_or (map on_line c.args.from.now) k 0) c.loop-k.to (omega arith) (λ k l. c.loop-k.invariant on_line is k (omega arith))

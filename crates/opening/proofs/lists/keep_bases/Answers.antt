@@ -10,5 +10,5 @@ use Rattle.opening.proofs.lists.keep_bases.Goals as goal
 pub returns : goal.returns
 returns c =
     let o = c.args.o.now in
-    let found = c.path_bases-bases.ensures in
-    bases_stored o _ _ (search rules) (ap length found ∙ bases_many o) c.copy_into.ensures ∙ ap (λ bases. take bases_at o ++ bases) found
+    let found = c.copy_from_slice.ensures.after ∙ c.path_bases-bases.ensures in
+    bases_stored o _ (search rules) (ap length found ∙ bases_many o) ∙ ap (λ bases. take bases_at o ++ bases) found

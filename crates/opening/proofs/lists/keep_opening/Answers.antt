@@ -1,26 +1,19 @@
 -- `opening::lists::keep_opening` meets its contract: the counts are stored, and each list is copied in after what stands there. Assumes nothing.
-use mathlib.Core.Path.{sym, ◌∙◌}
-use native.Mathlib.Omega.{arith}
-use Rattle.opening.proofs.KeptArray.{counted_size, size_1, size_2, size_3, size_4, size_5, opening_kept_lem}
+use mathlib.Core.Path.{ap, ◌∙◌}
+use mathlib.Core.List.{map}
+use Rattle.std.proofs.lemmas.List.{map-id}
+use Rattle.records.specs.Opening.{with_room}
+use borrow.Author.Rules.{rules}
+use Rattle.opening.proofs.KeptArray.{opening_kept_lem}
 use Rattle.opening.proofs.lists.keep_opening.Goals as goal
 
-pub slice_bounds-copy_into-end : goal.slice_bounds-copy_into-end
-slice_bounds-copy_into-end c = let size = counted_size c.args.o.now c.requires c.args.setup.holders c.args.setup.sources c.args.setup.sinks c.args.setup.paths in omega arith
-
-pub slice_bounds-copy_into-end-2 : goal.slice_bounds-copy_into-end-2
-slice_bounds-copy_into-end-2 c = let size = size_1 c.args.o.now c.requires c.args.setup.holders c.args.setup.sources c.args.setup.sinks c.args.setup.paths c.args.setup.holder_kinds.now _ c.copy_into.ensures in omega arith
-
-pub slice_bounds-copy_into-end-3 : goal.slice_bounds-copy_into-end-3
-slice_bounds-copy_into-end-3 c = let size = size_2 c.args.o.now c.requires c.args.setup.holders c.args.setup.sources c.args.setup.sinks c.args.setup.paths c.args.setup.holder_kinds.now _ c.copy_into.ensures c.args.setup.sink_kinds.now _ c.copy_into-2.ensures in omega arith
-
-pub slice_bounds-copy_into-end-4 : goal.slice_bounds-copy_into-end-4
-slice_bounds-copy_into-end-4 c = let size = size_3 c.args.o.now c.requires c.args.setup.holders c.args.setup.sources c.args.setup.sinks c.args.setup.paths c.args.setup.holder_kinds.now _ c.copy_into.ensures c.args.setup.sink_kinds.now _ c.copy_into-2.ensures c.args.setup.sink_parents.now _ c.copy_into-3.ensures in omega arith
-
-pub slice_bounds-copy_into-end-5 : goal.slice_bounds-copy_into-end-5
-slice_bounds-copy_into-end-5 c = let size = size_4 c.args.o.now c.requires c.args.setup.holders c.args.setup.sources c.args.setup.sinks c.args.setup.paths c.args.setup.holder_kinds.now _ c.copy_into.ensures c.args.setup.sink_kinds.now _ c.copy_into-2.ensures c.args.setup.sink_parents.now _ c.copy_into-3.ensures c.args.setup.path_sources.now _ c.copy_into-4.ensures in omega arith
-
-pub shape_of-o : goal.shape_of-o
-shape_of-o c = size_5 c.args.o.now c.requires c.args.setup.holders c.args.setup.sources c.args.setup.sinks c.args.setup.paths c.args.setup.holder_kinds.now _ c.copy_into.ensures c.args.setup.sink_kinds.now _ c.copy_into-2.ensures c.args.setup.sink_parents.now _ c.copy_into-3.ensures c.args.setup.path_sources.now _ c.copy_into-4.ensures c.args.setup.path_sinks.now _ c.copy_into-5.ensures ∙ sym c.requires
-
 pub returns : goal.returns
-returns c = opening_kept_lem c.args.o.now c.requires c.args.setup.holders c.args.setup.sources c.args.setup.sinks c.args.setup.paths c.args.setup.holder_kinds.now _ c.copy_into.ensures c.args.setup.sink_kinds.now _ c.copy_into-2.ensures c.args.setup.sink_parents.now _ c.copy_into-3.ensures c.args.setup.path_sources.now _ c.copy_into-4.ensures c.args.setup.path_sinks.now _ c.copy_into-5.ensures c.args.setup.settings
+returns c =
+    let s = c.args.setup in
+    opening_kept_lem c.args.o.now c.requires s.holders s.sources s.sinks s.paths
+    s.holder_kinds.now c.copy_into.new.to (c.copy_into.ensures (λ kind. kind) (λ line r called. search rules) ∙ ap (with_room _) (map-id s.holder_kinds.now))
+    (map (λ line. line.kind) s.sink_lines.now) c.copy_into-2.new.to (c.copy_into-2.ensures (λ line. line.kind) (λ line r called. search rules))
+    (map (λ line. line.parent) s.sink_lines.now) c.copy_into-3.new.to (c.copy_into-3.ensures (λ line. line.parent) (λ line r called. search rules))
+    (map (λ line. line.source) s.path_lines.now) c.copy_into-4.new.to (c.copy_into-4.ensures (λ line. line.source) (λ line r called. search rules))
+    (map (λ line. line.sink) s.path_lines.now) c.copy_into-5.new.to (c.copy_into-5.ensures (λ line. line.sink) (λ line r called. search rules))
+    s.settings

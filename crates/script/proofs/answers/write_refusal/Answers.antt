@@ -1,6 +1,6 @@
 -- `answers::write_refusal` meets its contract. Assumes nothing.
 use Prim.Native.Nat.{ℕ, ◌/◌, ◌%◌}
-use mathlib.Core.Path.{◌≡◌}
+use mathlib.Core.Path.{◌≡◌, ap, ◌∙◌}
 use mathlib.Core.List.{[], ◌∷◌}
 use borrow.Author.Rules.{rules}
 use Rattle.ledger.specs.Season.{refused}
@@ -9,9 +9,9 @@ use Rattle.lines.proofs.WritingLaws.{written_as}
 use Rattle.script.specs.Answers.{text_of}
 use Rattle.script.proofs.answers.write_refusal.Goals as goal
 
-line-is : (number tens ones : ℕ) → tens ≡ digit (number / 10 % 10) → ones ≡ digit (number % 10) → 110 ∷ 111 ∷ 44 ∷ tens ∷ ones ∷ 10 ∷ [] ≡ text_of (refused number)
+line-is : (number told tens ones : ℕ) → told ≡ number → tens ≡ digit (told / 10 % 10) → ones ≡ digit (told % 10) → 110 ∷ 111 ∷ 44 ∷ tens ∷ ones ∷ 10 ∷ [] ≡ text_of (refused number)
 unfolding text_of bytes_of
-line-is number tens ones t o = λ i. 110 ∷ 111 ∷ 44 ∷ t i ∷ o i ∷ 10 ∷ []
+line-is number told tens ones same t o = (λ i. 110 ∷ 111 ∷ 44 ∷ t i ∷ o i ∷ 10 ∷ []) ∙ ap (λ n. text_of (refused n)) same
 
 pub write_bytes-requires : goal.write_bytes-requires
 unfolding text_of bytes_of
@@ -22,5 +22,5 @@ returns c =
     let wrote = c.write_bytes in
     let ones = c.digit_byte-ones in
     let tens = c.digit_byte-tens in
-    let line = line-is c.args.number tens.result ones.result tens.ensures ones.ensures in
+    let line = line-is _ c.number-number.result tens.result ones.result c.number-number.ensures.0 tens.ensures ones.ensures in
     let done = written_as c.args.out.now wrote.new.out _ _ c.args.at wrote.result line (wrote.ensures.end, wrote.ensures.written) in record { end = done.0; written = done.1 }

@@ -38,8 +38,7 @@ write_answer-written-requires c =
     let some = c.loop-at-test.true in
     let ran = c.run_group-outcome.ensures in
     let answered = ran.answer _ inv.so_far.reachable in
-    let writable = turn_writable _ _ _ _ _ _ _ _ _ inv.so_far some _ _ _ answered ran.consumed in
-    record { room = writable.0; two_digits = writable.1 }
+    record { room = turn_writable _ _ _ _ _ _ _ _ _ inv.so_far some _ _ _ answered ran.consumed }
 
 pub overflow_add-at : goal.overflow_add-at
 unfolding book_in

@@ -6,7 +6,7 @@ use Rattle.tier_limits.specs.PathSums.{sums_to}
 use Rattle.tier_limits.proofs.limits.sum_paths.Given as goal
 
 abbrev pub invariant-loop-p : goal.invariant-loop-p
-invariant-loop-p l = (l.p ≤ l.past) × (l.sums ≡ sums_to (opening_in l.o) l.f l.h l.base l.carried l.before l.p)
+invariant-loop-p l = (l.p ≤ l.past) × (l.sums ≡ sums_to (opening_in l.o) l.f l.h l.base l.slots l.p)
 
 abbrev pub decreases-loop-p : goal.decreases-loop-p
 decreases-loop-p l = l.past - l.p

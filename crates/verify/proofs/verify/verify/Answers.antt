@@ -1,19 +1,22 @@
 -- `verify::verify::verify` meets its contract: a refusal leaves the arrays, and what is filed is stored and noted. Assumes nothing.
+use Rattle.std.proofs.lemmas.Result.{err_from_is_err_and}
 use Rattle.slots.proofs.Reachable.{figures_long, posted_long}
 use Rattle.slots.proofs.StepLaws.{steps_refused, beside_next_evidence}
-use Rattle.verify.proofs.VerifyLaws.{decided_err, decided_cell, decided_steps}
+use Rattle.verify.proofs.VerifyLaws.{decided_cell, decided_steps}
 use Rattle.verify.proofs.verify.verify.Goals as goal
+
+pub returns-in_err-filed : goal.returns-in_err-filed
+returns-in_err-filed c x r =
+    let p = err_from_is_err_and c.from_residual.result c.from_residual.ensures.1 in
+    rw (p.1, p.2) (beside_next_evidence _ _ _ _ _ _ x (steps_refused _ _ _ x _ _ (c.in_err-filed.ensures.refused x r) r))
 
 pub post-requires : goal.post-requires
 post-requires c =
     record {
-      cell = decided_cell _ _ _ _ _ _ _ _ c.requires.reachable (c.in-Ok.ensures _ c.requires.reachable);
+      cell = decided_cell _ _ _ _ _ _ _ _ c.requires.reachable (c.in_ok-filed.ensures.refused _ c.requires.reachable) c.in_ok-filed.ensures.filed;
       figures = figures_long _ _ _ _ c.requires.reachable;
       posted = posted_long _ _ _ _ c.requires.reachable;
     }
 
-pub returns-in-Ok : goal.returns-in-Ok
-returns-in-Ok c = λ x r. decided_steps _ _ _ _ _ _ _ _ r (c.in-Ok.ensures x r) _ _ c.post.ensures.figures c.post.ensures.posted
-
-pub returns-in-Err : goal.returns-in-Err
-returns-in-Err c = λ x r. let refused = decided_err _ _ _ _ _ _ (c.in-Err.ensures x r) in beside_next_evidence _ _ _ _ _ _ _ (steps_refused _ _ _ _ _ _ refused.0 r refused.1)
+pub returns : goal.returns
+returns c x r = decided_steps _ _ _ _ _ _ _ _ r (c.in_ok-filed.ensures.refused x r) c.in_ok-filed.ensures.filed _ _ c.post.ensures.figures c.post.ensures.posted

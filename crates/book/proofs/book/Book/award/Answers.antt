@@ -3,9 +3,6 @@ use Rattle.book.specs.Reading.{book_in}
 use Rattle.book.proofs.OutcomeBooks.{outcome_book}
 use Rattle.book.proofs.book.Book.award.Goals as goal
 
-pub award-answer-requires : goal.award-answer-requires
-award-answer-requires c = record { posted = _; evidence = _; reachable = c.requires }
-
 pub returns : goal.returns
 unfolding book_in
 returns c = outcome_book _ _ _ _ _ _ _ _ _ (c.award-answer.ensures _ _ c.requires)

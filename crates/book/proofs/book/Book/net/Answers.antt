@@ -4,9 +4,6 @@ use Rattle.book.specs.Reading.{ledger_of, opening_of_book}
 use Rattle.book.specs.Outcomes.{query_answer_in}
 use Rattle.book.proofs.book.Book.net.Goals as goal
 
-pub net-requires : goal.net-requires
-net-requires c = record { posted = _; evidence = _; reachable = c.requires }
-
 pub returns : goal.returns
 unfolding query_answer_in query_answer opening_of_book ledger_of
 returns c = c.net.ensures _ _ c.requires

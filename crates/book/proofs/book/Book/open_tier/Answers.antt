@@ -3,9 +3,6 @@ use Rattle.book.specs.Reading.{book_in}
 use Rattle.book.proofs.OutcomeBooks.{outcome_book}
 use Rattle.book.proofs.book.Book.open_tier.Goals as goal
 
-pub open_tier-answer-requires : goal.open_tier-answer-requires
-open_tier-answer-requires c = record { opening = _; posted = _; evidence = _; reachable = c.requires }
-
 pub returns : goal.returns
 unfolding book_in
 returns c = outcome_book _ _ _ _ _ _ _ _ _ (c.open_tier-answer.ensures _ _ _ c.requires)

@@ -3,9 +3,6 @@ use Rattle.book.specs.Reading.{book_in}
 use Rattle.book.proofs.OutcomeBooks.{outcome_book}
 use Rattle.book.proofs.book.Book.verify.Goals as goal
 
-pub verify_and_file-answer-requires : goal.verify_and_file-answer-requires
-verify_and_file-answer-requires c = c.requires
-
 pub returns : goal.returns
 unfolding book_in
 returns c = outcome_book _ _ _ _ _ _ _ _ _ c.verify_and_file-answer.ensures

@@ -1,0 +1,11 @@
+// What a load posts (01, Posting, Load).
+use load_metric::block::Block;
+
+// The numbers of a load line after its holder and sink, with the blocks that it counts: any numbers, and any blocks.
+#[derive(Clone, Copy)]
+pub struct Metered<'a> {
+    pub term: u64,
+    pub contract: u64,
+    pub n: u64,
+    pub blocks: &'a [Block],
+}

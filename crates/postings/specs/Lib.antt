@@ -1,2 +1,0 @@
--- Where a number's posting is looked for.
-pub mod PostedSlot
