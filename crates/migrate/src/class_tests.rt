@@ -9,8 +9,7 @@ ghost use Rattle.ledger.specs.Causes.{line_not_between_lses};
 ghost use Rattle.records.specs.Opening.{opening_of};
 
 use netting::netting::{ClassColumns, class_fields_out_of_range};
-use records::kinds::HolderKind;
-use records::setup::{holder_kind, unknown_holder};
+use records::setup::{is_obaalse, unknown_holder};
 
 // A line that names a holder who is not in the book.
 pub(crate) fn names_unknown(o: &[u64], from: u64, to: u64) -> bool
@@ -36,13 +35,10 @@ pub(crate) fn any_out_of_range(columns: ClassColumns) -> bool
 }
 
 // A line from a holder to itself, or one that names an OBAALSE.
-#[tactic(auto, using(records::proofs::KindLaws::names_obaalse))]
 fn not_between_lses(o: &[u64], from: u64, to: u64) -> bool
     ensures { result ≡ (eqb from to || eqb (holder_kind (opening_of o.entry) from) obaalse || eqb (holder_kind (opening_of o.entry) to) obaalse) }
 {
-    from == to
-        || holder_kind(o, from) == Some(HolderKind::Obaalse)
-        || holder_kind(o, to) == Some(HolderKind::Obaalse)
+    from == to || is_obaalse(o, from) || is_obaalse(o, to)
 }
 
 // Whether some line is not between two different LSEs.

@@ -47,13 +47,7 @@ module _ (o f : List ℕ) (m : List Bool) (x : List Entry) where
   abbrev L : Ledger
   L = ledger_in f m x
 
-  -- whether ten-year evidence is needed: by an OBAALSE ..
-  pub obaalse_needs : (tier h b kw : ℕ) → eqb (holder_kind O h) obaalse ≡ true → true ≡ needs_ten_year O L tier h b kw
-  unfolding needs_ten_year
-  obaalse_needs tier h b kw is =
-      sym (ap (λ t. t || ltb (eligible_without_evidence O.settings (L.loads.kw h b 0)) (nominated_at O L h b tier + kw + long_term_at O L h b 1)) is)
-
-  -- .. and by another holder above what the step gives of its load without it
+  -- ten-year evidence is needed by a holder who is no OBAALSE above what the step gives of its load without it
   pub above_without : (r : Reachable o f m x) (settings : Settings) (h b kw load nominated carried without : ℕ) → (l : h < O.holders) → b < 16 → eqb (holder_kind O h) obaalse ≡ false → load ≡ read_at figure_slots 0 f h b load_slot → nominated ≡ sum_at_base O b (on_path f h nominated_slot) → carried ≡ sum_at_base O b (on_path f h carried_slot) → settings ≡ O.settings → without ≡ eligible_without_evidence settings load → ltb without (nominated + kw + carried) ≡ needs_ten_year O L L.tiers.current_tier h b kw
   unfolding needs_ten_year long_term_at ledger_in
   above_without r settings h b kw load nominated carried without l place is of_load n lt set q =

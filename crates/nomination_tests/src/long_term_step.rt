@@ -7,8 +7,7 @@ ghost use Rattle.ledger.specs.Causes.{exceeds_tier1_award, needs_ten_year, needs
 ghost use Rattle.slots.specs.Steps.{InFigures};
 ghost use Rattle.nomination_tests.specs.Inputs.{NominationInputs, PathInputs, PathPair, BaseInputs};
 
-use records::kinds::HolderKind;
-use records::setup::{holder_kind, legal_settings, path_base, path_source, paths};
+use records::setup::{is_obaalse, legal_settings, path_base, path_source, paths};
 use slots::calendar::current_tier;
 use slots::cells::read;
 use slots::layout::{AWARDS_SLOT, CARRIED_SLOT, LOAD_SLOT, NOMINATED_SLOT};
@@ -28,11 +27,12 @@ pub fn exceeds_tier_1_award(o: &[u64], f: &[u64], h: u64, p: u64, kw: u64) -> bo
 
 // Whether ten-year evidence is needed: by an OBAALSE always, by another holder where with kw more its nominations at the base, and its carried
 // holding of month 1, exceed what the step gives of its load of the season without it.
+#[tactic(auto, unfolding(ledger::specs::Causes::needs_ten_year))]
 fn needs_ten_year(o: &[u64], f: &[u64], h: u64, base: u64, kw: u64) -> bool
     requires { BaseInputs o.now f.now h base kw }
     ensures { InFigures o.now f.now (λ O L. result ≡ needs_ten_year O L L.tiers.current_tier h base kw) }
 {
-    if holder_kind(o, h) == Some(HolderKind::Obaalse) {
+    if is_obaalse(o, h) {
         return true;
     }
     let load = read(f, h, base, LOAD_SLOT);

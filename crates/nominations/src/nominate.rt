@@ -11,11 +11,10 @@ ghost use Rattle.nominations.specs.CauseOrder.{causes_before_tier, causes_before
 
 use nomination_tests::long_term_step::{exceeds_tier_1_award, lacks_ten_year};
 use nomination_tests::source_usage::{has_evidence, source_usage, verified_kw};
-use records::kinds::HolderKind;
 use records::ranges::kw_out_of_range;
 use records::refusal::Refusal;
 use records::setup::{
-    holder_kind, is_sub_lap, kind_ineligible, path_base, path_sink, path_source, unknown_holder,
+    is_obaalse, is_sub_lap, kind_ineligible, path_base, path_sink, path_source, unknown_holder,
     unknown_path,
 };
 use slots::calendar::{calendar, current_tier};
@@ -35,11 +34,11 @@ fn sink_ineligible(o: &[u64], f: &[u64], h: u64, p: u64) -> bool
 }
 
 // Causes 19 and 11: whether a holder has to verify its sources. An OBAALSE has to, in every tier but the Long Term step.
-#[tactic(auto, unfolding(ledger::specs::Causes::needs_verification, tariff::specs::Terms::is_long_term_step, slots::specs::Layout::ledger_in), using(records::proofs::KindLaws::names_obaalse))]
+#[tactic(auto, unfolding(ledger::specs::Causes::needs_verification, tariff::specs::Terms::is_long_term_step, slots::specs::Layout::ledger_in))]
 fn needs_verification(o: &[u64], f: &[u64], h: u64) -> bool
     ensures { InFigures o.now f.now (λ O L. result ≡ needs_verification O L.tiers.current_tier h) }
 {
-    current_tier(f) != LONG_TERM_STEP && holder_kind(o, h) == Some(HolderKind::Obaalse)
+    current_tier(f) != LONG_TERM_STEP && is_obaalse(o, h)
 }
 
 // Cause 19: the path's source has no evidence for the tier's term.

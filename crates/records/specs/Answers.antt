@@ -4,11 +4,12 @@ use Rattle.ledger.specs.Season as season
 use Rattle.records.specs.declared.refusal.Refusal.{Refusal}
 use Rattle.records.specs.Refusals.{number_of, refusal_of}
 
--- what a call answers, and what a query answers with its figure
+-- what a call answers: the ledger answers an accepted one with no value
 unfoldable pub called : season.Answer → Result (Unit {0}) Refusal
 called (season.values vs) = Ok tt
 called (season.refused number) = Err (refusal_of number)
 
+-- what a query answers: the ledger answers an accepted one with one value, its figure
 unfoldable pub queried : season.Answer → Result ℕ Refusal
 queried (season.values []) = Ok 0
 queried (season.values (v ∷ vs)) = Ok v

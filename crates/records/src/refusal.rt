@@ -33,7 +33,8 @@ impl Refusal {
 
     // The number that a refusal is told by. It has two digits at most.
     pub fn number(self) -> u64
-        ensures { (result ≡ number_of self) × (result < 100) }
+        ensures number { result ≡ number_of self }
+        ensures two_digits { result < 100 }
     {
         self as u64
     }

@@ -1,9 +1,9 @@
 // What a book was opened with, kept in an array (01, The book; 02, 3/14): the four counts, then what stands on the line of each holder, sink and path, and
 // the settings.
-ghost use Rattle.std.specs.Prelude.{◌<◌, ◌≡◌, true, drop};
+ghost use Rattle.std.specs.Prelude.{◌<◌, ◌≡◌, true, drop, eqb};
 ghost use Rattle.tariff.specs.Sizes.{max_places, setting_count};
 ghost use Rattle.tariff.specs.Settings.{fraction_at, settings_legal};
-ghost use Rattle.ledger.specs.Opening.{holder_kind, sink_kind, base, path_source, path_sink, path_base};
+ghost use Rattle.ledger.specs.Opening.{obaalse, holder_kind, sink_kind, base, path_source, path_sink, path_base};
 ghost use Rattle.ledger.specs.Ranges.{unknown_holder, unknown_source, unknown_sink, unknown_path};
 ghost use Rattle.ledger.specs.Causes.{kind_ineligible, is_sub_lap};
 ghost use Rattle.records.specs.Kinds.{holder_kind_of, sink_kind_of};
@@ -192,6 +192,14 @@ pub fn kind_ineligible(o: &[u64], h: u64, s: u64) -> bool
         return scheduling_point;
     }
     !scheduling_point
+}
+
+// A holder is an OBAALSE.
+#[tactic(auto, using(crate::proofs::KindLaws::names_obaalse))]
+pub fn is_obaalse(o: &[u64], h: u64) -> bool
+    ensures { result ≡ eqb (holder_kind (opening_of o.entry) h) obaalse }
+{
+    holder_kind(o, h) == Some(HolderKind::Obaalse)
 }
 
 #[tactic(auto, unfolding(ledger::specs::Causes::is_sub_lap), using(crate::proofs::KindLaws::names_sub_lap))]

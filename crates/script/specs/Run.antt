@@ -1,6 +1,8 @@
 -- A run over lent bytes: the number that the host gets, and the output buffer (01, Script and host).
 use Rattle.std.specs.Prelude.{ℕ, ◌+◌, ◌*◌, Bool, cond, ◌||◌, List, [], ◌++◌, length, drop, ltb}
 use Rattle.ledger.specs.Numbers.{unreadable}
+use Rattle.records.specs.declared.refusal.Refusal.TheVariants.{OutputTooShort}
+use Rattle.records.specs.Refusals.{number_of}
 use Rattle.lines.specs.Text.{lines_of, max_lines, max_bytes, bytes_per_line}
 use Rattle.lines.specs.Rows.{rows_of}
 use Rattle.script.specs.Answers.{script_answers, texts_of}
@@ -23,7 +25,7 @@ written script out = cond (too_long script) [] (cond (too_short script out) [] (
 
 -- the number of a buffer that is too short (01, Refusals by cause)
 abbrev pub output_too_short : ℕ
-output_too_short = 15
+output_too_short = number_of OutputTooShort
 
 -- the refusal of a whole script, 0 for a run
 unfoldable pub run_refusal : List ℕ → List ℕ → ℕ

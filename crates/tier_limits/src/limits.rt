@@ -10,10 +10,9 @@ ghost use Rattle.tier_limits.specs.Inputs.{LimitInputs};
 ghost use Rattle.tier_limits.specs.PathSums.{sums_to, PathsSummable};
 
 use crate::ten_year::ten_year_in;
-use records::kinds::HolderKind;
 use records::refusal::Refusal;
 use records::setup::{
-    holder_kind, legal_settings, path_base, paths, sink_base, unknown_holder, unknown_sink,
+    is_obaalse, legal_settings, path_base, paths, sink_base, unknown_holder, unknown_sink,
 };
 use slots::calendar::{calendar, current_tier};
 use slots::cells::read;
@@ -98,7 +97,7 @@ fn limit_sums(o: &[u64], f: &[u64], tier: u64, h: u64, base: u64) -> Sums
     };
     let sums = sum_paths(o, f, h, base, slots);
     let ten_year_kw = ten_year_in(o, f, tier, h);
-    let obaalse = holder_kind(o, h) == Some(HolderKind::Obaalse);
+    let obaalse = is_obaalse(o, h);
     Sums {
         load,
         carried: sums.carried,

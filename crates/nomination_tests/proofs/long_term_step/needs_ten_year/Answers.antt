@@ -1,16 +1,12 @@
 -- `nomination_tests::long_term_step::needs_ten_year` meets its contract: an OBAALSE needs it, another holder above what the step gives of its load without it. Assumes nothing.
 use mathlib.Core.Path.{refl}
 use native.Mathlib.Omega.{arith}
-use Rattle.records.proofs.KindLaws.{names_obaalse}
 use Rattle.slots.proofs.Reachable.{settings_known}
 use Rattle.slots.proofs.Figures.{summable}
 use Rattle.tier_limits.proofs.EvidenceSlots.{source_cell}
 use Rattle.nomination_tests.proofs.NominateCauses.{base_room, base_fits}
-use Rattle.nomination_tests.proofs.StepCauses.{obaalse_needs, above_without}
+use Rattle.nomination_tests.proofs.StepCauses.{above_without}
 use Rattle.nomination_tests.proofs.long_term_step.needs_ten_year.Goals as goal
-
-pub returns-then-eq : goal.returns-then-eq
-returns-then-eq c m x r = obaalse_needs _ _ m x _ _ _ _ (grind (arith, names_obaalse))
 
 pub read-load-requires : goal.read-load-requires
 read-load-requires c = let k = c.requires in source_cell _ _ _ _ k.figures.reachable _ _ k.holder k.place _ (omega arith)
@@ -39,4 +35,4 @@ overflow_add-result-2 c =
 pub returns : goal.returns
 returns c m x r =
     let k = c.requires in
-    above_without _ _ m x r _ _ _ _ _ _ _ _ k.holder k.place (grind (arith, names_obaalse)) c.read-load.ensures c.sum_at_base-nominated.ensures c.sum_at_base-carried.ensures c.legal_settings.ensures c.eligible_without_evidence.ensures
+    above_without _ _ m x r _ _ _ _ _ _ _ _ k.holder k.place (grind (arith)) c.read-load.ensures c.sum_at_base-nominated.ensures c.sum_at_base-carried.ensures c.legal_settings.ensures c.eligible_without_evidence.ensures

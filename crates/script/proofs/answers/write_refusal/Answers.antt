@@ -22,5 +22,5 @@ returns c =
     let wrote = c.write_bytes in
     let ones = c.digit_byte-ones in
     let tens = c.digit_byte-tens in
-    let line = line-is _ c.number-number.result tens.result ones.result c.number-number.ensures.0 tens.ensures ones.ensures in
+    let line = line-is _ c.number-number.result tens.result ones.result c.number-number.ensures.number tens.ensures ones.ensures in
     let done = written_as c.args.out.now wrote.new.out _ _ c.args.at wrote.result line (wrote.ensures.end, wrote.ensures.written) in record { end = done.0; written = done.1 }

@@ -1,6 +1,5 @@
 -- `tier_limits::limits::limit_sums` meets its contract: the slots are those of the tier, and the sums over all paths are the limit's. Assumes nothing.
 use native.Mathlib.Omega.{arith}
-use Rattle.records.proofs.KindLaws.{names_obaalse}
 use Rattle.tier_limits.proofs.LimitLaws.{load_cell, month_range, all_summable, limit_sums_are}
 use Rattle.tier_limits.proofs.limits.limit_sums.Goals as goal
 
@@ -18,4 +17,4 @@ sum_paths-sums-requires c = all_summable _ _ _ _ _ _ _ _ c.requires c.tier_rule-
 
 pub returns : goal.returns
 returns c m x r =
-    limit_sums_are _ _ _ _ _ _ _ _ c.requires c.tier_rule-rule.ensures m x r _ _ _ _ c.carried_month-month.ensures c.saturating_sub-last.ensures c.read-load.ensures c.sum_paths-sums.ensures (c.ten_year_in-ten_year_kw.ensures m x r) (grind (arith, names_obaalse))
+    limit_sums_are _ _ _ _ _ _ _ _ c.requires c.tier_rule-rule.ensures m x r _ _ _ _ c.carried_month-month.ensures c.saturating_sub-last.ensures c.read-load.ensures c.sum_paths-sums.ensures (c.ten_year_in-ten_year_kw.ensures m x r) c.is_obaalse-obaalse.ensures
