@@ -5,9 +5,10 @@ use mathlib.Core.Bool.{Bool, cond}
 use mathlib.Core.List.{List}
 use native.Mathlib.Nat.{le_trans, add-zero}
 use native.Mathlib.Omega.{arith}
-use lib.ListN.{length, take, drop}
+use lib.ListN.{take, drop}
 use lib.Dec.{ltb}
 use borrow.Author.Tests.{eq-eqb}
+use Rattle.records.specs.declared.setup.KeptOpening.{KeptOpening}
 use Rattle.std.specs.Prelude.{Ok}
 use Rattle.source_evidence.specs.declared.evidence.Entry.{Entry}
 use Rattle.tariff.specs.Sum.{when_true}
@@ -23,7 +24,7 @@ use Rattle.ledger.proofs.TierFacts.{AwardFacts, award_facts}
 use Rattle.records.specs.Opening.{opening_in}
 use Rattle.slots.specs.Cells.{HasCell, read_at, added_at}
 use Rattle.slots.specs.Groups.{slots_of}
-use Rattle.slots.specs.Layout.{figure_slots, figure_count, figure_groups, posted_groups, evidence_groups, calendar_of, figures_of, posted_of, evidence_of, current_tier_in, figure_in, ledger_in, awarded_slot, nominated_slot, awards_slot, tier_slots, ownership_slot}
+use Rattle.slots.specs.Layout.{figure_slots, figure_groups, posted_groups, evidence_groups, calendar_of, figures_of, posted_of, evidence_of, current_tier_in, figure_in, ledger_in, awarded_slot, nominated_slot, awards_slot, tier_slots, ownership_slot}
 use Rattle.slots.specs.Months.{added_in_term, HasRoom}
 use Rattle.slots.specs.Steps.{Reachable, Steps}
 use Rattle.slots.proofs.CellLaws.{shown_is}
@@ -52,11 +53,11 @@ nominated_test f m x h p kw tier nominated awards now last k n a = λ i. ltb (no
     granted = a ∙ from_zero f awards_slot tier_slots h p tier k.holder k.place (omega arith) ∙ ap (figure_in f awards_slot tier_slots 0 h p) now
 
 -- the open tier is one of nine, or the Long Term step
-pub tier_within : (o f : List ℕ) (m : List Bool) (x : List Entry) (tier : ℕ) → Reachable o f m x → tier ≡ current_tier_in f → tier ≤ long_term_step
+pub tier_within : (o : KeptOpening) (f : List ℕ) (m : List Bool) (x : List Entry) (tier : ℕ) → Reachable o f m x → tier ≡ current_tier_in f → tier ≤ long_term_step
 unfolding ledger_in
 tier_within o f m x tier r now = let last = (sound o f m x r).open_last in omega arith
 
-module _ (o f : List ℕ) (m : List Bool) (x : List Entry) (h p kw : ℕ) (r : Reachable o f m x) (unmet : 0 ≡ refusal (opening_in o) (ledger_in f m x) (award h p kw)) where
+module _ (o : KeptOpening) (f : List ℕ) (m : List Bool) (x : List Entry) (h p kw : ℕ) (r : Reachable o f m x) (unmet : 0 ≡ refusal (opening_in o) (ledger_in f m x) (award h p kw)) where
   abbrev O : Opening
   O = opening_in o
 
@@ -80,7 +81,7 @@ module _ (o f : List ℕ) (m : List Bool) (x : List Entry) (h p kw : ℕ) (r : R
       row_room o f m x h p v awarded_slot (awarded_slot + last_month) r facts.holder facts.path (omega arith) (omega arith)
 
   -- .. and after them that of the tier
-  pub tier_room : (tier term v : ℕ) (f' : List ℕ) → tier ≡ current_tier_in f → f' ≡ added_in_term f h p awarded_slot term v → HasCell figure_slots h p (awards_slot + tier) × (length f' ≡ figure_count) × (read_at figure_slots 0 f' h p (awards_slot + tier) + kw < 2 ^ 64)
+  pub tier_room : (tier term v : ℕ) (f' : List ℕ) → tier ≡ current_tier_in f → f' ≡ added_in_term f h p awarded_slot term v → HasCell figure_slots h p (awards_slot + tier) × (read_at figure_slots 0 f' h p (awards_slot + tier) + kw < 2 ^ 64)
   tier_room tier term v f' now e =
       let last = tier_within o f m x tier r now in
       room_now f' h p (awards_slot + tier) ownership_slot kw kw

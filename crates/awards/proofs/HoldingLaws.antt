@@ -6,6 +6,7 @@ use mathlib.Core.List.{List}
 use native.Mathlib.Nat.{le_trans, le_of_eq}
 use native.Mathlib.Omega.{arith}
 use borrow.Author.Tests.{leb-false}
+use Rattle.records.specs.declared.setup.KeptOpening.{KeptOpening}
 use Rattle.source_evidence.specs.declared.evidence.Entry.{Entry}
 use Rattle.tariff.specs.Ranges.{month_out_of_range, within}
 use Rattle.tariff.specs.Terms.{is_month}
@@ -25,9 +26,8 @@ use Rattle.ledger.proofs.Unmet.{unmet, is_within}
 use Rattle.records.specs.Opening.{opening_in}
 use Rattle.slots.specs.Cells.{read_at}
 use Rattle.slots.specs.Layout.{figure_slots, ledger_in, carried_slot, awarded_slot}
-use Rattle.slots.specs.Sums.{max_figure}
 use Rattle.slots.specs.Steps.{Reachable}
-use Rattle.slots.proofs.Reachable.{counts, fits, figures_long}
+use Rattle.slots.proofs.Reachable.{counts, fits}
 use Rattle.slots.proofs.Figures.{by_number, figure_fits}
 use Rattle.awards.specs.Holdings.{HasHolding}
 
@@ -58,15 +58,10 @@ holding_is f m x h p month carried awarded k c a =
     (c ∙ by_number f carried_slot last_month h p month k.holder k.place 1 k.low (let l = k.high in omega arith))
     (a ∙ by_number f awarded_slot last_month h p month k.holder k.place 1 k.low (let l = k.high in omega arith))
 
--- what is read for a holding is small
-pub figure_small : (f : List ℕ) (h p month slot v : ℕ) → HasHolding f h p month → slot < figure_slots → v ≡ read_at figure_slots 0 f h p slot → v ≤ max_figure
-figure_small f h p month slot v k in_row e = le_trans (le_of_eq e) (k.each slot in_row)
-
-module _ (o f : List ℕ) (m : List Bool) (x : List Entry) (r : Reachable o f m x) (p month : ℕ) (path : p < (opening_in o).paths) (low : 1 ≤ month) (high : month ≤ 3) where
+module _ (o : KeptOpening) (f : List ℕ) (m : List Bool) (x : List Entry) (r : Reachable o f m x) (p month : ℕ) (path : p < (opening_in o).paths) (low : 1 ≤ month) (high : month ≤ 3) where
   pub has_holding : (h : ℕ) → h < (opening_in o).holders → HasHolding f h p month
   has_holding h l =
       record {
-        long = figures_long o f m x r;
         holder = le_trans l (counts o f m x r).0;
         place = le_trans path (counts o f m x r).3;
         low = low;

@@ -7,6 +7,7 @@ use native.Mathlib.Omega.{arith}
 use lib.ListN.{take, drop, set}
 use lib.Dec.{eqb}
 use borrow.Author.Tests.{ne_eqb}
+use Rattle.records.specs.declared.setup.KeptOpening.{KeptOpening}
 use Rattle.std.specs.Prelude.{Ok}
 use Rattle.source_evidence.specs.declared.evidence.Entry.{Entry}
 use Rattle.tariff.specs.Sum.{when_true}
@@ -28,7 +29,7 @@ use Rattle.slots.proofs.Reachable.{sound, figures_shown, posted_known, evidence_
 use Rattle.slots.proofs.StepLaws.{accepted_test, steps_accepted}
 use Rattle.awards.proofs.ClearedGroups.{slot_cleared, shows_past}
 
-module _ (o f f' : List ℕ) (m : List Bool) (x : List Entry) (r : Reachable o f m x) (clear : f' ≡ cleared_to figure_slots nominated_slot f rows) where
+module _ (o : KeptOpening) (f f' : List ℕ) (m : List Bool) (x : List Entry) (r : Reachable o f m x) (clear : f' ≡ cleared_to figure_slots nominated_slot f rows) where
   abbrev O : Opening
   O = opening_in o
 

@@ -6,6 +6,7 @@ use mathlib.Core.List.{List}
 use native.Mathlib.Nat.{le_trans}
 use native.Mathlib.Omega.{arith}
 use borrow.Author.Tests.{leb-false}
+use Rattle.records.specs.declared.setup.KeptOpening.{KeptOpening}
 use Rattle.source_evidence.specs.declared.evidence.Entry.{Entry}
 use Rattle.tariff.specs.Ranges.{max_kw, kw_out_of_range}
 use Rattle.ledger.specs.Ranges.{unknown_holder, unknown_path}
@@ -15,14 +16,13 @@ use Rattle.slots.specs.Layout.{figure_slots}
 use Rattle.slots.specs.Months.{added_in_term, HasRoom}
 use Rattle.slots.specs.Steps.{Reachable}
 use Rattle.slots.proofs.RoomLaws.{room_next}
-use Rattle.slots.proofs.Reachable.{counts, figures_long}
+use Rattle.slots.proofs.Reachable.{counts}
 use Rattle.slots.proofs.Figures.{figure_fits, room_for_more}
 
 -- every slot of a holder at a path has room for the kW of a call
-pub row_room : (o f : List ℕ) (m : List Bool) (x : List Entry) (h p kw first past : ℕ) → Reachable o f m x → h < (opening_in o).holders → p < (opening_in o).paths → kw ≤ max_kw → past ≤ figure_slots → HasRoom f h p first past kw
+pub row_room : (o : KeptOpening) (f : List ℕ) (m : List Bool) (x : List Entry) (h p kw first past : ℕ) → Reachable o f m x → h < (opening_in o).holders → p < (opening_in o).paths → kw ≤ max_kw → past ≤ figure_slots → HasRoom f h p first past kw
 row_room o f m x h p kw first past r holder path high in_row =
     record {
-      long = figures_long o f m x r;
       holder = le_trans holder (counts o f m x r).0;
       place = le_trans path (counts o f m x r).3;
       in_row = in_row;
@@ -30,7 +30,7 @@ row_room o f m x h p kw first past r holder path high in_row =
     }
 
 -- the same where code has found that the holder and the path are in the book, and the kW in its range
-pub known_room : (o f : List ℕ) (m : List Bool) (x : List Entry) (h p kw first past : ℕ) {no_h no_p wrong : Bool} → Reachable o f m x → no_h ≡ unknown_holder (opening_in o) h → no_p ≡ unknown_path (opening_in o) p → no_h ≡ false → no_p ≡ false → wrong ≡ kw_out_of_range kw → wrong ≡ false → past ≤ figure_slots → HasRoom f h p first past kw
+pub known_room : (o : KeptOpening) (f : List ℕ) (m : List Bool) (x : List Entry) (h p kw first past : ℕ) {no_h no_p wrong : Bool} → Reachable o f m x → no_h ≡ unknown_holder (opening_in o) h → no_p ≡ unknown_path (opening_in o) p → no_h ≡ false → no_p ≡ false → wrong ≡ kw_out_of_range kw → wrong ≡ false → past ≤ figure_slots → HasRoom f h p first past kw
 unfolding unknown_holder unknown_path
 known_room o f m x h p kw first past r holders paths holder path range within in_row =
     row_room o f m x h p kw first past r (leb-false _ _ (sym holders ∙ holder)) (leb-false _ _ (sym paths ∙ path)) (kw_in_range kw (sym range ∙ within)).1 in_row

@@ -11,15 +11,15 @@ ghost use Rattle.slots.specs.Steps.{ReachableFigures, InFigures, FiguresStep};
 
 use records::ranges::kw_out_of_range;
 use records::refusal::Refusal;
-use records::setup::{unknown_holder, unknown_path};
+use records::setup::KeptOpening;
 use slots::calendar::{calendar, current_tier};
 use slots::cells::{add, read};
-use slots::layout::{AWARDED_SLOT, AWARDS_SLOT, NOMINATED_SLOT};
+use slots::layout::{AWARDED_SLOT, AWARDS_SLOT, Figures, NOMINATED_SLOT};
 use slots::months::add_in_term;
 use tariff::terms::{entering_kw, term_of};
 
 // Cause 14: with kw more, a holder's awards on a path exceed its nominations in the open tier.
-fn exceeds_nominated(f: &[u64], tier: u64, h: u64, p: u64, kw: u64) -> bool
+fn exceeds_nominated(f: &Figures, tier: u64, h: u64, p: u64, kw: u64) -> bool
     requires { (tier ≡ current_tier_in f.now) × (tier ≤ long_term_step) × HasRoom f.now h p nominated_slot ownership_slot kw }
     ensures { (m : List Bool) (x : List Entry) → result ≡ exceeds_nominated (ledger_in f.now m x) (current_tier_in f.now) h p kw }
 {
@@ -30,11 +30,11 @@ fn exceeds_nominated(f: &[u64], tier: u64, h: u64, p: u64, kw: u64) -> bool
 
 // Whether an award meets no cause, else the first that it meets.
 #[tactic(auto, using(slots::proofs::CalendarLaws::open_as_ledger), unfolding(ledger::specs::Causes::refusal, ledger::specs::Causes::call_causes, ledger::specs::Causes::award_causes, ledger::specs::Numbers::first_met, slots::specs::Layout::ledger_in))]
-fn check_award(o: &[u64], f: &[u64], h: u64, p: u64, kw: u64) -> Result<(), Refusal>
+fn check_award(o: &KeptOpening, f: &Figures, h: u64, p: u64, kw: u64) -> Result<(), Refusal>
     requires { ReachableFigures o.now f.now }
     ensures { InFigures o.now f.now (λ O L. refused_by result ≡ refusal O L (award h p kw)) }
 {
-    if unknown_holder(o, h) || unknown_path(o, p) {
+    if o.unknown_holder(h) || o.unknown_path(p) {
         return Err(Refusal::NotInBook);
     }
     if kw_out_of_range(kw) {
@@ -50,7 +50,7 @@ fn check_award(o: &[u64], f: &[u64], h: u64, p: u64, kw: u64) -> Result<(), Refu
 }
 
 // Awards kw to a holder on a path in the open tier. The Long Term step's awards enter no holding (02, 1/14).
-pub fn award(o: &[u64], f: &mut [u64], h: u64, p: u64, kw: u64) -> Result<(), Refusal>
+pub fn award(o: &KeptOpening, f: &mut Figures, h: u64, p: u64, kw: u64) -> Result<(), Refusal>
     requires { ReachableFigures o.now f.old }
     ensures { FiguresStep o.now f.old (award h p kw) result f.new }
 {

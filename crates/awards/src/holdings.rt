@@ -14,12 +14,12 @@ ghost use Rattle.awards.specs.Holdings.{HasHolding};
 
 use records::ranges::month_out_of_range;
 use records::refusal::Refusal;
-use records::setup::{holders, unknown_holder, unknown_path};
+use records::setup::KeptOpening;
 use slots::cells::read;
-use slots::layout::{AWARDED_SLOT, CARRIED_SLOT};
+use slots::layout::{AWARDED_SLOT, CARRIED_SLOT, Figures};
 
 // A holder's holding on a path in a month: carried and awarded.
-fn holding(f: &[u64], h: u64, p: u64, month: u64) -> u64
+fn holding(f: &Figures, h: u64, p: u64, month: u64) -> u64
     requires { HasHolding f.now h p month }
     ensures { (m : List Bool) (x : List Entry) → result ≡ held (ledger_in f.now m x) h p month }
 {
@@ -29,11 +29,11 @@ fn holding(f: &[u64], h: u64, p: u64, month: u64) -> u64
 }
 
 // The holdings of all holders on a path in a month, added up.
-fn net_holding(o: &[u64], f: &[u64], p: u64, month: u64) -> u64
+fn net_holding(o: &KeptOpening, f: &Figures, p: u64, month: u64) -> u64
     requires { ReachableFigures o.now f.now × (p < (opening_of o).paths) × (1 ≤ month) × (month ≤ last_month) }
     ensures { InFigures o.now f.now (λ O L. result ≡ net O L p month) }
 {
-    let past = holders(o);
+    let past = o.holders();
     let mut sum: u64 = 0;
     for h in 0..past {
         sum += holding(f, h, p, month);
@@ -43,10 +43,10 @@ fn net_holding(o: &[u64], f: &[u64], p: u64, month: u64) -> u64
 
 // Whether a held query meets no cause, else the first that it meets.
 #[tactic(auto, unfolding(ledger::specs::Causes::query_refusal, ledger::specs::Causes::query_causes, ledger::specs::Causes::held_causes, ledger::specs::Numbers::first_met))]
-fn check_held(o: &[u64], h: u64, p: u64, month: u64) -> Result<(), Refusal>
+fn check_held(o: &KeptOpening, h: u64, p: u64, month: u64) -> Result<(), Refusal>
     ensures { (L : Ledger) → refused_by result ≡ query_refusal (opening_of o.entry) L (held_on h p month) }
 {
-    if unknown_holder(o, h) || unknown_path(o, p) {
+    if o.unknown_holder(h) || o.unknown_path(p) {
         return Err(Refusal::NotInBook);
     }
     if month_out_of_range(month) {
@@ -57,10 +57,10 @@ fn check_held(o: &[u64], h: u64, p: u64, month: u64) -> Result<(), Refusal>
 
 // Whether a net query meets no cause, else the first that it meets.
 #[tactic(auto, unfolding(ledger::specs::Causes::query_refusal, ledger::specs::Causes::query_causes, ledger::specs::Causes::net_causes, ledger::specs::Numbers::first_met))]
-fn check_net(o: &[u64], p: u64, month: u64) -> Result<(), Refusal>
+fn check_net(o: &KeptOpening, p: u64, month: u64) -> Result<(), Refusal>
     ensures { (L : Ledger) → refused_by result ≡ query_refusal (opening_of o.entry) L (net_on p month) }
 {
-    if unknown_path(o, p) {
+    if o.unknown_path(p) {
         return Err(Refusal::NotInBook);
     }
     if month_out_of_range(month) {
@@ -70,7 +70,7 @@ fn check_net(o: &[u64], p: u64, month: u64) -> Result<(), Refusal>
 }
 
 // What a holder holds on a path in a month.
-pub fn held(o: &[u64], f: &[u64], h: u64, p: u64, month: u64) -> Result<u64, Refusal>
+pub fn held(o: &KeptOpening, f: &Figures, h: u64, p: u64, month: u64) -> Result<u64, Refusal>
     requires { ReachableFigures o.now f.now }
     ensures { InFigures o.now f.now (λ O L. result ≡ query_answer O L (held_on h p month)) }
 {
@@ -79,7 +79,7 @@ pub fn held(o: &[u64], f: &[u64], h: u64, p: u64, month: u64) -> Result<u64, Ref
 }
 
 // What all holders hold on a path in a month.
-pub fn net(o: &[u64], f: &[u64], p: u64, month: u64) -> Result<u64, Refusal>
+pub fn net(o: &KeptOpening, f: &Figures, p: u64, month: u64) -> Result<u64, Refusal>
     requires { ReachableFigures o.now f.now }
     ensures { InFigures o.now f.now (λ O L. result ≡ query_answer O L (net_on p month)) }
 {

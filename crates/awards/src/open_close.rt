@@ -15,12 +15,12 @@ use records::refusal::Refusal;
 use records::sums::when_true;
 use slots::calendar::calendar;
 use slots::cells::clear;
-use slots::layout::{CURRENT_TIER_AT, LAST_CLOSED_AT, NOMINATED_SLOT, STEP_HELD_AT};
+use slots::layout::{CURRENT_TIER_AT, Figures, LAST_CLOSED_AT, NOMINATED_SLOT, STEP_HELD_AT};
 use tariff::sizes::LONG_TERM_STEP;
 
 // Whether an open meets no cause, else the first that it meets.
 #[tactic(auto, using(slots::proofs::CalendarLaws::next_as_ledger), unfolding(ledger::specs::Causes::refusal, ledger::specs::Causes::call_causes, ledger::specs::Causes::open_causes, ledger::specs::Numbers::first_met))]
-fn check_open(f: &[u64], tier: u64) -> Result<(), Refusal>
+fn check_open(f: &Figures, tier: u64) -> Result<(), Refusal>
     ensures { (O : Opening) (m : List Bool) (x : List Entry) → refused_by result ≡ refusal O (ledger_in f.now m x) (open_tier tier) }
 {
     if tier_out_of_range(tier) {
@@ -34,7 +34,7 @@ fn check_open(f: &[u64], tier: u64) -> Result<(), Refusal>
 
 // Whether a close meets no cause, else the one that it meets.
 #[tactic(auto, using(slots::proofs::CalendarLaws::open_as_ledger), unfolding(ledger::specs::Causes::refusal, ledger::specs::Causes::call_causes, ledger::specs::Causes::close_causes, ledger::specs::Numbers::first_met))]
-fn check_close(f: &[u64]) -> Result<(), Refusal>
+fn check_close(f: &Figures) -> Result<(), Refusal>
     ensures { (O : Opening) (m : List Bool) (x : List Entry) → refused_by result ≡ refusal O (ledger_in f.now m x) close_tier }
 {
     if !calendar(f).tier_is_open() {
@@ -44,7 +44,7 @@ fn check_close(f: &[u64]) -> Result<(), Refusal>
 }
 
 // Opens a tier, which has no nominations yet. The Long Term step is noted as held (02, 1/14).
-pub fn open_tier(f: &mut [u64], tier: u64) -> Result<(), Refusal>
+pub fn open_tier(f: &mut Figures, tier: u64) -> Result<(), Refusal>
     requires { ReachableTier f.old }
     ensures { TierStep f.old (open_tier tier) result f.new }
 {
@@ -69,7 +69,7 @@ fn last_closed_after(calendar: Calendar) -> u64
 }
 
 // Closes the open tier: what was not awarded is dropped.
-pub fn close_tier(f: &mut [u64]) -> Result<(), Refusal>
+pub fn close_tier(f: &mut Figures) -> Result<(), Refusal>
     requires { ReachableTier f.old }
     ensures { TierStep f.old close_tier result f.new }
 {

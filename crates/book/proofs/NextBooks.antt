@@ -1,37 +1,42 @@
--- For whoever calls the book: the book beside an answer is one to put the next call to. Assumes nothing.
+-- What a method owes of the book whose arrays it lends to a call: that the outcome is the ledger's, and that the next arrays are a book's again. Assumes nothing.
 use Prim.Native.Nat.{ℕ}
-use mathlib.Core.Path.{◌≡◌, sym, subst}
-use mathlib.Core.Bool.{Bool, true, false, cond}
+use mathlib.Core.Path.{◌≡◌, sym, ap, ◌∙◌, subst}
+use mathlib.Core.Bool.{Bool, true, false}
 use mathlib.Core.List.{List}
-use Rattle.netting.specs.Netting.{class_lines_of, same_counts}
-use Rattle.records.specs.declared.refusal.Refusal.TheVariants.{Unreadable}
-use Rattle.ledger.specs.Opening.{Opening}
-use Rattle.ledger.specs.Call.{Call, migrate}
+use Rattle.records.specs.declared.setup.KeptOpening.{KeptOpening}
+use Rattle.std.specs.Prelude.{Result}
+use Rattle.source_evidence.specs.declared.evidence.Entry.{Entry}
+use Rattle.ledger.specs.Call.{Call}
+use Rattle.records.specs.declared.refusal.Refusal.{Refusal}
+use Rattle.records.specs.Opening.{opening_in}
+use Rattle.slots.specs.Layout.{ledger_in}
+use Rattle.slots.specs.Steps.{Reachable, Steps, StepsIf}
 use Rattle.book.specs.declared.book.Book.{Book}
-use Rattle.book.specs.declared.book.Outcome.{Outcome}
-use Rattle.book.specs.Outcomes.{refused_with, outcome_of, outcome_of_lines}
-use Rattle.book.specs.Reachable.{Reachable}
-use Rattle.book.specs.Opened.{opening_outcome}
+use Rattle.book.specs.Reading.{book_in}
+use Rattle.book.specs.Outcomes.{outcome_of, refused_with}
+use Rattle.book.specs.Reachable as book
 use Rattle.book.proofs.ReachableSteps.{outcome_reachable}
-use Rattle.book.proofs.OpenedLaws.{opened_reachable}
+use Rattle.book.proofs.OutcomeBooks.{beside, outcome_even, outcome_book, outcome_if}
 
--- equal answers have one book beside them
-beside : (a x : Outcome) → a ≡ x → Reachable x.book → Reachable a.book
-beside a x e r = subst (λ y. Reachable y.book) (sym e) r
+-- calls lead to the book beside it too, since a refused one is as it was
+even_reachable : (even : Bool) (b : Book) → book.Reachable b → (c : Call) → book.Reachable (outcome_even even b c).book
+unfolding refused_with
+even_reachable true b r c = outcome_reachable b r c
+even_reachable false b r c = r
 
-pub after_opening : (o : Opening) (a : Outcome) → a ≡ opening_outcome o → Reachable a.book
-after_opening o a e = beside a (opening_outcome o) e (opened_reachable o)
+module _ (o : KeptOpening) (f : List ℕ) (m : List Bool) (x : List Entry) (c : Call) (a : Result (Unit {0}) Refusal) (f' : List ℕ) (m' : List Bool) (x' : List Entry) where
+  -- the outcome, told of the book that stands in the arrays lent
+  pub returned : {b : Book} → book_in o f m x ≡ b → Steps (opening_in o) (ledger_in f m x) c a f' m' x' → beside o f m x c a f' m' x' ≡ outcome_of b c
+  returned e h = outcome_book o f m x c a f' m' x' h ∙ ap (λ b. outcome_of b c) e
 
-module _ (b : Book) (r : Reachable b) where
-  pub after_call : (c : Call) (a : Outcome) → a ≡ outcome_of b c → Reachable a.book
-  after_call c a e = beside a (outcome_of b c) e (outcome_reachable b r c)
+  pub returned_if : {b : Book} → book_in o f m x ≡ b → (even : Bool) → Reachable o f m x → StepsIf even (opening_in o) (ledger_in f m x) c a f' m' x' → beside o f m x c a f' m' x' ≡ outcome_even even b c
+  returned_if e even r h = outcome_if o f m x c a f' m' x' even r h ∙ ap (λ b. outcome_even even b c) e
 
-  -- a call whose lines stand in slices, or slices that do not fit each other
-  either : (even : Bool) (c : Call) → Reachable (cond even (outcome_of b c) (refused_with b Unreadable)).book
-  unfolding refused_with
-  either true c = outcome_reachable b r c
-  either false c = r
+  -- the arrays that a call leaves have the invariant again
+  pub next_reachable : Reachable o f m x → Steps (opening_in o) (ledger_in f m x) c a f' m' x' → Reachable o f' m' x'
+  unfolding book_in
+  next_reachable r h = subst (λ y. book.Reachable y.book) (sym (outcome_book o f m x c a f' m' x' h)) (outcome_reachable (book_in o f m x) r c)
 
-  pub after_migrate : (term sink : ℕ) (froms tos classes customers watts : List ℕ) (a : Outcome) → a ≡ outcome_of_lines b term sink froms tos classes customers watts → Reachable a.book
-  unfolding outcome_of_lines
-  after_migrate term sink froms tos classes customers watts a e = beside a (outcome_of_lines b term sink froms tos classes customers watts) e (either (same_counts froms tos classes customers watts) (migrate term sink (class_lines_of froms tos classes customers watts)))
+  pub next_reachable_if : (even : Bool) → Reachable o f m x → StepsIf even (opening_in o) (ledger_in f m x) c a f' m' x' → Reachable o f' m' x'
+  unfolding book_in
+  next_reachable_if even r h = subst (λ y. book.Reachable y.book) (sym (outcome_if o f m x c a f' m' x' even r h)) (even_reachable even (book_in o f m x) r c)

@@ -6,7 +6,7 @@ use Rattle.ledger.specs.Opening.{Opening, legal}
 use Rattle.ledger.specs.Call.{Call, Query}
 use Rattle.ledger.specs.Season.{call, query, answer, step, after}
 use Rattle.ledger.proofs.Steps.{after_more}
-use Rattle.records.specs.Opening.{opening_array}
+use Rattle.records.specs.Opening.{kept_opening}
 use Rattle.records.specs.Answers.{called, queried}
 use Rattle.slots.proofs.Reachable.{ledger_known, opening_known}
 use Rattle.book.specs.declared.book.Book.{Book}
@@ -17,7 +17,7 @@ use Rattle.book.specs.Reachable.{Reachable}
 module _ (o : Opening) (e : legal o ≡ true) (cs : List Call) where
   -- the book of a legal opening and a list of calls
   abbrev pub book_at : Book
-  book_at = book_of (opening_array o) (after o cs)
+  book_at = book_of (kept_opening o) (after o cs)
 
   pub at_reachable : Reachable book_at
   unfolding book_of book_in
@@ -41,9 +41,9 @@ module _ (o : Opening) (e : legal o ≡ true) (cs : List Call) where
   at_query q = λ i. queried (answer (at_opening i) (at_ledger i) (query q))
 
   -- a call returns the book of one call more
-  pub at_next : (c : Call) → (outcome_of book_at c).book ≡ book_of (opening_array o) (after o (cs ++ (c ∷ [])))
+  pub at_next : (c : Call) → (outcome_of book_at c).book ≡ book_of (kept_opening o) (after o (cs ++ (c ∷ [])))
   unfolding outcome_of book_of book_in
-  at_next c = ap (book_of (opening_array o)) ((λ i. step (at_opening i) (at_ledger i) c) ∙ sym (after_more o cs c))
+  at_next c = ap (book_of (kept_opening o)) ((λ i. step (at_opening i) (at_ledger i) c) ∙ sym (after_more o cs c))
 
 module _ (b : Book) (r : Reachable b) where
   -- a reachable book is that of its opening and calls
@@ -51,6 +51,6 @@ module _ (b : Book) (r : Reachable b) where
   unfolding book_of book_in
   reachable_book = λ i. record { opening = r.of_opening i; figures = r.of_figures i; posted = r.of_posted i; evidence = r.of_evidence i }
 
-  -- so whoever has a book from opening or a call can put the next call to what it returns
+  -- so what a call returns is reachable again, by one call more
   pub outcome_reachable : (c : Call) → Reachable (outcome_of b c).book
   outcome_reachable c = subst Reachable (sym (ap (λ x. (outcome_of x c).book) reachable_book ∙ at_next r.opening r.is_legal r.calls c)) (at_reachable r.opening r.is_legal (r.calls ++ (c ∷ [])))

@@ -5,18 +5,17 @@ use mathlib.Core.List.{List, [], ◌∷◌, ◌++◌, map, append_assoc, append-
 use lib.Dec.{eqb}
 use borrow.Author.Tests.{eqb-false}
 use Rattle.ledger.specs.Opening.{Opening, legal, opening_refusal}
-use Rattle.ledger.specs.Ledger.{Ledger, empty_ledger}
+use Rattle.ledger.specs.Ledger.{Ledger}
 use Rattle.ledger.specs.Call.{Call, Query}
 use Rattle.ledger.specs.Causes.{refusal, query_refusal}
 use Rattle.ledger.specs.Season as ledger
 use Rattle.ledger.specs.Season.{Request, call, query, after_from, after, answers, step_request, season}
 use Rattle.ledger.proofs.Steps.{after_more}
-use Rattle.records.specs.Opening.{opening_array, empty_opening}
 use Rattle.records.specs.Answers.{answer_in, of_call, of_query, called, queried}
 use Rattle.records.proofs.ToldRefusals.{call_told, query_told}
 use Rattle.opening.specs.Opened.{opening_answer, resulting_opening}
-use Rattle.book.specs.Reading.{book_of}
 use Rattle.book.specs.Outcomes.{outcome_of, query_answer_in}
+use Rattle.book.proofs.OpenedLaws.{opened_book}
 use Rattle.book.specs.Opened.{opening_outcome}
 use Rattle.book.specs.SeasonTheorem.{calls_of, book_after, answers_of, season_answers}
 use Rattle.book.proofs.ReachableSteps.{book_at, at_answer, at_query, at_next}
@@ -66,8 +65,8 @@ module _ (o : Opening) (e : legal o ≡ true) where
 
   -- opening returns the book of no calls
   pub opened_at : (opening_outcome o).book ≡ book_at o e []
-  unfolding opening_outcome resulting_opening after after_from
-  opened_at = ap (λ t. book_of (opening_array (cond t o empty_opening)) empty_ledger) e
+  unfolding after after_from
+  opened_at = opened_book o e
 
   pub last_book_lem : (requests : List Request) → book_after (opening_outcome o).book requests ≡ book_at o e (calls_of requests)
   last_book_lem requests = ap (λ b. book_after b requests) opened_at ∙ books-from [] requests

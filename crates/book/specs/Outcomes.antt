@@ -1,5 +1,5 @@
 -- What a call returns: the ledger's answer, and the book of the ledger's next step.
-use Rattle.std.specs.Prelude.{ℕ, Bool, cond, List, Result, Err}
+use Rattle.std.specs.Prelude.{ℕ, cond, List, Result, Err}
 use Rattle.netting.specs.declared.netting.ClassColumns.{ClassColumns}
 use Rattle.netting.specs.Netting.{class_lines_of, same_counts}
 use Rattle.ledger.specs.Call.{Call, Query, migrate}
@@ -9,7 +9,7 @@ use Rattle.records.specs.declared.refusal.Refusal.TheVariants.{Unreadable}
 use Rattle.records.specs.Answers.{called, queried}
 use Rattle.book.specs.declared.book.Book.{Book}
 use Rattle.book.specs.declared.book.Outcome.{Outcome}
-use Rattle.book.specs.Reading.{ledger_of, opening_of_book, book_of, book_in}
+use Rattle.book.specs.Reading.{ledger_of, opening_of_book, book_of}
 
 -- a refusal comes alone; the book is unchanged
 unfoldable pub refused_with : Book → Refusal → Outcome

@@ -3,12 +3,13 @@ use Rattle.std.specs.Prelude.{ℕ, Bool, List}
 use Rattle.source_evidence.specs.declared.evidence.Entry.{Entry}
 use Rattle.ledger.specs.Opening.{Opening}
 use Rattle.ledger.specs.Ledger.{Ledger}
+use Rattle.records.specs.declared.setup.KeptOpening.{KeptOpening}
 use Rattle.records.specs.Opening.{opening_in}
 use Rattle.slots.specs.Layout.{ledger_in, figures_of, posted_of, evidence_of}
 use Rattle.book.specs.declared.book.Book.{Book}
 
--- an opening's array, figures, postings and evidence together
-unfoldable pub book_in : List ℕ → List ℕ → List Bool → List Entry → Book
+-- an opening, figures, postings and evidence together
+unfoldable pub book_in : KeptOpening → List ℕ → List Bool → List Entry → Book
 book_in o f m x = record { opening = o; figures = f; posted = m; evidence = x }
 
 unfoldable pub ledger_of : Book → Ledger
@@ -18,5 +19,5 @@ unfoldable pub opening_of_book : Book → Opening
 opening_of_book b = opening_in b.opening
 
 -- the book that keeps an opening and has a ledger's figures
-unfoldable pub book_of : List ℕ → Ledger → Book
+unfoldable pub book_of : KeptOpening → Ledger → Book
 book_of o L = book_in o (figures_of L) (posted_of L) (evidence_of L)

@@ -4,11 +4,14 @@ ghost use Rattle.ledger.specs.Ledger.{empty_ledger};
 ghost use Rattle.opening.specs.Opened.{opening_asked};
 ghost use Rattle.slots.specs.Layout.{evidence_of};
 ghost use Rattle.book.specs.Opened.{opening_outcome};
+ghost use Rattle.book.specs.Reachable.{Reachable};
+ghost use Rattle.book.specs.Reading.{book_of};
 
 use crate::book::{Book, Outcome};
 use opening::book_setup::BookSetup;
+use opening::kept::keep_nothing;
 use opening::opening::open;
-use records::setup::OPENING_COUNT;
+use records::setup::KeptOpening;
 use slots::layout::{EVIDENCE_COUNT, FIGURE_COUNT, POSTED_COUNT};
 use source_evidence::evidence::Entry;
 
@@ -19,19 +22,31 @@ pub fn no_evidence() -> [Entry; EVIDENCE_COUNT]
     [Entry::EMPTY; EVIDENCE_COUNT]
 }
 
-// Opens a book, for any counts, slices and settings.
+// The book of an opening and no calls.
+fn blank_book(opening: KeptOpening) -> Book
+    requires { Reachable (book_of opening empty_ledger) }
+    ensures { result ≡ book_of opening empty_ledger }
+{
+    Book {
+        opening,
+        figures: [0u64; FIGURE_COUNT],
+        posted: [false; POSTED_COUNT],
+        evidence: no_evidence(),
+    }
+}
+
+// Opens a book, for any counts, slices and settings. A refused one has nothing in it, so that what is returned is always a book.
 pub fn open_book(setup: BookSetup) -> Outcome
     ensures { result ≡ opening_outcome (opening_asked setup.entry) }
 {
-    let mut kept = [0u64; OPENING_COUNT];
-    let answer = open(&mut kept, setup);
-    Outcome {
-        answer,
-        book: Book {
-            opening: kept,
-            figures: [0u64; FIGURE_COUNT],
-            posted: [false; POSTED_COUNT],
-            evidence: no_evidence(),
+    match open(setup) {
+        Ok(opening) => Outcome {
+            answer: Ok(()),
+            book: blank_book(opening),
+        },
+        Err(refusal) => Outcome {
+            answer: Err(refusal),
+            book: blank_book(keep_nothing()),
         },
     }
 }

@@ -4,7 +4,6 @@ ghost use Rattle.ledger.specs.Call.{carry, migrate, prior};
 ghost use Rattle.load.specs.Loads.{load_of};
 ghost use Rattle.verify.specs.Asked.{verify_of};
 ghost use Rattle.book.specs.Outcomes.{outcome_of, outcome_of_columns};
-ghost use Rattle.book.specs.Reachable.{Reachable};
 
 use crate::book::{Book, Outcome};
 use load::load::load;
@@ -20,7 +19,6 @@ use verify::verify::verify_and_file;
 impl Book {
     // Posts the load of a holder at a sink in a term.
     pub fn load(mut self, h: u64, s: u64, metered: Metered) -> Outcome
-        requires { Reachable self }
         ensures { result ≡ outcome_of self (load_of h s metered.entry) }
     {
         let answer = load(
@@ -36,7 +34,6 @@ impl Book {
 
     // Carries kw in for a holder on a path.
     pub fn carry(mut self, h: u64, p: u64, kw: u64) -> Outcome
-        requires { Reachable self }
         ensures { result ≡ outcome_of self (carry h p kw) }
     {
         let answer = carry(&self.opening, &mut self.figures, &mut self.posted, h, p, kw);
@@ -45,7 +42,6 @@ impl Book {
 
     // Posts the prior of a holder on a path.
     pub fn prior(mut self, h: u64, p: u64, a: u64, l: u64) -> Outcome
-        requires { Reachable self }
         ensures { result ≡ outcome_of self (prior h p a l) }
     {
         let answer = prior(
@@ -62,7 +58,6 @@ impl Book {
 
     // Files evidence of a holder for a source; the mark says whether it runs for ten years.
     pub fn verify(mut self, h: u64, s: u64, filing: Filing) -> Outcome
-        requires { Reachable self }
         ensures { result ≡ outcome_of self (verify_of h s filing) }
     {
         let answer = verify_and_file(
@@ -79,7 +74,6 @@ impl Book {
 
     // Moves loads, rights and last year's allocations with the customers of class lines, whose fields stand in five slices.
     pub fn migrate(mut self, term: u64, sink: u64, columns: ClassColumns) -> Outcome
-        requires { Reachable self }
         ensures { result ≡ outcome_of_columns self term sink columns.entry }
     {
         let answer = migrate(&self.opening, &mut self.figures, term, sink, columns);
@@ -88,7 +82,6 @@ impl Book {
 
     // Moves loads, rights and last year's allocations with the customers of the class lines lent.
     pub fn migrate_lines(mut self, term: u64, sink: u64, lines: &[ClassLine]) -> Outcome
-        requires { Reachable self }
         ensures { result ≡ outcome_of self (migrate term sink lines.now) }
     {
         let answer = migrate_lines(&self.opening, &mut self.figures, term, sink, lines);

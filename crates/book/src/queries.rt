@@ -2,7 +2,6 @@
 ghost use Rattle.std.specs.Prelude.{◌≡◌};
 ghost use Rattle.ledger.specs.Call.{limit_of, held_on, net_on};
 ghost use Rattle.book.specs.Outcomes.{query_answer_in};
-ghost use Rattle.book.specs.Reachable.{Reachable};
 
 use crate::book::Book;
 use awards::holdings::{held, net};
@@ -12,7 +11,6 @@ use tier_limits::limits::limit;
 impl Book {
     // A holder's limit at a sink's base in the open tier.
     pub fn limit(self, h: u64, s: u64) -> Result<u64, Refusal>
-        requires { Reachable self }
         ensures { result ≡ query_answer_in self (limit_of h s) }
     {
         limit(&self.opening, &self.figures, h, s)
@@ -20,7 +18,6 @@ impl Book {
 
     // What a holder holds on a path in a month.
     pub fn held(self, h: u64, p: u64, month: u64) -> Result<u64, Refusal>
-        requires { Reachable self }
         ensures { result ≡ query_answer_in self (held_on h p month) }
     {
         held(&self.opening, &self.figures, h, p, month)
@@ -28,7 +25,6 @@ impl Book {
 
     // What all holders hold on a path in a month.
     pub fn net(self, p: u64, month: u64) -> Result<u64, Refusal>
-        requires { Reachable self }
         ensures { result ≡ query_answer_in self (net_on p month) }
     {
         net(&self.opening, &self.figures, p, month)

@@ -2,7 +2,6 @@
 ghost use Rattle.std.specs.Prelude.{◌≡◌};
 ghost use Rattle.ledger.specs.Call.{open_tier, nominate, award, close_tier};
 ghost use Rattle.book.specs.Outcomes.{outcome_of};
-ghost use Rattle.book.specs.Reachable.{Reachable};
 
 use crate::book::{Book, Outcome};
 use awards::award::award;
@@ -12,7 +11,6 @@ use nominations::nominate::nominate;
 impl Book {
     // Opens a tier.
     pub fn open_tier(mut self, tier: u64) -> Outcome
-        requires { Reachable self }
         ensures { result ≡ outcome_of self (open_tier tier) }
     {
         let answer = open_tier(&mut self.figures, tier);
@@ -21,7 +19,6 @@ impl Book {
 
     // Nominates kw for a holder on a path in the open tier.
     pub fn nominate(mut self, h: u64, p: u64, kw: u64) -> Outcome
-        requires { Reachable self }
         ensures { result ≡ outcome_of self (nominate h p kw) }
     {
         let answer = nominate(&self.opening, &mut self.figures, h, p, kw);
@@ -30,7 +27,6 @@ impl Book {
 
     // Awards kw to a holder on a path in the open tier.
     pub fn award(mut self, h: u64, p: u64, kw: u64) -> Outcome
-        requires { Reachable self }
         ensures { result ≡ outcome_of self (award h p kw) }
     {
         let answer = award(&self.opening, &mut self.figures, h, p, kw);
@@ -39,7 +35,6 @@ impl Book {
 
     // Closes the open tier: what was not awarded is dropped.
     pub fn close_tier(mut self) -> Outcome
-        requires { Reachable self }
         ensures { result ≡ outcome_of self close_tier }
     {
         let answer = close_tier(&mut self.figures);

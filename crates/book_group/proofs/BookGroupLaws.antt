@@ -1,6 +1,6 @@
 -- What the book group at the start of a script comes to. Assumes nothing.
 use Prim.Native.Nat.{ℕ, ◌+◌, ◌-◌, ◌≤◌}
-use mathlib.Core.Path.{◌≡◌, refl, sym, ap, ◌∙◌}
+use mathlib.Core.Path.{◌≡◌, refl, sym, ap, ◌∙◌, subst}
 use mathlib.Core.Bool.{Bool, true, false, cond, ◌&&◌, and_assoc, and_comm}
 use mathlib.Core.List.{List}
 use native.Mathlib.Nat.{le_trans, le_of_eq}
@@ -9,19 +9,18 @@ use lib.ListN.{length, take, drop, length-drop}
 use lib.Seq.{drop-drop}
 use lib.Dec.{eqb}
 use borrow.Author.Tests.{eqb-true}
+use Rattle.records.specs.declared.setup.KeptOpening.{KeptOpening}
 use Rattle.tariff.proofs.Tests.{and_both}
 use Rattle.std.specs.Prelude.{Result, Ok, Err}
-use Rattle.std.specs.Result.{is_ok}
-use Rattle.ledger.specs.Opening.{Opening, legal}
+use Rattle.ledger.specs.Opening.{legal}
 use Rattle.ledger.specs.Ledger.{empty_ledger}
-use Rattle.records.specs.Opening.{opening_array}
+use Rattle.records.specs.Opening.{kept_opening}
 use Rattle.records.specs.declared.refusal.Refusal.{Refusal}
 use Rattle.records.specs.declared.refusal.Refusal.TheVariants.{Unreadable, BreaksRules}
-use Rattle.opening.specs.Opened.{opening_answer, resulting_opening}
+use Rattle.opening.specs.Opened.{opened}
 use Rattle.book.specs.Reading.{book_of}
-use Rattle.book.specs.Opened.{opening_outcome}
 use Rattle.book.specs.Reachable.{Reachable}
-use Rattle.book.proofs.OpenedLaws.{opened_reachable}
+use Rattle.book.proofs.OpenedLaws.{opened_reachable, opened_book}
 use Rattle.lines.specs.declared.rows.Row.{Row}
 use Rattle.counted_lines.specs.declared.book_lines.BookLists.{BookLists}
 use Rattle.lines.specs.declared.lines.NextRow.{NextRow}
@@ -36,8 +35,8 @@ use Rattle.counted_lines.proofs.RowSteps.{consumed_within}
 use Rattle.counted_lines.proofs.LineBytes.{bytes_within, rows_after}
 use Rattle.book_group.specs.declared.book_group.BookGroup.{BookGroup}
 use Rattle.groups.specs.Groups.{book_readable, opening_of_rows, call_rows}
-use Rattle.book_group.specs.BookGroup.{opening_kept, book_group_with, opening_left, book_group_of, opening_after}
-use Rattle.book_group.proofs.CutLists.{kept_answer, kept_opening}
+use Rattle.book_group.specs.BookGroup.{opening_kept, book_group_with, book_group_of}
+use Rattle.book_group.proofs.CutLists.{kept_opened}
 
 -- the head is one line
 pub after_head : (script : List ℕ) (f : NextRow) → f ≡ next_row script → f.consumed ≡ bytes_of_lines 1 script
@@ -48,16 +47,6 @@ after_head script f e = ap (λ g. g.consumed) e ∙ (omega arith)
 as_counted : (kind : LineKind) (n : ℕ) (lines : List Row) → counted kind n lines ≡ true → length lines ≡ n
 unfolding counted
 as_counted kind n lines e = eqb-true (length lines) n (and_both (eqb (length lines) n) (all_of_kind kind lines) e).0
-
--- a group opens a book where it is readable and its opening is legal
-opens : (readable : Bool) (o : Opening) → is_ok (cond readable (opening_answer o) (Err Unreadable)) ≡ (readable && legal o)
-unfolding opening_answer
-opens readable o = go readable (legal o)
-  where
-    go : (t u : Bool) → is_ok (cond t (cond u (Ok (tt {0})) (Err BreaksRules)) (Err Unreadable)) ≡ (t && u)
-    go true true = refl
-    go true false = refl
-    go false u = refl
 
 readable_parts : (head : Row) (rows : List Row) → book_readable head rows ≡ (book_lines_complete head rows && same_kind head.kind Book)
 unfolding book_readable book_lines_complete
@@ -101,32 +90,24 @@ module _ (head : Row) (rest : List ℕ) (lists : BookLists) (e : lists ≡ book_
         let first = and_both _ _ last.0 in
         (as_counted Holder (field 0 head) (holder_rows head rows) first.0, as_counted Sink (field 2 head) (sink_rows head rows) first.1, as_counted Path (field 3 head) (path_rows head rows) last.1)
 
-    pub group_opened : (consumed : ℕ) (answer : Result (Unit {0}) Refusal) → answer ≡ opening_answer (opening_kept head lists) → ◌≡◌ {A = BookGroup} (record { answer = answer; consumed = consumed + lists.consumed }) (group consumed)
+    pub group_opened : (consumed : ℕ) (kept : Result KeptOpening Refusal) → kept ≡ opened (opening_kept head lists) → ◌≡◌ {A = BookGroup} (record { opened = kept; consumed = consumed + lists.consumed }) (group consumed)
     unfolding book_group_with
-    group_opened consumed answer ea =
+    group_opened consumed kept ek =
         let o = opening_of_rows head rows in
-        let ea' = ea ∙ kept_answer head rest lists e all_counted in
+        let ek' = ek ∙ kept_opened head rest lists e all_counted in
         let so = sym (sym is-readable ∙ readable) in
-        (λ i. record { answer = ea' i; consumed = consumed + lists-consumed i })
-        ∙ (λ i. record { answer = cond (so i) (opening_answer o) (Err Unreadable); consumed = consumed + bytes_of_lines (book_line_count head rows) rest })
-
-    pub opening_put : (o₀ o₁ : List ℕ) → o₁ ≡ opening_array (resulting_opening (opening_kept head lists)) → o₁ ≡ opening_left head rows o₀
-    unfolding opening_left
-    opening_put o₀ o₁ put = put ∙ ap opening_array (kept_opening head rest lists e all_counted) ∙ ap (λ t. cond t (opening_array (resulting_opening (opening_of_rows head rows))) o₀) (sym (sym is-readable ∙ readable))
+        (λ i. record { opened = ek' i; consumed = consumed + lists-consumed i })
+        ∙ (λ i. record { opened = cond (so i) (opened o) (Err Unreadable); consumed = consumed + bytes_of_lines (book_line_count head rows) rest })
 
   -- and what is answered where they are not
   module _ (unread : (lists.complete && same_kind head.kind Book) ≡ false) where
-    pub group_refused : (consumed : ℕ) → ◌≡◌ {A = BookGroup} (record { answer = Err Unreadable; consumed = consumed + lists.consumed }) (group consumed)
+    pub group_refused : (consumed : ℕ) → ◌≡◌ {A = BookGroup} (record { opened = Err Unreadable; consumed = consumed + lists.consumed }) (group consumed)
     unfolding book_group_with
     group_refused consumed =
         let o = opening_of_rows head rows in
         let so = sym (sym is-readable ∙ unread) in
-        (λ i. record { answer = Err Unreadable; consumed = consumed + lists-consumed i })
-        ∙ (λ i. record { answer = cond (so i) (opening_answer o) (Err Unreadable); consumed = consumed + bytes_of_lines (book_line_count head rows) rest })
-
-    pub opening_stays : (o : List ℕ) → o ≡ opening_left head rows o
-    unfolding opening_left
-    opening_stays o = ap (λ t. cond t (opening_array (resulting_opening (opening_of_rows head rows))) o) (sym (sym is-readable ∙ unread))
+        (λ i. record { opened = Err Unreadable; consumed = consumed + lists-consumed i })
+        ∙ (λ i. record { opened = cond (so i) (opened o) (Err Unreadable); consumed = consumed + bytes_of_lines (book_line_count head rows) rest })
 
 -- the head and what is left are those of the script
 group_at : NextRow → List ℕ → BookGroup
@@ -137,12 +118,6 @@ unfolding book_group_of group_at
 whole_group script f e =
     ap (group_at f) (rest_all script f.consumed)
     ∙ ap (λ g. group_at g (drop g.consumed script)) e
-
-pub whole_opening : (script o : List ℕ) (f : NextRow) → f ≡ next_row script → opening_left f.row (rows_of (take (length script - f.consumed) (drop f.consumed script))) o ≡ opening_after script o
-unfolding opening_after
-whole_opening script o f e =
-    ap (λ rest. opening_left f.row (rows_of rest) o) (rest_all script f.consumed)
-    ∙ ap (λ g. opening_left g.row (rows_of (drop g.consumed script)) o) e
 
 -- where the calls begin
 pub group_consumed : (script : List ℕ) → (book_group_of script).consumed ≡ (next_row script).consumed + bytes_of_lines (book_line_count (next_row script).row (rows_of (drop (next_row script).consumed script))) (drop (next_row script).consumed script)
@@ -172,15 +147,25 @@ module _ (script : List ℕ) where
   unfolding call_rows
   group_rows = ap (λ u. rows_of (drop u script)) (group_consumed script) ∙ ap rows_of (sym (drop-drop (bytes_of_lines counted_lines left) (next_row script).consumed script)) ∙ rows_after counted_lines left
 
-  -- a run goes on where the group is readable and its opening legal
-  pub group_opens : is_ok (book_group_of script).answer ≡ true → (book_readable first (rows_of left) ≡ true) × (legal (opening_of_rows first (rows_of left)) ≡ true)
-  unfolding book_group_of book_group_with
-  group_opens e = and_both _ _ (sym (opens (book_readable first (rows_of left)) (opening_of_rows first (rows_of left))) ∙ e)
+  -- a run goes on where the group is readable and its opening legal, with that opening
+  pub group_opens : (kept : KeptOpening) → (book_group_of script).opened ≡ Ok kept → (book_readable first (rows_of left) ≡ true) × (legal (opening_of_rows first (rows_of left)) ≡ true) × (kept ≡ kept_opening (opening_of_rows first (rows_of left)))
+  unfolding book_group_of book_group_with opened
+  group_opens kept e = go (book_readable first (rows_of left)) (legal (opening_of_rows first (rows_of left))) e
+    where
+      of_ok : Result KeptOpening Refusal → KeptOpening
+      of_ok (Ok a) = a
+      of_ok (Err r) = kept
+
+      go : (readable is_legal : Bool) → cond readable (cond is_legal (Ok (kept_opening (opening_of_rows first (rows_of left)))) (Err BreaksRules)) (Err Unreadable) ≡ Ok kept → (readable ≡ true) × (is_legal ≡ true) × (kept ≡ kept_opening (opening_of_rows first (rows_of left)))
+      go true true w = (refl, refl, sym (ap of_ok w))
+      go true false w = cc
+      go false is_legal w = cc
 
   -- and its book is one
-  pub book_group_reachable : (o : List ℕ) → is_ok (book_group_of script).answer ≡ true → Reachable (book_of (opening_after script o) empty_ledger)
-  unfolding opening_after opening_left opening_outcome
-  book_group_reachable o e = rw (group_opens e).0 (opened_reachable (opening_of_rows first (rows_of left)))
+  pub book_group_reachable : (kept : KeptOpening) → (book_group_of script).opened ≡ Ok kept → Reachable (book_of kept empty_ledger)
+  book_group_reachable kept e =
+      let opens = group_opens kept e in
+      subst Reachable (opened_book (opening_of_rows first (rows_of left)) opens.1 ∙ ap (λ o. book_of o empty_ledger) (sym opens.2)) (opened_reachable (opening_of_rows first (rows_of left)))
 
 -- the head's bytes and those of its lines are in the script
 pub lists_fit_lem : (script : List ℕ) (f : NextRow) (lists : BookLists) → f ≡ next_row script → lists ≡ book_lists_of f.row (take (length script - f.consumed) (drop f.consumed script)) → f.consumed + lists.consumed ≤ length script

@@ -15,13 +15,13 @@ use Rattle.std.specs.Prelude.{Err}
 use Rattle.std.proofs.lemmas.List.{length-replicate}
 use Rattle.std.proofs.lemmas.Simd.{map-map}
 use Rattle.ledger.specs.Opening.{Opening, counts_fit, legal}
-use Rattle.records.specs.Opening.{empty_opening, opening_from}
+use Rattle.records.specs.Opening.{no_sink, no_path, opening_from}
 use Rattle.records.specs.declared.refusal.Refusal.TheVariants.{BreaksRules}
-use Rattle.opening.specs.Opened.{opening_answer, resulting_opening}
+use Rattle.opening.specs.Opened.{opened}
 use Rattle.lines.specs.declared.rows.Row.{Row}
 use Rattle.counted_lines.specs.declared.book_lines.BookLists.{BookLists}
 use Rattle.lines.specs.Rows.{rows_of, field, holder_rows, sink_rows, path_rows, settings_of_rows}
-use Rattle.counted_lines.specs.BookLines.{first_lines, blank_sink, blank_path, book_lists_of}
+use Rattle.counted_lines.specs.BookLines.{first_lines, book_lists_of}
 use Rattle.counted_lines.specs.Counted.{sink_line_of, path_line_of, with_lines}
 use Rattle.counted_lines.proofs.KeptLines.{all_kept, same_long}
 use Rattle.groups.specs.Groups.{opening_of_rows}
@@ -32,29 +32,17 @@ not_legal : (o : Opening) → counts_fit o ≡ false → legal o ≡ false
 unfolding legal
 not_legal o e = and_left_false _ (and_left_false _ (and_left_false _ (and_left_false _ (and_left_false _ (and_left_false _ e)))))
 
-refused_for_counts : (o : Opening) → counts_fit o ≡ false → opening_answer o ≡ Err BreaksRules
-unfolding opening_answer
+refused_for_counts : (o : Opening) → counts_fit o ≡ false → opened o ≡ Err BreaksRules
+unfolding opened
 refused_for_counts o e = rw (not_legal o e)
 
-empty_for_counts : (o : Opening) → counts_fit o ≡ false → resulting_opening o ≡ empty_opening
-unfolding resulting_opening
-empty_for_counts o e = rw (not_legal o e)
-
--- two openings of the same counts, whose lists are the same where the counts fit, are answered the same and leave the same opening
-module _ (o p : Opening) (counts : counts_fit o ≡ counts_fit p) (lists : counts_fit p ≡ true → o ≡ p) where
-  same_answer : opening_answer o ≡ opening_answer p
-  same_answer = go (decided (counts_fit p))
-    where
-      go : (counts_fit p ≡ true) ⊎ (counts_fit p ≡ false) → opening_answer o ≡ opening_answer p
-      go (inl e) = ap opening_answer (lists e)
-      go (inr e) = refused_for_counts o (counts ∙ e) ∙ sym (refused_for_counts p e)
-
-  same-opening : resulting_opening o ≡ resulting_opening p
-  same-opening = go (decided (counts_fit p))
-    where
-      go : (counts_fit p ≡ true) ⊎ (counts_fit p ≡ false) → resulting_opening o ≡ resulting_opening p
-      go (inl e) = ap resulting_opening (lists e)
-      go (inr e) = empty_for_counts o (counts ∙ e) ∙ sym (empty_for_counts p e)
+-- two openings of the same counts, whose lists are the same where the counts fit, open the same
+same_opened : (o p : Opening) → counts_fit o ≡ counts_fit p → (counts_fit p ≡ true → o ≡ p) → opened o ≡ opened p
+same_opened o p counts lists = go (decided (counts_fit p))
+  where
+    go : (counts_fit p ≡ true) ⊎ (counts_fit p ≡ false) → opened o ≡ opened p
+    go (inl e) = ap opened (lists e)
+    go (inr e) = refused_for_counts o (counts ∙ e) ∙ sym (refused_for_counts p e)
 
 -- counts that fit are at most 16
 counts_small : (o : Opening) → counts_fit o ≡ true → (o.holders ≤ max_places) × (o.sinks ≤ max_places) × (o.paths ≤ max_places)
@@ -143,10 +131,10 @@ module _ (head : Row) (rest : List ℕ) (lists : BookLists) (e : lists ≡ book_
           sinks = field 2 head;
           paths = field 3 head;
           holder_kinds = lines_are_all (field 0) 0 (field 0 head) (holder_rows head rows) there.0 small.0 i;
-          sink_kinds = numbers_are_all sink_line_of (λ line. line.kind) blank_sink (field 2 head) (sink_rows head rows) there.1 small.1 i;
-          sink_parents = numbers_are_all sink_line_of (λ line. line.parent) blank_sink (field 2 head) (sink_rows head rows) there.1 small.1 i;
-          path_sources = numbers_are_all path_line_of (λ line. line.source) blank_path (field 3 head) (path_rows head rows) there.2 small.2 i;
-          path_sinks = numbers_are_all path_line_of (λ line. line.sink) blank_path (field 3 head) (path_rows head rows) there.2 small.2 i;
+          sink_kinds = numbers_are_all sink_line_of (λ line. line.kind) no_sink (field 2 head) (sink_rows head rows) there.1 small.1 i;
+          sink_parents = numbers_are_all sink_line_of (λ line. line.parent) no_sink (field 2 head) (sink_rows head rows) there.1 small.1 i;
+          path_sources = numbers_are_all path_line_of (λ line. line.source) no_path (field 3 head) (path_rows head rows) there.2 small.2 i;
+          path_sinks = numbers_are_all path_line_of (λ line. line.sink) no_path (field 3 head) (path_rows head rows) there.2 small.2 i;
           settings = settings_of_rows head rows;
         }
 
@@ -154,8 +142,5 @@ module _ (head : Row) (rest : List ℕ) (lists : BookLists) (e : lists ≡ book_
     unfolding counts_fit opening_kept opening_from opening_of_rows
     same-counts = refl
 
-    pub kept_answer : opening_answer (opening_kept head lists) ≡ opening_answer read
-    kept_answer = same_answer (opening_kept head lists) read same-counts whole-lists
-
-    pub kept_opening : resulting_opening (opening_kept head lists) ≡ resulting_opening read
-    kept_opening = same-opening (opening_kept head lists) read same-counts whole-lists
+    pub kept_opened : opened (opening_kept head lists) ≡ opened read
+    kept_opened = same_opened (opening_kept head lists) read same-counts whole-lists

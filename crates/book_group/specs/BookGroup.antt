@@ -1,10 +1,13 @@
--- The book group that a script begins with: what it is answered, the opening that it leaves, and where the calls begin (01, Script and host; 02, 3/14).
-use Rattle.std.specs.Prelude.{ℕ, ◌+◌, ◌≡◌, cond, List, map, length, take, drop, Err}
+-- The book group that a script begins with: what it opens, and where the calls begin (01, Script and host; 02, 3/14).
+use Rattle.std.specs.Prelude.{ℕ, ◌+◌, ◌≡◌, cond, List, map, length, take, drop, None, Result, Ok, Err}
 use Rattle.tariff.specs.Sizes.{max_places}
 use Rattle.ledger.specs.Opening.{Opening}
-use Rattle.records.specs.Opening.{opening_array, opening_from}
+use Rattle.records.specs.Opening.{opening_from}
+use Rattle.records.specs.Answers.{Answer}
+use Rattle.records.specs.declared.setup.KeptOpening.{KeptOpening}
+use Rattle.records.specs.declared.refusal.Refusal.{Refusal}
 use Rattle.records.specs.declared.refusal.Refusal.TheVariants.{Unreadable}
-use Rattle.opening.specs.Opened.{opening_answer, resulting_opening}
+use Rattle.opening.specs.Opened.{opened}
 use Rattle.lines.specs.declared.rows.Row.{Row}
 use Rattle.counted_lines.specs.declared.book_lines.BookLists.{BookLists}
 use Rattle.lines.specs.Rows.{rows_of, field, book_line_count}
@@ -35,13 +38,9 @@ module _ (head : Row) (rows : List Row) where
   unfoldable pub book_group_with : ℕ → BookGroup
   book_group_with consumed =
       record {
-        answer = cond (book_readable head rows) (opening_answer (opening_of_rows head rows)) (Err Unreadable);
+        opened = cond (book_readable head rows) (opened (opening_of_rows head rows)) (Err Unreadable);
         consumed = consumed;
       }
-
-  -- the array that an opening is kept in: an unreadable group leaves it as it was
-  unfoldable pub opening_left : List ℕ → List ℕ
-  opening_left o = cond (book_readable head rows) (opening_array (resulting_opening (opening_of_rows head rows))) o
 
 -- the script's first line is the head
 unfoldable pub book_group_of : List ℕ → BookGroup
@@ -50,5 +49,7 @@ book_group_of script =
     let rest = drop (next_row script).consumed script in
     book_group_with head (rows_of rest) ((next_row script).consumed + bytes_of_lines (book_line_count head (rows_of rest)) rest)
 
-unfoldable pub opening_after : List ℕ → List ℕ → List ℕ
-opening_after script o = opening_left (next_row script).row (rows_of (drop (next_row script).consumed script)) o
+-- what a group is answered: a book that is open, or the refusal
+unfoldable pub group_answer : Result KeptOpening Refusal → Answer
+group_answer (Ok kept) = Ok None
+group_answer (Err refusal) = Err refusal

@@ -1,4 +1,4 @@
-// The book group: its head and lines read, and a book opened from them in a lent array.
+// The book group: its head and lines read, and a book opened from them.
 #![tactic(auto)]
 
 pub mod book_group;

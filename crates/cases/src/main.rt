@@ -4,7 +4,7 @@
 //   ok            done
 //   ok,V          done, with a figure
 //   no,NN         refused with 01's number
-#![tactic(auto, using(book::proofs::NextBooks::after_call))]
+#![tactic(auto)]
 
 mod answers;
 mod seasons;

@@ -1,13 +1,12 @@
 // The seasons of the marked cases, as the ledger's `marked_cases` has them.
-ghost use Rattle.book.specs.Reachable.{Reachable};
-
 use crate::answers::Answers;
 use book::book::{Book, Outcome};
 use book::opened::open_book;
 use load::metered::Metered;
 use load_metric::block::Block;
 use netting::netting::ClassLine;
-use opening::book_setup::{BookSetup, PathLine, SinkLine};
+use opening::book_setup::BookSetup;
+use records::setup::{KeptOpening, PathLine, SinkLine};
 use source_evidence::filing::Filing;
 use std::io;
 use tariff::settings::Settings;
@@ -18,10 +17,7 @@ fn path_from(source: u64) -> PathLine {
 }
 
 // A book with holders of these kinds, one sink, and these paths, each from a source of its own.
-#[tactic(auto, using(book::proofs::NextBooks::after_opening))]
-fn open(kinds: &[u64], sink_kind: u64, path_lines: &[PathLine]) -> Outcome
-    ensures { Reachable result.book }
-{
+fn open(kinds: &[u64], sink_kind: u64, path_lines: &[PathLine]) -> Outcome {
     let paths = path_lines.len() as u64;
     open_book(BookSetup {
         holders: kinds.len() as u64,
@@ -39,16 +35,12 @@ fn open(kinds: &[u64], sink_kind: u64, path_lines: &[PathLine]) -> Outcome
 }
 
 // Load-serving entities at a Default LAP that no path ends at.
-fn without_paths(kinds: &[u64]) -> Outcome
-    ensures { Reachable result.book }
-{
+fn without_paths(kinds: &[u64]) -> Outcome {
     open(kinds, 1, &[])
 }
 
 // Holders of these kinds at a sink with one path.
-fn with_path(kinds: &[u64], sink_kind: u64) -> Outcome
-    ensures { Reachable result.book }
-{
+fn with_path(kinds: &[u64], sink_kind: u64) -> Outcome {
     open(kinds, sink_kind, &[path_from(0)])
 }
 
@@ -68,27 +60,18 @@ fn block(first: u64, hours: u64, kw: u64) -> Block {
 }
 
 // A load of kw in each of 100 hours, at sink 0.
-fn steady_load(b: Book, h: u64, term: u64, kw: u64) -> Outcome
-    requires { Reachable b }
-    ensures { Reachable result.book }
-{
+fn steady_load(b: Book, h: u64, term: u64, kw: u64) -> Outcome {
     b.load(h, 0, metered(term, 0, 100, &[block(0, 100, kw)]))
 }
 
 // A tier that opens and closes with nothing nominated.
-fn pass_tier<R: Print>(answers: &mut Answers<R>, b: Book, tier: u64) -> Book
-    requires { Reachable b }
-    ensures { Reachable result }
-{
+fn pass_tier<R: Print>(answers: &mut Answers<R>, b: Book, tier: u64) -> Book {
     let b = answers.next(b.open_tier(tier));
     answers.next(b.close_tier())
 }
 
 // A tier in which holder 0 nominates kw on path 0 and is awarded it.
-fn full_tier<R: Print>(answers: &mut Answers<R>, b: Book, tier: u64, kw: u64) -> Book
-    requires { Reachable b }
-    ensures { Reachable result }
-{
+fn full_tier<R: Print>(answers: &mut Answers<R>, b: Book, tier: u64, kw: u64) -> Book {
     let b = answers.next(b.open_tier(tier));
     let b = answers.next(b.nominate(0, 0, kw));
     let b = answers.next(b.award(0, 0, kw));
@@ -96,9 +79,7 @@ fn full_tier<R: Print>(answers: &mut Answers<R>, b: Book, tier: u64, kw: u64) ->
 }
 
 // Case 1 up to its tier 1.
-fn first_tier_1<R: Print>(answers: &mut Answers<R>) -> Book
-    ensures { Reachable result }
-{
+fn first_tier_1<R: Print>(answers: &mut Answers<R>) -> Book {
     let b = answers.next(open(&[1], 1, &[path_from(0), path_from(1)]));
     let blocks = [block(0, 398, 1000), block(398, 2, 5000)];
     let b = answers.next(b.load(0, 0, metered(0, 0, 400, &blocks)));
@@ -108,9 +89,7 @@ fn first_tier_1<R: Print>(answers: &mut Answers<R>) -> Book
 }
 
 // The rest of case 1.
-fn first_season<R: Print>(answers: &mut Answers<R>) -> Book
-    ensures { Reachable result }
-{
+fn first_season<R: Print>(answers: &mut Answers<R>) -> Book {
     let b = first_tier_1(answers);
     answers.write_query(b.limit(0, 0));
     let b = answers.next(b.nominate(0, 1, 201));

@@ -9,8 +9,8 @@ use lib.Seq.{get_or-drop}
 use Rattle.lines.specs.declared.rows.LineKind.{LineKind}
 use Rattle.lines.specs.declared.rows.Row.{Row}
 use Rattle.tariff.specs.Sizes.{max_places}
-use Rattle.opening.specs.declared.book_setup.SinkLine.{SinkLine}
-use Rattle.opening.specs.declared.book_setup.PathLine.{PathLine}
+use Rattle.records.specs.declared.setup.SinkLine.{SinkLine}
+use Rattle.records.specs.declared.setup.PathLine.{PathLine}
 use Rattle.counted_lines.specs.declared.counted.CountedLines.{CountedLines}
 use Rattle.counted_lines.specs.declared.book_lines.SetLine.{SetLine}
 use Rattle.counted_lines.specs.declared.book_lines.BookLists.{BookLists}
@@ -18,7 +18,8 @@ use Rattle.lines.specs.declared.rows.LineKind.TheVariants.{Holder, Sink, Path}
 use Rattle.lines.specs.Rows.{unreadable_row, rows_of, field, counted, holder_rows, sink_rows, path_rows, head_count, set_count, not_broken, settings_on, set_row, set_readable, settings_of_rows, book_line_count}
 use Rattle.lines.specs.Reading.{next_row}
 use Rattle.counted_lines.specs.Counted.{bytes_of_lines, rows_counted, counted_of, sink_line_of, path_line_of, with_lines}
-use Rattle.counted_lines.specs.BookLines.{first_lines, blank_sink, blank_path, set_line_of, book_lines_complete, book_lists_of}
+use Rattle.records.specs.Opening.{no_sink, no_path}
+use Rattle.counted_lines.specs.BookLines.{first_lines, set_line_of, book_lines_complete, book_lists_of}
 use Rattle.counted_lines.proofs.LineBytes.{bytes_add, bytes_within, rest_all, rest_rows}
 use Rattle.counted_lines.proofs.SetLaws.{next_first}
 
@@ -95,8 +96,8 @@ module _ (s : List ℕ) (head : Row) where
             (sink_lines : List SinkLine)
             (path_lines : List PathLine)
             (kept_holders : holder_kinds ≡ with_lines (map (field 0) (rows_counted n0 s)) (replicate max_places 0))
-            (kept_sinks : sink_lines ≡ with_lines (map sink_line_of (rows_counted n2 (take (length s - x.consumed) (drop x.consumed s)))) (replicate max_places blank_sink))
-            (kept_paths : path_lines ≡ with_lines (map path_line_of (rows_counted n3 (take (length s - (x.consumed + y.consumed)) (drop (x.consumed + y.consumed) s)))) (replicate max_places blank_path))
+            (kept_sinks : sink_lines ≡ with_lines (map sink_line_of (rows_counted n2 (take (length s - x.consumed) (drop x.consumed s)))) (replicate max_places no_sink))
+            (kept_paths : path_lines ≡ with_lines (map path_line_of (rows_counted n3 (take (length s - (x.consumed + y.consumed)) (drop (x.consumed + y.consumed) s)))) (replicate max_places no_path))
           where
             pub lists_read : ◌≡◌ {A = BookLists} (record { complete = x.complete && y.complete && z.complete && w.readable; consumed = x.consumed + y.consumed + z.consumed + w.consumed; holder_kinds = holder_kinds; sink_lines = sink_lines; path_lines = path_lines; settings = w.settings }) (book_lists_of head s)
             unfolding book_lists_of book_lines_complete holder_rows sink_rows path_rows set_readable settings_of_rows set_line_of first_lines field left
@@ -106,7 +107,7 @@ module _ (s : List ℕ) (head : Row) where
                   complete = complete-is n0 s (rows_of s) refl Holder x read_x i && complete-is n2 _ _ sinks-here Sink y read_y i && complete-is n3 _ _ paths-here Path z read_z i && (ap (λ l. l.readable) read_w ∙ ap not_broken row_here) i;
                   consumed = at-end i;
                   holder_kinds = kept-are n0 s (rows_of s) refl (field 0) (replicate max_places 0) holder_kinds kept_holders i;
-                  sink_lines = kept-are n2 _ _ sinks-here sink_line_of (replicate max_places blank_sink) sink_lines kept_sinks i;
-                  path_lines = kept-are n3 _ _ paths-here path_line_of (replicate max_places blank_path) path_lines kept_paths i;
+                  sink_lines = kept-are n2 _ _ sinks-here sink_line_of (replicate max_places no_sink) sink_lines kept_sinks i;
+                  path_lines = kept-are n3 _ _ paths-here path_line_of (replicate max_places no_path) path_lines kept_paths i;
                   settings = (ap (λ l. l.settings) read_w ∙ ap settings_on row_here) i;
                 }

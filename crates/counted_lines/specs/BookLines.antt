@@ -1,8 +1,7 @@
 -- The lines of the book group after its head: those that the head counts, read one kind after another (01, Script and host), and the set line (02, 3/14).
 use Rattle.std.specs.Prelude.{ℕ, Bool, ◌&&◌, List, map, replicate}
 use Rattle.tariff.specs.Sizes.{max_places}
-use Rattle.opening.specs.declared.book_setup.SinkLine.{SinkLine}
-use Rattle.opening.specs.declared.book_setup.PathLine.{PathLine}
+use Rattle.records.specs.Opening.{no_sink, no_path}
 use Rattle.lines.specs.declared.rows.Row.{Row}
 use Rattle.counted_lines.specs.declared.book_lines.SetLine.{SetLine}
 use Rattle.counted_lines.specs.declared.book_lines.BookLists.{BookLists}
@@ -14,12 +13,6 @@ use Rattle.counted_lines.specs.Counted.{bytes_of_lines, sink_line_of, path_line_
 -- the first 16 of some lines, and blank ones past the last
 unfoldable pub first_lines : {T : Type 0} → T → List T → List T
 first_lines blank lines = with_lines lines (replicate max_places blank)
-
-abbrev pub blank_sink : SinkLine
-blank_sink = record { kind = 0; parent = 0 }
-
-abbrev pub blank_path : PathLine
-blank_path = record { source = 0; sink = 0 }
 
 -- the set line that may stand where bytes begin: whether it can be read, how many bytes it takes, and its fractions (02, 3/14)
 unfoldable pub set_line_of : List ℕ → SetLine
@@ -45,7 +38,7 @@ book_lists_of head rest =
       complete = book_lines_complete head (rows_of rest);
       consumed = bytes_of_lines (book_line_count head (rows_of rest)) rest;
       holder_kinds = first_lines 0 (map (field 0) (holder_rows head (rows_of rest)));
-      sink_lines = first_lines blank_sink (map sink_line_of (sink_rows head (rows_of rest)));
-      path_lines = first_lines blank_path (map path_line_of (path_rows head (rows_of rest)));
+      sink_lines = first_lines no_sink (map sink_line_of (sink_rows head (rows_of rest)));
+      path_lines = first_lines no_path (map path_line_of (path_rows head (rows_of rest)));
       settings = settings_of_rows head (rows_of rest);
     }

@@ -2,8 +2,8 @@
 use Rattle.std.specs.Prelude.{ℕ, zero, suc, ◌+◌, List, ◌++◌, length, take, drop}
 use Rattle.load_metric.specs.declared.block.Block.{Block}
 use Rattle.netting.specs.declared.netting.ClassLine.{ClassLine}
-use Rattle.opening.specs.declared.book_setup.SinkLine.{SinkLine}
-use Rattle.opening.specs.declared.book_setup.PathLine.{PathLine}
+use Rattle.records.specs.declared.setup.SinkLine.{SinkLine}
+use Rattle.records.specs.declared.setup.PathLine.{PathLine}
 use Rattle.lines.specs.declared.rows.LineKind.{LineKind}
 use Rattle.lines.specs.declared.rows.Row.{Row}
 use Rattle.counted_lines.specs.declared.counted.CountedLines.{CountedLines}

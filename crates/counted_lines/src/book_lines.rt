@@ -5,7 +5,7 @@ ghost use Rattle.counted_lines.specs.BookLines.{set_line_of, book_lists_of};
 use crate::counted::read_counted;
 use lines::lines::next_row;
 use lines::rows::{LineKind, Row};
-use opening::book_setup::{PathLine, SinkLine};
+use records::setup::{KeptOpening, PathLine, SinkLine};
 use tariff::settings::Settings;
 use tariff::sizes::MAX_PLACES;
 
@@ -66,8 +66,8 @@ pub fn read_book_lines(rest: &[u8], head: Row) -> BookLists
 {
     let fields = head.fields;
     let mut holder_kinds = [0u64; MAX_PLACES];
-    let mut sink_lines = [SinkLine { kind: 0, parent: 0 }; MAX_PLACES];
-    let mut path_lines = [PathLine { source: 0, sink: 0 }; MAX_PLACES];
+    let mut sink_lines = [SinkLine::NONE; MAX_PLACES];
+    let mut path_lines = [PathLine::NONE; MAX_PLACES];
     let holders = read_counted(rest, LineKind::Holder, fields[0], &mut holder_kinds);
     let at_sinks = holders.consumed;
     let sinks = read_counted(

@@ -3,6 +3,7 @@ use Prim.Native.Nat.{ℕ}
 use mathlib.Core.Path.{◌≡◌, sym, ap, ◌∙◌}
 use mathlib.Core.Bool.{Bool}
 use mathlib.Core.List.{List, map}
+use Rattle.records.specs.declared.setup.KeptOpening.{KeptOpening}
 use Rattle.source_evidence.specs.declared.evidence.Entry.{Entry}
 use Rattle.std.specs.Prelude.{Result, Err}
 use Rattle.ledger.specs.Call.{Call, load, carry, prior, verify, migrate, open_tier, nominate, award, close_tier, Query, limit_of, held_on, net_on}
@@ -107,6 +108,6 @@ pub answers_as : (b : Book) (g : Group) (a a' : Answer) (next : Book) → a ≡ 
 answers_as b g a a' next e is = (λ i. record { answer = e i; book = next }) ∙ is
 
 -- the evidence, which is not lent, is that of the book that a group leads to
-pub beside_evidence : (b : Book) (g : Group) (a : Answer) (o f : List ℕ) (m : List Bool) (x : List Entry) → Answers b g a (book_in o f m x) → Answers b g a (book_in o f m (outcome_of_group b g).book.evidence)
+pub beside_evidence : (b : Book) (g : Group) (a : Answer) (o : KeptOpening) (f : List ℕ) (m : List Bool) (x : List Entry) → Answers b g a (book_in o f m x) → Answers b g a (book_in o f m (outcome_of_group b g).book.evidence)
 unfolding book_in
 beside_evidence b g a o f m x e = (λ i. record { answer = a; book = record { opening = o; figures = f; posted = m; evidence = (sym e i).book.evidence } }) ∙ e

@@ -8,6 +8,7 @@ use native.Mathlib.Omega.{arith}
 use lib.ListN.{length, take, drop, replicate, length-replicate, length-map, length-take, length-drop}
 use lib.Dec.{eqb}
 use borrow.Author.Tests.{eqb-true}
+use Rattle.records.specs.declared.setup.KeptOpening.{KeptOpening}
 use Rattle.tariff.proofs.Tests.{and_both, both_ways}
 use Rattle.std.specs.Prelude.{Err}
 use Rattle.ledger.specs.Season.{Request}
@@ -157,7 +158,7 @@ module _ (rest : List ℕ) (x : NextRow) (read : x ≡ next_row rest) where
   unfolding first_group
   group-is = λ i. head_group (read i).row (after-head-is i)
 
-  pub group_answers : (o f : List ℕ) (m : List Bool) (a : Answer) (f' : List ℕ) (m' : List Bool) → GroupAnswers o f m (head_group x.row after_head) a f' m' → GroupAnswers o f m (first_group rest) a f' m'
+  pub group_answers : (o : KeptOpening) (f : List ℕ) (m : List Bool) (a : Answer) (f' : List ℕ) (m' : List Bool) → GroupAnswers o f m (head_group x.row after_head) a f' m' → GroupAnswers o f m (first_group rest) a f' m'
   group_answers o f m a f' m' = subst (λ g. GroupAnswers o f m g a f' m') group-is
 
   bytes-are : x.consumed + head_bytes x.row after_head ≡ group_bytes rest

@@ -1,4 +1,5 @@
 -- The first group of a script's rest: its request, the bytes that it takes, and its outcome.
+use Rattle.records.specs.declared.setup.KeptOpening.{KeptOpening}
 use Rattle.std.specs.Prelude.{ℕ, ◌+◌, ◌≡◌, Bool, List, drop, Err}
 use Rattle.source_evidence.specs.declared.evidence.Entry.{Entry}
 use Rattle.ledger.specs.Season.{call, query}
@@ -48,13 +49,13 @@ abbrev pub Answers : Book → Group → Answer → Book → Type 0
 Answers b g answer next = ◌≡◌ {A = Answered} (record { answer = answer; book = next }) (outcome_of_group b g)
 
 -- the same where the opening and the figures are lent, whatever stands in the arrays that are not
-abbrev pub FiguresAnswers : (o f : List ℕ) → Group → Answer → List ℕ → Type 0
+abbrev pub FiguresAnswers : (o : KeptOpening) (f : List ℕ) → Group → Answer → List ℕ → Type 0
 FiguresAnswers o f g answer f' = (m : List Bool) (x : List Entry) → Reachable o f m x → Answers (book_in o f m x) g answer (book_in o f' m x)
 
 -- and where the postings are lent too
-abbrev pub PostingsAnswers : (o f : List ℕ) (m : List Bool) → Group → Answer → List ℕ → List Bool → Type 0
+abbrev pub PostingsAnswers : (o : KeptOpening) (f : List ℕ) (m : List Bool) → Group → Answer → List ℕ → List Bool → Type 0
 PostingsAnswers o f m g answer f' m' = (x : List Entry) → Reachable o f m x → Answers (book_in o f m x) g answer (book_in o f' m' x)
 
 -- and where the evidence, which is never lent, may change: it is that of the book that the group leads to
-abbrev pub GroupAnswers : (o f : List ℕ) (m : List Bool) → Group → Answer → List ℕ → List Bool → Type 0
+abbrev pub GroupAnswers : (o : KeptOpening) (f : List ℕ) (m : List Bool) → Group → Answer → List ℕ → List Bool → Type 0
 GroupAnswers o f m g answer f' m' = (x : List Entry) → Reachable o f m x → Answers (book_in o f m x) g answer (book_in o f' m' (outcome_of_group (book_in o f m x) g).book.evidence)

@@ -19,6 +19,8 @@ use migrate::class_lines::migrate_lines;
 use netting::netting::ClassLine;
 use records::answers::of_call;
 use records::refusal::Refusal;
+use records::setup::KeptOpening;
+use slots::layout::{Figures, Postings};
 
 // Up to so many lines are kept in a small array, so that a short group does not pay for room that it does not need. A script has no more lines than
 // the large one keeps, MAX_LINES.
@@ -26,9 +28,9 @@ const FEW_LINES: usize = 64;
 
 // A load with its block lines, in an array that has a place for each of them.
 fn load_with_room<const N: usize>(
-    o: &[u64],
-    f: &mut [u64],
-    m: &mut [bool],
+    o: &KeptOpening,
+    f: &mut Figures,
+    m: &mut Postings,
     head: Row,
     rest: &[u8],
 ) -> GroupOutcome
@@ -69,8 +71,8 @@ fn load_with_room<const N: usize>(
 
 // A migrate with its class lines, in an array that has a place for each of them.
 fn migrate_with_room<const N: usize>(
-    o: &[u64],
-    f: &mut [u64],
+    o: &KeptOpening,
+    f: &mut Figures,
     head: Row,
     rest: &[u8],
 ) -> GroupOutcome
@@ -107,7 +109,13 @@ fn migrate_with_room<const N: usize>(
 }
 
 // A load with its block lines.
-pub fn run_load(o: &[u64], f: &mut [u64], m: &mut [bool], head: Row, rest: &[u8]) -> GroupOutcome
+pub fn run_load(
+    o: &KeptOpening,
+    f: &mut Figures,
+    m: &mut Postings,
+    head: Row,
+    rest: &[u8],
+) -> GroupOutcome
     requires reachable { ReachablePostings o.now f.old m.old }
     requires load { head.kind ≡ Load }
     requires few { length (rows_of rest.now) ≤ max_lines }
@@ -122,7 +130,7 @@ pub fn run_load(o: &[u64], f: &mut [u64], m: &mut [bool], head: Row, rest: &[u8]
 }
 
 // A migrate with its class lines.
-pub fn run_migrate(o: &[u64], f: &mut [u64], head: Row, rest: &[u8]) -> GroupOutcome
+pub fn run_migrate(o: &KeptOpening, f: &mut Figures, head: Row, rest: &[u8]) -> GroupOutcome
     requires reachable { ReachableFigures o.now f.old }
     requires migrate { head.kind ≡ Migrate }
     requires few { length (rows_of rest.now) ≤ max_lines }

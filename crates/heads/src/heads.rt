@@ -18,6 +18,8 @@ use nominations::nominate::nominate;
 use postings::carry::carry;
 use postings::prior::prior;
 use records::refusal::Refusal;
+use records::setup::KeptOpening;
+use slots::layout::{Figures, Postings};
 use source_evidence::filing::Filing;
 use tier_limits::limits::limit;
 use verify::verify::verify;
@@ -27,8 +29,8 @@ use verify::verify::verify;
 
 // A nomination put to the book by the numbers of its line.
 fn run_nominate(
-    o: &[u64],
-    f: &mut [u64],
+    o: &KeptOpening,
+    f: &mut Figures,
     holder: u64,
     path: u64,
     nominated: u64,
@@ -40,7 +42,13 @@ fn run_nominate(
 }
 
 // An award, likewise.
-fn run_award(o: &[u64], f: &mut [u64], holder: u64, path: u64, awarded: u64) -> Result<(), Refusal>
+fn run_award(
+    o: &KeptOpening,
+    f: &mut Figures,
+    holder: u64,
+    path: u64,
+    awarded: u64,
+) -> Result<(), Refusal>
     requires { ReachableFigures o.now f.old }
     ensures { FiguresStep o.now f.old (award holder path awarded) result f.new }
 {
@@ -48,7 +56,7 @@ fn run_award(o: &[u64], f: &mut [u64], holder: u64, path: u64, awarded: u64) -> 
 }
 
 // A limit query, likewise.
-fn run_limit(o: &[u64], f: &[u64], holder: u64, sink: u64) -> Result<u64, Refusal>
+fn run_limit(o: &KeptOpening, f: &Figures, holder: u64, sink: u64) -> Result<u64, Refusal>
     requires { ReachableFigures o.now f.now }
     ensures { InFigures o.now f.now (λ O L. result ≡ query_answer O L (limit_of holder sink)) }
 {
@@ -56,7 +64,7 @@ fn run_limit(o: &[u64], f: &[u64], holder: u64, sink: u64) -> Result<u64, Refusa
 }
 
 // A net query, likewise.
-fn run_net(o: &[u64], f: &[u64], path: u64, month: u64) -> Result<u64, Refusal>
+fn run_net(o: &KeptOpening, f: &Figures, path: u64, month: u64) -> Result<u64, Refusal>
     requires { ReachableFigures o.now f.now }
     ensures { InFigures o.now f.now (λ O L. result ≡ query_answer O L (net_on path month)) }
 {
@@ -64,7 +72,7 @@ fn run_net(o: &[u64], f: &[u64], path: u64, month: u64) -> Result<u64, Refusal>
 }
 
 // Evidence: its line has more numbers than any other head's. It counts no lines, whatever stands after it.
-fn run_verify(o: &[u64], f: &mut [u64], m: &mut [bool], head: Row) -> GroupOutcome
+fn run_verify(o: &KeptOpening, f: &mut Figures, m: &mut Postings, head: Row) -> GroupOutcome
     requires reachable { ReachablePostings o.now f.old m.old }
     requires verify { head.kind ≡ Verify }
     ensures answer { (rest : List ℕ) → GroupAnswers o.now f.old m.old (head_group head rest) result.answer f.new m.new }
@@ -83,7 +91,13 @@ fn run_verify(o: &[u64], f: &mut [u64], m: &mut [bool], head: Row) -> GroupOutco
 }
 
 // A head with the lines that stand after it. A line that is no head is unreadable by itself.
-fn run_head(o: &[u64], f: &mut [u64], m: &mut [bool], head: Row, rest: &[u8]) -> GroupOutcome
+fn run_head(
+    o: &KeptOpening,
+    f: &mut Figures,
+    m: &mut Postings,
+    head: Row,
+    rest: &[u8],
+) -> GroupOutcome
     requires reachable { ReachablePostings o.now f.old m.old }
     requires few { length (rows_of rest.now) ≤ max_lines }
     ensures answer { GroupAnswers o.now f.old m.old (head_group head rest.now) result.answer f.new m.new }
@@ -113,7 +127,7 @@ fn run_head(o: &[u64], f: &mut [u64], m: &mut [bool], head: Row, rest: &[u8]) ->
 }
 
 // Puts the first group of what is left of a script to a book's lent arrays. The book's evidence is not lent: what the rules read of it stands among the figures.
-pub fn run_group(o: &[u64], f: &mut [u64], m: &mut [bool], rest: &[u8]) -> GroupOutcome
+pub fn run_group(o: &KeptOpening, f: &mut Figures, m: &mut Postings, rest: &[u8]) -> GroupOutcome
     requires reachable { ReachablePostings o.now f.old m.old }
     requires few { length (rows_of rest.now) ≤ max_lines }
     ensures answer { GroupAnswers o.now f.old m.old (first_group rest.now) result.answer f.new m.new }

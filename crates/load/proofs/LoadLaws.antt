@@ -5,7 +5,8 @@ use mathlib.Core.Bool.{Bool, true, false, ◌||◌}
 use mathlib.Core.List.{List, []}
 use native.Mathlib.Nat.{le_trans, le_of_eq, add-zero}
 use native.Mathlib.Omega.{arith}
-use lib.ListN.{length, drop}
+use lib.ListN.{drop}
+use Rattle.records.specs.declared.setup.KeptOpening.{KeptOpening}
 use Rattle.std.specs.Prelude.{Ok}
 use Rattle.source_evidence.specs.declared.evidence.Entry.{Entry}
 use Rattle.tariff.specs.Sum.{when_true}
@@ -23,15 +24,15 @@ use Rattle.ledger.proofs.PostingFacts.{LoadFacts, load_facts}
 use Rattle.records.specs.Opening.{opening_in}
 use Rattle.slots.specs.Cells.{HasCell, read_at, stored_at, added_at}
 use Rattle.slots.specs.Groups.{slots_of}
-use Rattle.slots.specs.Layout.{figure_slots, figure_count, posted_slots, posted_count, figure_groups, posted_groups, evidence_groups, calendar_of, figures_of, posted_of, evidence_of, ledger_in, load_slot, load_posted_slot}
+use Rattle.slots.specs.Layout.{figure_slots, posted_slots, figure_groups, posted_groups, evidence_groups, calendar_of, figures_of, posted_of, evidence_of, ledger_in, load_slot, load_posted_slot}
 use Rattle.slots.specs.Steps.{Reachable, Steps}
 use Rattle.slots.proofs.CellLaws.{shown_is}
 use Rattle.slots.proofs.StoreLaws.{StoredIn, slot_stored, slot_added, number_posted}
-use Rattle.slots.proofs.Reachable.{counts, figures_shown, posted_shown, evidence_known, figures_long, posted_long}
+use Rattle.slots.proofs.Reachable.{counts, figures_shown, posted_shown, evidence_known}
 use Rattle.slots.proofs.Figures.{from_zero, load_fits, room_for_more}
 use Rattle.slots.proofs.StepLaws.{accepted_test, steps_accepted}
 
-module _ (o f : List ℕ) (m : List Bool) (x : List Entry) (h s term contract n : ℕ) (blocks : List Block) (kw : ℕ) (r : Reachable o f m x) (unmet : 0 ≡ refusal (opening_in o) (ledger_in f m x) (load h s term contract n blocks)) (posts : kw ≡ load_posted (opening_in o).settings contract blocks) where
+module _ (o : KeptOpening) (f : List ℕ) (m : List Bool) (x : List Entry) (h s term contract n : ℕ) (blocks : List Block) (kw : ℕ) (r : Reachable o f m x) (unmet : 0 ≡ refusal (opening_in o) (ledger_in f m x) (load h s term contract n blocks)) (posts : kw ≡ load_posted (opening_in o).settings contract blocks) where
   abbrev O : Opening
   O = opening_in o
 
@@ -54,19 +55,18 @@ module _ (o f : List ℕ) (m : List Bool) (x : List Entry) (h s term contract n 
   low = let last = facts.term_in_range in omega arith
 
   -- there is a slot of its term, and of each before it, and it has room for the kW
-  pub load_room : (slot : ℕ) → slot ≤ term → HasCell figure_slots h s slot × (length f ≡ figure_count) × (read_at figure_slots 0 f h s slot + kw < 2 ^ 64)
+  pub load_room : (slot : ℕ) → slot ≤ term → HasCell figure_slots h s slot × (read_at figure_slots 0 f h s slot + kw < 2 ^ 64)
   unfolding ledger_in
   load_room slot within =
       let below : slot < terms = let l = low in omega arith in
       let same : slot ≡ load_slot + slot = omega arith in
       let is = ap (read_at figure_slots 0 f h s) same ∙ from_zero f load_slot terms h s slot holder sink below in (
         record { holder = holder; place = sink; in_row = omega arith },
-        figures_long o f m x r,
         room_for_more _ kw (le_trans (le_of_eq is) (le_trans (load_fits o f m x r h s slot facts.holder) (omega arith))) (le_trans (le_of_eq posts) (posted_le O.settings max_kw contract blocks facts.block_kw)),
       )
 
-  pub load_cell : (slot : ℕ) → slot ≤ term → HasCell posted_slots h s slot × (length m ≡ posted_count)
-  load_cell slot within = (record { holder = holder; place = sink; in_row = let l = low in omega arith }, posted_long o f m x r)
+  pub load_cell : (slot : ℕ) → slot ≤ term → HasCell posted_slots h s slot
+  load_cell slot within = record { holder = holder; place = sink; in_row = let l = low in omega arith }
 
   -- the load of the term and the note of its posting are new, and nothing else
   loaded : (f' : List ℕ) → f' ≡ added_at figure_slots f h s (load_slot + term) kw → f' ≡ figures_of (effect O L call)

@@ -14,10 +14,10 @@ use load_metric::block::Block;
 use load_metric::load::load_posted;
 use records::ranges::term_out_of_range;
 use records::refusal::Refusal;
-use records::setup::{is_sub_lap, kind_ineligible, legal_settings, unknown_holder, unknown_sink};
+use records::setup::KeptOpening;
 use slots::calendar::calendar;
 use slots::cells::{add, is_posted, set_posted};
-use slots::layout::{LOAD_POSTED_SLOT, LOAD_SLOT};
+use slots::layout::{Figures, LOAD_POSTED_SLOT, LOAD_SLOT, Postings};
 use tariff::sizes::{MAX_HOURS, MAX_KW};
 
 // Whether some block's kW exceeds the most.
@@ -43,9 +43,9 @@ fn load_out_of_range(metered: Metered) -> bool
 // The kW that a load posts, or the first cause that it meets. The metric is found once, and only for a load that meets none of causes 2 to 5.
 #[tactic(auto, using(slots::proofs::CalendarLaws::load_as_ledger, crate::proofs::BlockLaws::posted_in_term), unfolding(ledger::specs::Causes::refusal, ledger::specs::Causes::call_causes, ledger::specs::Causes::load_causes, ledger::specs::Numbers::first_met, slots::specs::Layout::ledger_in))]
 fn kw_to_post(
-    o: &[u64],
-    f: &[u64],
-    m: &[bool],
+    o: &KeptOpening,
+    f: &Figures,
+    m: &Postings,
     h: u64,
     s: u64,
     metered: Metered,
@@ -54,7 +54,7 @@ fn kw_to_post(
     ensures refused { InPostings o.now f.now m.now (λ O L. refused_by result ≡ refusal O L (load_of h s metered.entry)) }
     ensures posted { IfOk result (λ kw. kw ≡ load_posted (opening_of o.entry).settings metered.entry.contract metered.entry.blocks.now) }
 {
-    if unknown_holder(o, h) || unknown_sink(o, s) {
+    if o.unknown_holder(h) || o.unknown_sink(s) {
         return Err(Refusal::NotInBook);
     }
     if load_out_of_range(metered) {
@@ -67,12 +67,12 @@ fn kw_to_post(
         return Err(Refusal::PostedBefore);
     }
     let kw = load_posted(
-        legal_settings(o),
+        o.legal_settings(),
         metered.blocks,
         metered.n,
         metered.contract,
     )?;
-    if kind_ineligible(o, h, s) || is_sub_lap(o, s) {
+    if o.kind_ineligible(h, s) || o.is_sub_lap(s) {
         return Err(Refusal::SinkIneligible);
     }
     Ok(kw)
@@ -80,9 +80,9 @@ fn kw_to_post(
 
 // Posts the load of a holder at a sink in a term.
 pub fn load(
-    o: &[u64],
-    f: &mut [u64],
-    m: &mut [bool],
+    o: &KeptOpening,
+    f: &mut Figures,
+    m: &mut Postings,
     h: u64,
     s: u64,
     metered: Metered,

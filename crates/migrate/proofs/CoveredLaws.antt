@@ -8,6 +8,7 @@ use native.Mathlib.Nat.{le_trans, le_of_eq}
 use native.Mathlib.Omega.{arith}
 use lib.Dec.{ltb, eqb}
 use borrow.Author.Tests.{ltb-true, ltb-false, ne_eqb}
+use Rattle.records.specs.declared.setup.KeptOpening.{KeptOpening}
 use Rattle.tariff.specs.Sizes.{last_month, last_term}
 use Rattle.source_evidence.specs.declared.evidence.Entry.{Entry}
 use Rattle.tariff.specs.Sum.{sum_to}
@@ -37,7 +38,7 @@ use Rattle.transfers.specs.Columns.{in_column, ColumnTransfer}
 use Rattle.transfers.specs.Transfers.{load_column, share_column, column_where, load_at, LossesWithinLoads, ColumnFits, RightsFit}
 use Rattle.migrate.specs.Lines.{transfer_of}
 use Rattle.transfers.proofs.ColumnLaws.{transferred_read}
-use Rattle.transfers.proofs.WhereLaws.{where_off, where_long}
+use Rattle.transfers.proofs.WhereLaws.{where_off}
 use Rattle.transfers.proofs.MovingLaws.{moving_slot}
 use Rattle.migrate.proofs.LineCauses.{line_count, lines_fit_lem, m_of_lines, load_before_lem}
 
@@ -46,7 +47,7 @@ pub no_load : (term sink p slot : ℕ) → term ≤ last_term → prior_allocate
 unfolding load_at
 no_load term sink p slot few low = and_right_false (eqb p sink) (ne_eqb slot (load_slot + term) (λ q. omega (arith, q)))
 
-module _ (o f : List ℕ) (m : List Bool) (e : List Entry) (r : Reachable o f m e) (term sink : ℕ) (froms tos classes customers watts : List ℕ) (same : SameLengths froms tos classes customers watts) (facts : MigrateFacts (opening_in o) (ledger_in f m e) term sink (class_lines_of froms tos classes customers watts)) where
+module _ (o : KeptOpening) (f : List ℕ) (m : List Bool) (e : List Entry) (r : Reachable o f m e) (term sink : ℕ) (froms tos classes customers watts : List ℕ) (same : SameLengths froms tos classes customers watts) (facts : MigrateFacts (opening_in o) (ledger_in f m e) term sink (class_lines_of froms tos classes customers watts)) where
   abbrev O : Opening
   O = opening_in o
 
@@ -132,7 +133,6 @@ module _ (o f : List ℕ) (m : List Bool) (e : List Entry) (r : Reachable o f m 
   pub rights_fit : (next : List ℕ) → ColumnTransfer (column_where (load_at term sink) (load_column x)) f next → RightsFit o next term sink x
   rights_fit next a p place =
       record {
-        long = where_long (load_column x) (load_at term sink) f next (figures_long o f m e r) a;
         bases = bases_known o f m e r;
         in_term = facts.term_in_range;
         covered = covered;

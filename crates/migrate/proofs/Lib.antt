@@ -1,4 +1,3 @@
-pub mod LineLaws
 pub mod LineCauses
 pub mod GroupTransfers
 pub mod SlotTests

@@ -7,6 +7,7 @@ use mathlib.Core.Logic.{◌⊎◌, inl, inr}
 use native.Mathlib.Nat.{le_trans, le_of_eq, le_refl, le-suc, div-le_self}
 use native.Mathlib.Omega.{arith}
 use lib.ListN.{length, replicate, get_or-replicate}
+use Rattle.records.specs.declared.setup.KeptOpening.{KeptOpening}
 use Rattle.std.specs.Prelude.{Some, None}
 use Rattle.std.specs.Option.{unwrap_or}
 use lib.Dec.{leb, ltb}
@@ -109,7 +110,7 @@ module _ (froms tos classes customers watts : List ℕ) where
           le_trans (le_of_eq (m_of_lines i j li lj e)) (le_trans (div-le_self (watts_one_way lines i j - watts_one_way lines j i) 1000) (omega arith))
       go (inr e) = le_trans (le_of_eq (ap (λ b. pair_at (ms_if b) i j) e ∙ get_or-replicate 64 (i * 8 + j) 0 0 (cell_below i j li lj))) zero-le
 
-  module _ (o f : List ℕ) (term sink : ℕ) (x : Transfer) (is : x ≡ transfer_of o f term sink froms tos classes customers watts) (few : (opening_in o).holders ≤ 8) where
+  module _ (o : KeptOpening) (f : List ℕ) (term sink : ℕ) (x : Transfer) (is : x ≡ transfer_of o f term sink froms tos classes customers watts) (few : (opening_in o).holders ≤ 8) where
     -- what the code sums fits
     pub losses_fit : (x.holders ≤ 8) × ((i : ℕ) → i < 8 → sum_to x.holders (λ j. pair_at x.m i j) < 2 ^ 64)
     unfolding transfer_of

@@ -7,6 +7,7 @@ use mathlib.Core.Logic.{inl, inr}
 use native.Mathlib.Nat.{zero-add}
 use native.Mathlib.Omega.{arith}
 use lib.Dec.{eqb}
+use Rattle.records.specs.declared.setup.KeptOpening.{KeptOpening}
 use Rattle.tariff.specs.Sizes.{last_month, last_term, terms, evidence_kinds, ownership, contract}
 use Rattle.source_evidence.specs.declared.evidence.Entry.{Entry}
 use Rattle.tariff.specs.Terms.{has_month}
@@ -35,7 +36,7 @@ use Rattle.migrate.proofs.SlotTests.{prior_moves, remaining_moves, carried_moves
 use Rattle.migrate.proofs.GroupTransfers.{Change, change, before, afterwards, EachMoves, slot_moves_lem}
 use Rattle.migrate.proofs.CoveredLaws.{no_load, load_after_lem, column_after_lem}
 
-module _ (o f : List ℕ) (m : List Bool) (e : List Entry) (r : Reachable o f m e) (term sink : ℕ) (froms tos classes customers watts : List ℕ) (same : SameLengths froms tos classes customers watts) (facts : MigrateFacts (opening_in o) (ledger_in f m e) term sink (class_lines_of froms tos classes customers watts)) where
+module _ (o : KeptOpening) (f : List ℕ) (m : List Bool) (e : List Entry) (r : Reachable o f m e) (term sink : ℕ) (froms tos classes customers watts : List ℕ) (same : SameLengths froms tos classes customers watts) (facts : MigrateFacts (opening_in o) (ledger_in f m e) term sink (class_lines_of froms tos classes customers watts)) where
   abbrev O : Opening
   O = opening_in o
 

@@ -1,4 +1,5 @@
 -- Class lines taken apart into columns: up to 64 lines are migrated as the columns are, and more are refused. Assumes nothing.
+use Rattle.records.specs.declared.setup.KeptOpening.{KeptOpening}
 use Rattle.std.proofs.Common.{◌≡◌, ℕ, ◌<◌, ◌≤◌, Bool, true, false, ◌||◌, List, length, get_or, take, sym, ap, subst, ◌∙◌, arith}
 use mathlib.Core.Bool.{or-true}
 use lib.Seq.{ext_get_or, get_or-take, length-take-le}
@@ -86,7 +87,7 @@ module _ (lines : List ClassLine) (few : length lines ≤ max_class_lines) where
         watts = first-at (λ l. l.watts) k below i;
       }))
 
-module _ (o f : List ℕ) (m : List Bool) (e : List Entry) (reach : Reachable o f m e) (term sink : ℕ) (lines : List ClassLine) where
+module _ (o : KeptOpening) (f : List ℕ) (m : List Bool) (e : List Entry) (reach : Reachable o f m e) (term sink : ℕ) (lines : List ClassLine) where
   abbrev O : Opening
   O = opening_in o
 

@@ -11,7 +11,8 @@ use crate::class_tests::names_unknown;
 use crate::migrate::migrate;
 use netting::netting::{ClassColumns, ClassLine};
 use records::refusal::Refusal;
-use records::setup::unknown_sink;
+use records::setup::KeptOpening;
+use slots::layout::Figures;
 use tariff::sizes::MAX_CLASS_LINES;
 
 // The fields of the first 64 lines, a column to a field: past the last line each column holds 0.
@@ -47,7 +48,7 @@ fn taken_apart(lines: &[ClassLine]) -> Columns
 }
 
 // Whether some line names a holder who is not in the book.
-fn any_line_unknown(o: &[u64], lines: &[ClassLine]) -> bool
+fn any_line_unknown(o: &KeptOpening, lines: &[ClassLine]) -> bool
     ensures { result ≡ unknown_holder_in (opening_of o.entry) lines.now }
 {
     lines
@@ -58,8 +59,8 @@ fn any_line_unknown(o: &[u64], lines: &[ClassLine]) -> bool
 // Moves loads, rights and last year's allocations with the customers of the class lines lent.
 // More than 64 lines are refused: by cause 2 where the sink or a holder is not in the book, else by 3.
 pub fn migrate_lines(
-    o: &[u64],
-    f: &mut [u64],
+    o: &KeptOpening,
+    f: &mut Figures,
     term: u64,
     sink: u64,
     lines: &[ClassLine],
@@ -69,7 +70,7 @@ pub fn migrate_lines(
 {
     let n = lines.len();
     if MAX_CLASS_LINES < n {
-        if unknown_sink(o, sink) || any_line_unknown(o, lines) {
+        if o.unknown_sink(sink) || any_line_unknown(o, lines) {
             return Err(Refusal::NotInBook);
         }
         return Err(Refusal::OutOfRange);

@@ -3,7 +3,7 @@ ghost use Rattle.std.specs.Prelude.{◌≡◌, ℕ, ◌+◌, ◌^◌, ◌<◌, �
 ghost use Rattle.tariff.specs.Sizes.{max_holders};
 ghost use Rattle.tariff.specs.Sum.{sum_to, any_below};
 ghost use Rattle.netting.specs.Netting.{pair_at, holder_at};
-ghost use Rattle.netting.specs.Columns.{SameLengthsIn, lines_in, same_counts_in};
+ghost use Rattle.netting.specs.Columns.{lines_in, same_counts_in};
 ghost use Rattle.ledger.specs.Call.{migrate};
 ghost use Rattle.ledger.specs.Numbers.{first_met};
 ghost use Rattle.ledger.specs.Ranges.{migration_out_of_range};
@@ -15,13 +15,13 @@ ghost use Rattle.migrate.specs.Lines.{early_causes, transfer_in};
 ghost use Rattle.transfers.specs.Columns.{HasColumn};
 
 use crate::class_tests::{any_not_between_lses, any_out_of_range, any_unknown};
-use netting::netting::ClassColumns;
+use netting::netting::{ClassColumns, ClassLines};
 use netting::shares::given_by;
 use records::ranges::term_out_of_range;
 use records::refusal::Refusal;
-use records::setup::{holders, unknown_sink};
+use records::setup::KeptOpening;
 use slots::calendar::calendar;
-use slots::layout::LOAD_SLOT;
+use slots::layout::{Figures, LOAD_SLOT};
 use tariff::sizes::{HOLDER_PAIRS, MAX_CLASS_LINES};
 use transfers::transfers::{Transfer, column_at, transfer_load, transfer_rights};
 
@@ -31,69 +31,63 @@ fn loss_exceeds_load(x: Transfer) -> bool
     ensures { result ≡ any_below x.holders (λ i. ltb (holder_at x.load i) (sum_to x.holders (λ j. pair_at x.m i j))) }
 {
     let holders = x.holders as usize;
-    for i in 0..holders {
-        let lost = given_by(&x.m, i, holders);
-        if x.load[i] < lost {
-            return true;
-        }
-    }
-    false
+    (0..holders).any(|i| x.load[i] < given_by(&x.m, i, holders))
 }
 
 // Whether the term, the count of the lines or a field of some line is outside its range.
 #[tactic(auto, using(crate::proofs::LineCauses::line_count), unfolding(ledger::specs::Ranges::migration_out_of_range))]
-fn out_of_range(term: u64, columns: ClassColumns) -> bool
-    requires { SameLengthsIn columns }
-    ensures { result ≡ migration_out_of_range term (lines_in columns.entry) }
+fn out_of_range(term: u64, lines: ClassLines) -> bool
+    ensures { result ≡ migration_out_of_range term (lines_in lines.entry.columns) }
 {
-    term_out_of_range(term) || MAX_CLASS_LINES < columns.froms.len() || any_out_of_range(columns)
+    term_out_of_range(term)
+        || MAX_CLASS_LINES < lines.columns.froms.len()
+        || any_out_of_range(lines)
 }
 
 // Whether a migration meets none of causes 2, 3, 4 and 8, else the first that it meets: those that are found before anything is netted.
 #[tactic(auto, using(slots::proofs::CalendarLaws::migration_as_ledger), unfolding(ledger::specs::Causes::migrate_causes, ledger::specs::Numbers::first_met))]
 fn check_lines(
-    o: &[u64],
-    f: &[u64],
+    o: &KeptOpening,
+    f: &Figures,
     term: u64,
     sink: u64,
-    columns: ClassColumns,
+    lines: ClassLines,
 ) -> Result<(), Refusal>
-    requires { SameLengthsIn columns }
-    ensures { InFigures o.now f.now (λ O L. refused_by result ≡ first_met (take early_causes (migrate_causes O L term sink (lines_in columns.entry)))) }
+    ensures { InFigures o.now f.now (λ O L. refused_by result ≡ first_met (take early_causes (migrate_causes O L term sink (lines_in lines.entry.columns)))) }
 {
-    if unknown_sink(o, sink) || any_unknown(o, columns) {
+    if o.unknown_sink(sink) || any_unknown(o, lines) {
         return Err(Refusal::NotInBook);
     }
-    if out_of_range(term, columns) {
+    if out_of_range(term, lines) {
         return Err(Refusal::OutOfRange);
     }
     if !calendar(f).migration_in_time(term) {
         return Err(Refusal::NotAtThisTime);
     }
-    if any_not_between_lses(o, columns) {
+    if any_not_between_lses(o, lines) {
         return Err(Refusal::NotBetweenLses);
     }
     Ok(())
 }
 
 // What the lines transfer at a sink and term: nothing where they are unfit.
-fn transfer_of(o: &[u64], f: &[u64], term: u64, sink: u64, columns: ClassColumns) -> Transfer
-    requires { HasColumn f.now sink (load_slot + term) }
-    ensures { result ≡ transfer_in o.now f.now term sink columns.entry }
+fn transfer_of(o: &KeptOpening, f: &Figures, term: u64, sink: u64, lines: ClassLines) -> Transfer
+    requires { HasColumn sink (load_slot + term) }
+    ensures { result ≡ transfer_in o.now f.now term sink lines.entry.columns }
 {
-    let netting = columns.net();
+    let netting = lines.net();
     let load = column_at(f, sink, LOAD_SLOT + term);
     Transfer {
         m: netting.unwrap_or([0; HOLDER_PAIRS]),
         load,
-        holders: holders(o),
+        holders: o.holders(),
     }
 }
 
 // Moves loads, rights and last year's allocations with the customers of class lines, whose fields stand in five slices.
 pub fn migrate(
-    o: &[u64],
-    f: &mut [u64],
+    o: &KeptOpening,
+    f: &mut Figures,
     term: u64,
     sink: u64,
     columns: ClassColumns,
@@ -101,11 +95,11 @@ pub fn migrate(
     requires { ReachableFigures o.now f.old }
     ensures { FiguresStepIf (same_counts_in columns.entry) o.now f.old (migrate term sink (lines_in columns.entry)) result f.new }
 {
-    if !columns.same_counts() {
+    let Some(lines) = columns.lines() else {
         return Err(Refusal::Unreadable);
-    }
-    check_lines(o, f, term, sink, columns)?;
-    let x = transfer_of(o, f, term, sink, columns);
+    };
+    check_lines(o, f, term, sink, lines)?;
+    let x = transfer_of(o, f, term, sink, lines);
     if loss_exceeds_load(x) {
         return Err(Refusal::LossAboveLoad);
     }

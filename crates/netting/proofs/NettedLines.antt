@@ -15,7 +15,7 @@ use Rattle.netting.specs.ClassRanges.{class_line_out_of_range, class_fields_out_
 use Rattle.netting.specs.Netting.{same_counts, pair_at, pair_cells, SummableLines, class_line_at, class_lines_of, unfit_line, lines_fit, watts_to, netting_of}
 use Rattle.tariff.proofs.Tests.{or_unmet, and_both, none_below}
 use Rattle.tariff.proofs.Lists.{sum_tabulate}
-use Rattle.netting.proofs.FitLines.{unfit_at, any_line, length_tests, same_lengths_lem}
+use Rattle.netting.proofs.FitLines.{unfit_at, any_line, length_tests}
 use Rattle.netting.proofs.Pairs.{HoldsWatts, same_cells}
 
 -- what is known of a line that is not unfit
@@ -35,14 +35,10 @@ module _ (froms tos classes customers watts : List ℕ) where
   summable e =
       let both = and_both (length_tests froms tos classes customers watts) (not (any_of (class_lines_of froms tos classes customers watts) unfit_line)) e in
       let counted = and_both (leb (length froms) 64) (same_counts froms tos classes customers watts) both.0 in
-      let same = same_lengths_lem froms tos classes customers watts counted.1 in
       let none : (k : ℕ) → k < length froms → unfit_at froms tos classes customers watts k ≡ false =
       none_below (length froms) (unfit_at froms tos classes customers watts) (sym (any_line froms tos classes customers watts unfit_line) ∙ not-true (any_of (class_lines_of froms tos classes customers watts) unfit_line) both.1) in
       record {
         few = leb-true (length froms) 64 counted.0;
-        of_tos = same.of_tos;
-        of_customers = same.of_customers;
-        of_watts = same.of_watts;
         holders = λ k l. let f = line_facts (class_line_at froms tos classes customers watts k) (none k l) in (f.0, f.1);
         sizes = λ k l. let f = line_facts (class_line_at froms tos classes customers watts k) (none k l) in (f.2, f.3);
       }

@@ -52,12 +52,9 @@ lines_fit froms tos classes customers watts =
     && same_counts froms tos classes customers watts
     && not (any_of (class_lines_of froms tos classes customers watts) unfit_line)
 
--- lines whose products can be summed: what is known of lines that are fit
+-- lines whose products can be summed: what is known of lines that are fit, beside their equal counts
 pub record SummableLines (froms tos customers watts : List ℕ) : Type 0 where
   pub few : length froms ≤ max_class_lines
-  pub of_tos : length tos ≡ length froms
-  pub of_customers : length customers ≡ length froms
-  pub of_watts : length watts ≡ length froms
   pub holders : (k : ℕ) → k < length froms → (get_or froms k 0 < max_holders) × (get_or tos k 0 < max_holders)
   pub sizes : (k : ℕ) → k < length froms → (get_or customers k 0 ≤ max_customers) × (get_or watts k 0 ≤ max_watts)
 

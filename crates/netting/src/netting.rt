@@ -3,6 +3,7 @@ ghost use Rattle.std.specs.Prelude.{◌≡◌, Bool, ℕ, ◌+◌, ◌-◌, ◌*
 ghost use Rattle.tariff.specs.Sizes.{max_holders, max_customers, max_watts, watts_per_kw};
 ghost use Rattle.tariff.specs.Sum.{any_of};
 ghost use Rattle.netting.specs.ClassRanges.{class_fields_out_of_range};
+ghost use Rattle.netting.specs.Columns.{SameLengthsIn};
 ghost use Rattle.netting.specs.Netting.{pair_at, pair_cells, unfit_line};
 
 use tariff::sizes::{
@@ -27,6 +28,13 @@ pub struct ClassColumns<'a> {
     pub classes: &'a [u64],
     pub customers: &'a [u64],
     pub watts: &'a [u64],
+}
+
+// Class lines: columns of equal length, so that line k is there in each of them if it is in the first.
+#[derive(Clone, Copy)]
+pub struct ClassLines<'a> {
+    pub columns: ClassColumns<'a>,
+    ghost same_lengths: { SameLengthsIn columns },
 }
 
 // A line with a field outside its range: class 1 to 8, customers and average watts up to 9,999,999.
@@ -68,8 +76,9 @@ impl ClassLine {
 }
 
 impl<'a> ClassColumns<'a> {
-    ghost use Rattle.netting.specs.declared.netting.ClassLine.{ClassLine};
-    ghost use Rattle.netting.specs.Columns.{SameLengthsIn, SummableIn, lines_in, line_in, same_counts_in, fit_in, netting_in, watts_in};
+    ghost use Rattle.std.specs.Bool.{then_some};
+    ghost use Rattle.std.specs.Option.{option_map};
+    ghost use Rattle.netting.specs.Columns.{same_counts_in, netting_in};
 
     // Whether each slice has as many numbers as the first.
     #[tactic(auto, unfolding(crate::specs::Netting::same_counts))]
@@ -83,27 +92,51 @@ impl<'a> ClassColumns<'a> {
             && self.watts.len() == n
     }
 
+    // The class lines of these columns, if they are of equal length.
+    #[tactic(auto, using(crate::proofs::FitLines::same_lengths_lem))]
+    pub fn lines(self) -> Option<ClassLines<'a>>
+        ensures { option_map (λ lines. lines.columns) result ≡ then_some (same_counts_in self.entry) self.entry }
+    {
+        if self.same_counts() {
+            Some(ClassLines { columns: self })
+        } else {
+            None
+        }
+    }
+
+    // The m of each pair of eight holders, or nothing where the columns differ in length or their lines are unfit.
+    #[tactic(auto, unfolding(crate::specs::Netting::netting_of, crate::specs::Netting::lines_fit))]
+    pub fn net(self) -> Option<[u64; HOLDER_PAIRS]>
+        ensures { result ≡ netting_in self.entry }
+    {
+        self.lines()?.net()
+    }
+}
+
+impl<'a> ClassLines<'a> {
+    ghost use Rattle.netting.specs.declared.netting.ClassLine.{ClassLine};
+    ghost use Rattle.netting.specs.Columns.{SummableIn, lines_in, line_in, fit_in, netting_in, watts_in};
+
     // Line k.
     pub fn line(self, k: usize) -> ClassLine
-        requires { SameLengthsIn self × (k < length self.froms.now) }
-        ensures { result ≡ line_in self.entry k }
+        requires { k < length self.columns.froms.now }
+        ensures { result ≡ line_in self.entry.columns k }
     {
         ClassLine {
-            from: self.froms[k],
-            to: self.tos[k],
-            class: self.classes[k],
-            customers: self.customers[k],
-            watts: self.watts[k],
+            from: self.columns.froms[k],
+            to: self.columns.tos[k],
+            class: self.columns.classes[k],
+            customers: self.columns.customers[k],
+            watts: self.columns.watts[k],
         }
     }
 
     // Whether some line passes a test.
     pub fn any<F: Fn(ClassLine) -> bool>(self, test: F) -> bool
-        requires same { SameLengthsIn self }
-        requires callable { F.IsAlwaysCallable test }
-        ensures { (passes : ClassLine → Bool) → ((line : ClassLine) (r : Bool) → F.post test line r → r ≡ passes line) → result ≡ any_of (lines_in self.entry) passes }
+        requires { F.IsAlwaysCallable test }
+        ensures { (passes : ClassLine → Bool) → ((line : ClassLine) (r : Bool) → F.post test line r → r ≡ passes line) → result ≡ any_of (lines_in self.entry.columns) passes }
     {
-        for k in 0..self.froms.len() {
+        for k in 0..self.columns.froms.len() {
             if test(self.line(k)) {
                 return true;
             }
@@ -111,25 +144,23 @@ impl<'a> ClassColumns<'a> {
         false
     }
 
-    // Whether the lines can be netted: at most 64, as many numbers of each field, no line unfit.
-    #[tactic(auto, using(crate::proofs::FitLines::same_lengths_lem), unfolding(crate::specs::Netting::lines_fit))]
+    // Whether the lines can be netted: at most 64, and no line unfit.
+    #[tactic(auto, unfolding(crate::specs::Netting::lines_fit))]
     fn fit(self) -> bool
-        ensures { result ≡ fit_in self.entry }
+        ensures { result ≡ fit_in self.entry.columns }
     {
-        self.froms.len() <= MAX_CLASS_LINES
-            && self.same_counts()
-            && !self.any(|line| line.is_unfit())
+        self.columns.froms.len() <= MAX_CLASS_LINES && !self.any(|line| line.is_unfit())
     }
 
     // The watts of the lines, summed one way for each pair of holders.
     fn watts_of_pairs(self) -> [u64; HOLDER_PAIRS]
-        requires { SummableIn self }
-        ensures { (i j : ℕ) → i < max_holders → j < max_holders → pair_at result i j ≡ watts_in self.entry (length self.entry.froms.now) i j }
+        requires { SummableIn self.columns }
+        ensures { (i j : ℕ) → i < max_holders → j < max_holders → pair_at result i j ≡ watts_in self.entry.columns (length self.entry.columns.froms.now) i j }
     {
         let mut cells = [0u64; HOLDER_PAIRS];
-        for k in 0..self.froms.len() {
-            let line = line_watts(self.customers[k], self.watts[k]);
-            let pair = (self.froms[k] * MAX_HOLDERS as u64 + self.tos[k]) as usize;
+        for k in 0..self.columns.froms.len() {
+            let line = line_watts(self.columns.customers[k], self.columns.watts[k]);
+            let pair = (self.columns.froms[k] * MAX_HOLDERS as u64 + self.columns.tos[k]) as usize;
             cells[pair] += line;
         }
         cells
@@ -137,7 +168,7 @@ impl<'a> ClassColumns<'a> {
 
     // The m of each pair of eight holders, or nothing where the lines are unfit: such lines reach no sum.
     pub fn net(self) -> Option<[u64; HOLDER_PAIRS]>
-        ensures { result ≡ netting_in self.entry }
+        ensures { result ≡ netting_in self.entry.columns }
     {
         if !self.fit() {
             return None;

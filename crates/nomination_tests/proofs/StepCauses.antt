@@ -1,27 +1,26 @@
--- Causes 17 and 18 as code finds them in the Long Term step. Assumes nothing.
+-- Cause 18 as code finds it in the Long Term step. Assumes nothing.
 use Prim.Native.Nat.{ℕ, ◌+◌, ◌<◌}
 use mathlib.Core.Path.{◌≡◌, sym, ap, ◌∙◌, ap₂}
-use mathlib.Core.Bool.{Bool, true, false, not, ◌&&◌, ◌||◌}
+use mathlib.Core.Bool.{Bool, true, false, ◌&&◌, ◌||◌}
 use mathlib.Core.List.{List}
 use native.Mathlib.Nat.{le_trans}
 use native.Mathlib.Omega.{arith}
 use lib.Dec.{leb, ltb, eqb}
-use borrow.Author.Tests.{eq-eqb, ne_eqb, not-true, not-false}
+use borrow.Author.Tests.{eq-eqb, ne_eqb}
+use Rattle.records.specs.declared.setup.KeptOpening.{KeptOpening}
 use Rattle.source_evidence.specs.declared.evidence.Entry.{Entry}
 use Rattle.tariff.specs.Sizes.{last_month, terms}
-use Rattle.tariff.specs.Sum.{when_true, any_below}
+use Rattle.tariff.specs.Sum.{when_true}
 use Rattle.tariff.specs.declared.settings.Settings.{Settings}
 use Rattle.tariff.specs.Eligible.{eligible_without_evidence}
-use Rattle.tariff.specs.Terms.{is_long_term_step}
 use Rattle.tariff.proofs.Sums.{sum_ext}
-use Rattle.ledger.specs.Opening.{Opening, obaalse, holder_kind, path_source, path_base, has_base}
+use Rattle.ledger.specs.Opening.{Opening, obaalse, holder_kind, path_base, has_base}
 use Rattle.ledger.specs.Ledger.{Ledger}
 use Rattle.ledger.specs.Limits.{sum_at_base, long_term_at, nominated_at}
-use Rattle.ledger.specs.TenYear.{has_ten_year}
-use Rattle.ledger.specs.Causes.{exceeds_tier1_award, needs_ten_year, needs_evidence_at, lacks_ten_year}
+use Rattle.ledger.specs.Causes.{needs_ten_year, needs_evidence_at}
 use Rattle.records.specs.Opening.{opening_in}
 use Rattle.slots.specs.Cells.{read_at}
-use Rattle.slots.specs.Layout.{load_slot, carried_slot, nominated_slot, awards_slot, tier_slots, figure_slots, current_tier_in, figure_in, ledger_in}
+use Rattle.slots.specs.Layout.{load_slot, carried_slot, nominated_slot, figure_slots, figure_in, ledger_in}
 use Rattle.slots.specs.Sums.{on_path}
 use Rattle.slots.specs.Steps.{Reachable}
 use Rattle.slots.proofs.Reachable.{counts}
@@ -30,17 +29,11 @@ use Rattle.nomination_tests.proofs.UsageLaws.{nominated_now}
 use Rattle.nomination_tests.proofs.NominateCauses.{nominated_at_lem}
 
 -- a sum over the paths of a base, by other figures that are the same on them
-base_ext : (o : List ℕ) (b : ℕ) {v w : ℕ → ℕ} → ((p : ℕ) → p < (opening_in o).paths → v p ≡ w p) → sum_at_base (opening_in o) b v ≡ sum_at_base (opening_in o) b w
+base_ext : (o : KeptOpening) (b : ℕ) {v w : ℕ → ℕ} → ((p : ℕ) → p < (opening_in o).paths → v p ≡ w p) → sum_at_base (opening_in o) b v ≡ sum_at_base (opening_in o) b w
 unfolding sum_at_base
 base_ext o b same = sum_ext (opening_in o).paths (λ p k. ap (when_true (has_base (opening_in o) b p)) (same p k))
 
--- cause 17
-pub tier_1_test : (f : List ℕ) (m : List Bool) (x : List Entry) (h p kw tier award nominated : ℕ) → h < 8 → p < 16 → tier ≡ current_tier_in f → award ≡ read_at figure_slots 0 f h p (awards_slot + 1) → nominated ≡ read_at figure_slots 0 f h p nominated_slot → (eqb tier 10 && ltb award (nominated + kw)) ≡ exceeds_tier1_award (ledger_in f m x) (ledger_in f m x).tiers.current_tier h p kw
-unfolding exceeds_tier1_award is_long_term_step ledger_in
-tier_1_test f m x h p kw tier award nominated a b t e n =
-    λ i. eqb (t i) 10 && ltb ((e ∙ from_zero f awards_slot tier_slots h p 1 a b (omega arith)) i) ((n ∙ nominated_now f m x h p a b) i + kw)
-
-module _ (o f : List ℕ) (m : List Bool) (x : List Entry) where
+module _ (o : KeptOpening) (f : List ℕ) (m : List Bool) (x : List Entry) where
   abbrev O : Opening
   O = opening_in o
 
@@ -71,21 +64,3 @@ module _ (o f : List ℕ) (m : List Bool) (x : List Entry) where
   needed_there h p q base there nominated a b ne e g n =
       (λ i. eqb (e i) (g i) && leb 1 ((n ∙ nominated_now f m x h q a b) i))
       ∙ sym (ap (λ t. t || (eqb (path_base O q) (path_base O p) && leb 1 (L.tiers.nominated h q L.tiers.current_tier))) (ne_eqb q p ne))
-
-  -- cause 18 is of the step alone ..
-  pub lacks_not_in_tier : (tier h p kw : ℕ) → (tier ≡ 10 → ⊥) → false ≡ lacks_ten_year O L tier h p kw
-  unfolding lacks_ten_year is_long_term_step
-  lacks_not_in_tier tier h p kw ne = sym (ap (λ t. t && needs_ten_year O L tier h (path_base O p) kw && any_below O.paths (λ q. needs_evidence_at O L tier h p q && not (has_ten_year L h (path_source O q)))) (ne_eqb tier 10 ne))
-
-  -- .. where it is needed ..
-  pub lacks_unasked : (tier h p kw base : ℕ) (needs : Bool) → tier ≡ 10 → base ≡ path_base O p → needs ≡ needs_ten_year O L tier h base kw → not needs ≡ true → false ≡ lacks_ten_year O L tier h p kw
-  unfolding lacks_ten_year is_long_term_step
-  lacks_unasked tier h p kw base needs ten b is none =
-      sym (λ i. eq-eqb tier 10 ten i && (sym (is ∙ ap (λ n. needs_ten_year O L tier h n kw) b) ∙ not-true needs none) i && any_below O.paths (λ q. needs_evidence_at O L tier h p q && not (has_ten_year L h (path_source O q))))
-
-  -- .. and some source has none
-  pub lacks_somewhere : (tier h p kw base : ℕ) (needs some : Bool) → tier ≡ 10 → base ≡ path_base O p → needs ≡ needs_ten_year O L tier h base kw → not needs ≡ false → some ≡ any_below O.paths (λ q. needs_evidence_at O L tier h p q && not (has_ten_year L h (path_source O q))) → some ≡ lacks_ten_year O L tier h p kw
-  unfolding lacks_ten_year is_long_term_step
-  lacks_somewhere tier h p kw base needs some ten b is asked e =
-      e
-      ∙ sym (λ i. eq-eqb tier 10 ten i && (sym (is ∙ ap (λ n. needs_ten_year O L tier h n kw) b) ∙ not-false needs asked) i && any_below O.paths (λ q. needs_evidence_at O L tier h p q && not (has_ten_year L h (path_source O q))))

@@ -6,6 +6,7 @@ use mathlib.Core.List.{List}
 use native.Mathlib.Nat.{le_trans, le_of_eq, mul-le-mul_right}
 use native.Mathlib.Omega.{arith}
 use borrow.Author.Tests.{eq-eqb, not-true, not-false}
+use Rattle.records.specs.declared.setup.KeptOpening.{KeptOpening}
 use Rattle.tariff.specs.Sizes.{long_term_step}
 use Rattle.source_evidence.specs.declared.evidence.Entry.{Entry}
 use Rattle.tariff.specs.Sum.{when_true, sum_to}
@@ -30,7 +31,7 @@ nominated_now f m x h p a b =
     from_zero f nominated_slot 1 h p 0 a b (omega arith)
     ∙ sym (ap (λ t. cond t (figure_in f nominated_slot 1 0 h p 0) (figure_in f awards_slot tier_slots 0 h p (current_tier_in f))) (eq-eqb (current_tier_in f) (current_tier_in f) refl))
 
-module _ (o f : List ℕ) (m : List Bool) (x : List Entry) (r : Reachable o f m x) (h s : ℕ) (l : h < (opening_in o).holders) where
+module _ (o : KeptOpening) (f : List ℕ) (m : List Bool) (x : List Entry) (r : Reachable o f m x) (h s : ℕ) (l : h < (opening_in o).holders) where
   abbrev O : Opening
   O = opening_in o
 

@@ -4,6 +4,7 @@ use mathlib.Core.Path.{◌≡◌, ap, ◌∙◌}
 use mathlib.Core.Bool.{Bool, ◌||◌}
 use mathlib.Core.List.{List}
 use native.Mathlib.Omega.{arith}
+use Rattle.records.specs.declared.setup.KeptOpening.{KeptOpening}
 use Rattle.tariff.specs.Sizes.{terms, ownership, contract}
 use Rattle.source_evidence.specs.declared.evidence.Entry.{Entry}
 use Rattle.tariff.specs.Ranges.{max_kw}
@@ -19,7 +20,7 @@ use Rattle.slots.proofs.Figures.{evidence_fits_lem}
 use Rattle.tier_limits.proofs.EvidenceSlots.{term_fits, owned_kw, contracted_kw, owned_counts, contracted_counts}
 
 -- what the two slots of the open tier's term say is the verified kW, which fits, ..
-module _ (o f : List ℕ) (m : List Bool) (x : List Entry) (r : Reachable o f m x) (h s : ℕ) (l : h < (opening_in o).holders) (place : s < 16) (tier term : ℕ) (now : tier ≡ current_tier_in f) (of_tier : term ≡ term_of tier) where
+module _ (o : KeptOpening) (f : List ℕ) (m : List Bool) (x : List Entry) (r : Reachable o f m x) (h s : ℕ) (l : h < (opening_in o).holders) (place : s < 16) (tier term : ℕ) (now : tier ≡ current_tier_in f) (of_tier : term ≡ term_of tier) where
   abbrev L : Ledger
   L = ledger_in f m x
 

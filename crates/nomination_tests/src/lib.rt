@@ -2,4 +2,5 @@
 #![tactic(auto)]
 
 pub mod long_term_step;
+pub mod nomination;
 pub mod source_usage;

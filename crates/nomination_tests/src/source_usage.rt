@@ -7,15 +7,16 @@ ghost use Rattle.tier_limits.specs.Inputs.{HolderInputs, SourceInputs};
 ghost use Rattle.nomination_tests.specs.Inputs.{UsageInputs};
 ghost use Rattle.nomination_tests.specs.Usage.{awards_used};
 
+use records::setup::KeptOpening;
 use slots::calendar::current_tier;
 use slots::coverage::{covered_kw, is_covered};
-use slots::layout::{AWARDS_SLOT, COVERAGE_SLOT, NOMINATED_SLOT};
+use slots::layout::{AWARDS_SLOT, COVERAGE_SLOT, Figures, NOMINATED_SLOT};
 use slots::sums::sum_from_source;
 use tariff::sizes::{LAST_SEASON_TIER, TERMS};
 use tariff::terms::term_of;
 
 // Whether a holder has evidence of a source for the open tier's term, of either kind, whatever it comes to.
-pub fn has_evidence(o: &[u64], f: &[u64], h: u64, s: u64) -> bool
+pub fn has_evidence(o: &KeptOpening, f: &Figures, h: u64, s: u64) -> bool
     requires { SourceInputs o.now f.now h s }
     ensures { InFigures o.now f.now (λ O L. result ≡ has_evidence L h s (term_of L.tiers.current_tier)) }
 {
@@ -25,7 +26,7 @@ pub fn has_evidence(o: &[u64], f: &[u64], h: u64, s: u64) -> bool
 }
 
 // What a holder has verified of a source for the open tier's term: ownership and contract add.
-pub fn verified_kw(o: &[u64], f: &[u64], h: u64, s: u64) -> u64
+pub fn verified_kw(o: &KeptOpening, f: &Figures, h: u64, s: u64) -> u64
     requires { SourceInputs o.now f.now h s }
     ensures { InFigures o.now f.now (λ O L. result ≡ verified_kw L h s (term_of L.tiers.current_tier)) }
 {
@@ -43,7 +44,7 @@ fn uses_same_evidence(tier: u64, n: u64) -> bool
 }
 
 // What a holder's awards from a source in tier n use of its evidence for a later tier. Awards that use none are not summed.
-fn awards_used(o: &[u64], f: &[u64], h: u64, s: u64, tier: u64, n: u64) -> u64
+fn awards_used(o: &KeptOpening, f: &Figures, h: u64, s: u64, tier: u64, n: u64) -> u64
     requires { UsageInputs o.now f.now h n }
     ensures { InFigures o.now f.now (λ O L. result ≡ awards_used O L tier h s n) }
 {
@@ -54,7 +55,7 @@ fn awards_used(o: &[u64], f: &[u64], h: u64, s: u64, tier: u64, n: u64) -> u64
 }
 
 // What a holder's awards of the tiers before use of its evidence for a source in a tier.
-fn used_before(o: &[u64], f: &[u64], h: u64, s: u64, tier: u64) -> u64
+fn used_before(o: &KeptOpening, f: &Figures, h: u64, s: u64, tier: u64) -> u64
     requires { UsageInputs o.now f.now h tier }
     ensures { InFigures o.now f.now (λ O L. result ≡ used_before O L tier h s) }
 {
@@ -66,7 +67,7 @@ fn used_before(o: &[u64], f: &[u64], h: u64, s: u64, tier: u64) -> u64
 }
 
 // What a holder uses of its evidence for a source in the open tier: its nominations, and the awards that use the same evidence.
-pub fn source_usage(o: &[u64], f: &[u64], h: u64, s: u64) -> u64
+pub fn source_usage(o: &KeptOpening, f: &Figures, h: u64, s: u64) -> u64
     requires { HolderInputs o.now f.now h }
     ensures { InFigures o.now f.now (λ O L. result ≡ source_usage O L L.tiers.current_tier h s) }
 {

@@ -5,9 +5,10 @@ use mathlib.Core.Bool.{Bool, ◌&&◌, and-true}
 use mathlib.Core.List.{List}
 use native.Mathlib.Nat.{le_trans}
 use native.Mathlib.Omega.{arith}
-use lib.ListN.{length, take, drop}
+use lib.ListN.{take, drop}
 use lib.Dec.{eqb}
 use borrow.Author.Tests.{eq-eqb}
+use Rattle.records.specs.declared.setup.KeptOpening.{KeptOpening}
 use Rattle.std.specs.Prelude.{Ok}
 use Rattle.source_evidence.specs.declared.evidence.Entry.{Entry}
 use Rattle.tariff.specs.Sum.{when_true}
@@ -20,15 +21,15 @@ use Rattle.ledger.proofs.TierFacts.{NominateFacts, nominate_facts}
 use Rattle.records.specs.Opening.{opening_in}
 use Rattle.slots.specs.Cells.{HasCell, read_at, added_at}
 use Rattle.slots.specs.Groups.{slots_of}
-use Rattle.slots.specs.Layout.{nominated_slot, figure_slots, figure_count, figure_groups, posted_groups, evidence_groups, calendar_of, figures_of, posted_of, evidence_of, ledger_in}
+use Rattle.slots.specs.Layout.{nominated_slot, figure_slots, figure_groups, posted_groups, evidence_groups, calendar_of, figures_of, posted_of, evidence_of, ledger_in}
 use Rattle.slots.specs.Steps.{Reachable, Steps}
 use Rattle.slots.proofs.CellLaws.{shown_is}
 use Rattle.slots.proofs.StoreLaws.{slot_added, single_added}
-use Rattle.slots.proofs.Reachable.{counts, figures_shown, posted_known, evidence_known, figures_long}
+use Rattle.slots.proofs.Reachable.{counts, figures_shown, posted_known, evidence_known}
 use Rattle.slots.proofs.Figures.{figure_fits, room_for_more}
 use Rattle.slots.proofs.StepLaws.{accepted_test, steps_accepted}
 
-module _ (o f : List ℕ) (m : List Bool) (x : List Entry) (h p kw : ℕ) (r : Reachable o f m x) (unmet : 0 ≡ refusal (opening_in o) (ledger_in f m x) (nominate h p kw)) where
+module _ (o : KeptOpening) (f : List ℕ) (m : List Bool) (x : List Entry) (h p kw : ℕ) (r : Reachable o f m x) (unmet : 0 ≡ refusal (opening_in o) (ledger_in f m x) (nominate h p kw)) where
   abbrev O : Opening
   O = opening_in o
 
@@ -39,10 +40,9 @@ module _ (o f : List ℕ) (m : List Bool) (x : List Entry) (h p kw : ℕ) (r : R
   facts = nominate_facts O L h p kw (accepted_test O L (nominate h p kw) unmet)
 
   -- the slot is there, and has room for the kW
-  pub nominate_room : HasCell figure_slots h p nominated_slot × (length f ≡ figure_count) × (read_at figure_slots 0 f h p nominated_slot + kw < 2 ^ 64)
+  pub nominate_room : HasCell figure_slots h p nominated_slot × (read_at figure_slots 0 f h p nominated_slot + kw < 2 ^ 64)
   nominate_room = (
     record { holder = le_trans facts.holder (counts o f m x r).0; place = le_trans facts.path (counts o f m x r).3; in_row = omega arith },
-    figures_long o f m x r,
     room_for_more _ kw (figure_fits o f m x r h p nominated_slot facts.holder facts.path (omega arith)) facts.high,
   )
 

@@ -1,24 +1,25 @@
--- Whether the array that keeps an opening is legal, and what opening a book answers and leaves of it. Assumes nothing.
-use Prim.Native.Nat.{ℕ, ◌≤◌}
+-- Whether an opening that is kept is legal, and what opening a book keeps and answers. Assumes nothing.
+use Prim.Native.Nat.{ℕ}
 use mathlib.Core.Path.{◌≡◌, refl, sym, ap, ◌∙◌}
-use mathlib.Core.Bool.{Bool, true, false, cond, ◌&&◌}
-use mathlib.Core.List.{List, ◌++◌}
-use mathlib.Core.Logic.{◌⊎◌, inl, inr}
-use native.Mathlib.Omega.{arith}
-use lib.ListN.{length, get_or, take, drop}
-use lib.Seq.{length-take-le}
+use mathlib.Core.Bool.{Bool, true, false, cond, ◌&&◌, and-true}
+use mathlib.Core.List.{List}
+use lib.ListN.{get_or}
 use borrow.Author.Tests.{eq-eqb}
-use borrow.Rule.Slice.PartMut.{mid_len}
+use Rattle.std.proofs.lemmas.List.{length-map}
 use Rattle.std.specs.Prelude.{Ok, Err}
-use Rattle.tariff.specs.Sum.{all_below}
+use Rattle.tariff.specs.Sum.{tabulate, all_below}
 use Rattle.tariff.specs.Settings.{settings_legal}
-use Rattle.tariff.proofs.Tests.{decided, and_join, and_right_false}
+use Rattle.tariff.proofs.Tests.{and_join, and_right_false}
 use Rattle.ledger.specs.Opening.{Opening, counts_fit, lists_fit, holder_legal, sink_legal, path_legal, path_new, legal}
 use Rattle.ledger.proofs.LegalFacts.{legal_facts}
 use Rattle.records.specs.declared.refusal.Refusal.TheVariants.{BreaksRules}
-use Rattle.records.specs.Opening.{opening_count, bases_at, opening_in, opening_lists, opening_numbers, path_bases, opening_array, empty_opening}
-use Rattle.records.proofs.OpeningLaws.{counts_small, opening_before, opening_by_lists}
-use Rattle.opening.specs.Opened.{opening_answer, resulting_opening}
+use Rattle.records.specs.declared.setup.KeptOpening.{KeptOpening}
+use Rattle.records.specs.declared.setup.SinkLine.{SinkLine}
+use Rattle.records.specs.declared.setup.PathLine.{PathLine}
+use Rattle.records.specs.Opening.{opening_in, with_room, no_sink, no_path, sink_line, path_line, path_bases, kept_opening, opening_from}
+use Rattle.records.proofs.OpeningLaws.{in_column, room_long, lists_back}
+use Rattle.opening.specs.declared.book_setup.BookSetup.{BookSetup}
+use Rattle.opening.specs.Opened.{opening_asked, opened}
 
 -- an opening whose counts or lists do not fit is not legal
 unfit_counts : (o : Opening) → counts_fit o ≡ false → legal o ≡ false
@@ -29,68 +30,68 @@ unfit_lists : (o : Opening) → lists_fit o ≡ false → legal o ≡ false
 unfolding legal
 unfit_lists o e = rw (and_right_false (counts_fit o) e)
 
--- where the counts fit, an array has as many entries of each list as are counted
-counted : (n room : ℕ) (xs : List ℕ) → length xs ≡ room → n ≤ room → length (take n xs) ≡ n
-counted n room xs len few = length-take-le n xs (rw len few)
-
-array_lists : (o : List ℕ) → length o ≡ opening_count → counts_fit (opening_in o) ≡ true → lists_fit (opening_in o) ≡ true
+-- there are as many entries in each list of what is kept as are counted
+kept_lists : (o : KeptOpening) → lists_fit (opening_in o) ≡ true
 unfolding lists_fit opening_in
-array_lists o size e =
-    let n = counts_small (opening_in o) e in
+kept_lists o =
     and_join
     (and_join
     (and_join
     (and_join
-    (eq-eqb _ _ (counted (get_or o 0 0) 8 (take 8 (drop 4 o)) (mid_len 4 12 o (omega arith)) n.0))
-    (eq-eqb _ _ (counted (get_or o 2 0) 16 (take 16 (drop 12 o)) (mid_len 12 28 o (omega arith)) n.1)))
-    (eq-eqb _ _ (counted (get_or o 2 0) 16 (take 16 (drop 28 o)) (mid_len 28 44 o (omega arith)) n.1)))
-    (eq-eqb _ _ (counted (get_or o 3 0) 16 (take 16 (drop 44 o)) (mid_len 44 60 o (omega arith)) n.2)))
-    (eq-eqb _ _ (counted (get_or o 3 0) 16 (take 16 (drop 60 o)) (mid_len 60 76 o (omega arith)) n.2))
+    (eq-eqb _ _ (room_long 0 o.holders o.holder_kinds))
+    (eq-eqb _ _ (length-map _ _ ∙ room_long no_sink o.sinks o.sink_lines)))
+    (eq-eqb _ _ (length-map _ _ ∙ room_long no_sink o.sinks o.sink_lines)))
+    (eq-eqb _ _ (length-map _ _ ∙ room_long no_path o.paths o.path_lines)))
+    (eq-eqb _ _ (length-map _ _ ∙ room_long no_path o.paths o.path_lines))
 
--- an array is legal by its counts, its holders, sinks and paths, and its settings
-pub legal_by_lines : (o : List ℕ) → length o ≡ opening_count → legal (opening_in o) ≡ (counts_fit (opening_in o) && all_below (opening_in o).holders (holder_legal (opening_in o)) && all_below (opening_in o).sinks (sink_legal (opening_in o)) && all_below (opening_in o).paths (path_legal (opening_in o)) && all_below (opening_in o).paths (path_new (opening_in o)) && settings_legal (opening_in o).settings)
+-- what is kept is legal by its counts, its holders, sinks and paths, and its settings
+pub legal_by_lines : (o : KeptOpening) → legal (opening_in o) ≡ (counts_fit (opening_in o) && all_below (opening_in o).holders (holder_legal (opening_in o)) && all_below (opening_in o).sinks (sink_legal (opening_in o)) && all_below (opening_in o).paths (path_legal (opening_in o)) && all_below (opening_in o).paths (path_new (opening_in o)) && settings_legal o.settings)
 unfolding legal opening_in
-legal_by_lines o size = go (decided (counts_fit (opening_in o)))
-  where
-    go : (counts_fit (opening_in o) ≡ true) ⊎ (counts_fit (opening_in o) ≡ false) → legal (opening_in o) ≡ (counts_fit (opening_in o) && all_below (opening_in o).holders (holder_legal (opening_in o)) && all_below (opening_in o).sinks (sink_legal (opening_in o)) && all_below (opening_in o).paths (path_legal (opening_in o)) && all_below (opening_in o).paths (path_new (opening_in o)) && settings_legal (opening_in o).settings)
-    go (inl e) = rw (e, array_lists o size e)
-    go (inr e) = rw e
+legal_by_lines o = rw (kept_lists o, and-true (counts_fit (opening_in o)))
 
--- an array keeps the counts as they are
-counts_same : (o : Opening) → counts_fit (opening_in (opening_numbers o)) ≡ counts_fit o
-unfolding counts_fit opening_in opening_numbers opening_lists
+-- the lines of a setup, with room made for as many as a book can have, are those of its opening
+pub lines_kept : (s : BookSetup) (kinds : List ℕ) (sinks : List SinkLine) (paths : List PathLine) → kinds ≡ with_room 0 8 s.holder_kinds.now → sinks ≡ tabulate 16 (λ k. get_or s.sink_lines.now k no_sink) → paths ≡ tabulate 16 (λ k. get_or s.path_lines.now k no_path) → record { holders = s.holders; sources = s.sources; sinks = s.sinks; paths = s.paths; holder_kinds = kinds; sink_lines = sinks; path_lines = paths; settings = s.settings; bases = path_bases (opening_asked s) } ≡ kept_opening (opening_asked s)
+unfolding kept_opening opening_from with_room
+lines_kept s kinds sinks paths of_kinds of_sinks of_paths =
+    λ i. record (kept_opening (opening_asked s)) { holder_kinds = of_kinds i; sink_lines = (of_sinks ∙ ap (tabulate 16) sink_columns) i; path_lines = (of_paths ∙ ap (tabulate 16) path_columns) i }
+  where
+    sink_columns : (λ k. get_or s.sink_lines.now k no_sink) ≡ sink_line (opening_asked s)
+    sink_columns i k = record { kind = sym (in_column {A = SinkLine} (λ line. line.kind) s.sink_lines.now no_sink k) i; parent = sym (in_column {A = SinkLine} (λ line. line.parent) s.sink_lines.now no_sink k) i }
+
+    path_columns : (λ k. get_or s.path_lines.now k no_path) ≡ path_line (opening_asked s)
+    path_columns i k = record { source = sym (in_column {A = PathLine} (λ line. line.source) s.path_lines.now no_path k) i; sink = sym (in_column {A = PathLine} (λ line. line.sink) s.path_lines.now no_path k) i }
+
+-- the counts are kept as they are
+counts_same : (o : Opening) → counts_fit (opening_in (kept_opening o)) ≡ counts_fit o
+unfolding counts_fit opening_in kept_opening
 counts_same o = refl
 
-module _ (o : Opening) (kept : List ℕ) (keeps : take bases_at kept ≡ opening_numbers o) where
-  -- the lists fit and the array is legal just where the opening is
+module _ (o : Opening) (kept : KeptOpening) (keeps : record kept { bases = path_bases o } ≡ kept_opening o) where
+  same-counts : counts_fit (opening_in kept) ≡ counts_fit o
+  unfolding opening_in
+  same-counts = ap (λ k. counts_fit (opening_in k)) keeps ∙ counts_same o
+
+  -- the lists fit and what is kept is legal just where the opening is
   legal-kept : (lists_fit o && legal (opening_in kept)) ≡ legal o
   legal-kept = go (lists_fit o) (counts_fit o) refl refl
     where
       go : (l n : Bool) → lists_fit o ≡ l → counts_fit o ≡ n → (l && legal (opening_in kept)) ≡ legal o
       go false n p q = sym (unfit_lists o p)
-      go true true p q = ap legal (opening_by_lists o kept keeps q p)
-      go true false p q = unfit_counts (opening_in kept) (ap counts_fit (sym (opening_before kept) ∙ ap opening_in keeps) ∙ counts_same o ∙ q) ∙ sym (unfit_counts o q)
+      go true true p q = ap legal (lists_back o kept keeps q p)
+      go true false p q = unfit_counts (opening_in kept) (same-counts ∙ q) ∙ sym (unfit_counts o q)
 
   module _ {lists lines : Bool} (of_lists : lists ≡ lists_fit o) (of_lines : lines ≡ legal (opening_in kept)) where
     tested : {t : Bool} → (lists && lines) ≡ t → legal o ≡ t
     tested e = sym ((λ i. of_lists i && of_lines i) ∙ legal-kept) ∙ e
 
-    -- the lists and the bases of a legal opening are its array
-    with-bases : (left : List ℕ) → legal o ≡ true → left ≡ take bases_at kept ++ path_bases (opening_in kept) → left ≡ opening_array o
-    unfolding opening_array
-    with-bases left ok bases = bases ∙ (λ i. keeps i ++ path_bases (legal-by-lists-kept ok i))
-      where
-        legal-by-lists-kept : legal o ≡ true → opening_in kept ≡ o
-        legal-by-lists-kept ok = let fits = legal_facts o ok in opening_by_lists o kept keeps fits.counts_fit fits.lists_fit
-
-    pub opened_done : (left : List ℕ) → (lists && lines) ≡ true → left ≡ take bases_at kept ++ path_bases (opening_in kept) → (Ok tt ≡ opening_answer o) × (left ≡ opening_array (resulting_opening o))
-    unfolding opening_answer resulting_opening
-    opened_done left e bases =
+    -- what was kept is the whole opening, with the bases of its own paths
+    pub opened_done : (bases : List ℕ) → (lists && lines) ≡ true → bases ≡ path_bases (opening_in kept) → Ok (record kept { bases = bases }) ≡ opened o
+    unfolding opened
+    opened_done bases e found =
         let t = tested e in
-        (sym (ap (λ t. cond t (Ok tt) (Err BreaksRules)) t), with-bases left t bases ∙ sym (ap (λ t. opening_array (cond t o empty_opening)) t))
+        let fits = legal_facts o t in
+        ap (λ b. Ok (record kept { bases = b })) (found ∙ ap path_bases (lists_back o kept keeps fits.counts_fit fits.lists_fit)) ∙ ap Ok keeps ∙ sym (ap (λ b. cond b (Ok (kept_opening o)) (Err BreaksRules)) t)
 
-    pub opened_refused : (left : List ℕ) → (lists && lines) ≡ false → left ≡ opening_array empty_opening → (Err BreaksRules ≡ opening_answer o) × (left ≡ opening_array (resulting_opening o))
-    unfolding opening_answer resulting_opening
-    opened_refused left e cleared =
-        let t = tested e in
-        (sym (ap (λ t. cond t (Ok tt) (Err BreaksRules)) t), cleared ∙ sym (ap (λ t. opening_array (cond t o empty_opening)) t))
+    pub opened_refused : (lists && lines) ≡ false → Err BreaksRules ≡ opened o
+    unfolding opened
+    opened_refused e = sym (ap (λ b. cond b (Ok (kept_opening o)) (Err BreaksRules)) (tested e))

@@ -1,3 +1,2 @@
-pub mod KeptArray
 pub mod KeptOpening
 pub mod LegalityLaws

@@ -3,7 +3,8 @@ use Rattle.std.specs.Prelude.{cond, map, Result, Ok, Err}
 use Rattle.ledger.specs.Opening.{Opening, legal}
 use Rattle.records.specs.declared.refusal.Refusal.{Refusal}
 use Rattle.records.specs.declared.refusal.Refusal.TheVariants.{BreaksRules}
-use Rattle.records.specs.Opening.{empty_opening, opening_from}
+use Rattle.records.specs.declared.setup.KeptOpening.{KeptOpening}
+use Rattle.records.specs.Opening.{kept_opening, empty_opening, opening_from}
 use Rattle.opening.specs.declared.book_setup.BookSetup.{BookSetup}
 
 -- the opening that a caller asks for
@@ -16,10 +17,14 @@ opening_asked s =
     (map (λ line. line.sink) s.path_lines.now)
     s.settings
 
--- a legal opening is done, any other refused
+-- a legal opening is kept, any other refused
+unfoldable pub opened : Opening → Result KeptOpening Refusal
+opened o = cond (legal o) (Ok (kept_opening o)) (Err BreaksRules)
+
+-- the answer alone
 unfoldable pub opening_answer : Opening → Result (Unit {0}) Refusal
 opening_answer o = cond (legal o) (Ok tt) (Err BreaksRules)
 
--- a refused one leaves an opening with nothing in it, so that every book returned is one that opening and calls lead to
+-- beside a refusal stands an opening with nothing in it, so that every book returned is one that opening and calls lead to
 unfoldable pub resulting_opening : Opening → Opening
 resulting_opening o = cond (legal o) o empty_opening

@@ -1,7 +1,7 @@
-// Opening a book: its counts and lists kept in an array, and whether they break a rule.
+// Opening a book: what it keeps of its counts and lines, and whether they break a rule.
 #![tactic(auto)]
 
 pub mod book_setup;
+pub mod kept;
 pub mod legality;
-pub mod lists;
 pub mod opening;

@@ -5,7 +5,8 @@ use mathlib.Core.Bool.{Bool, true, false}
 use mathlib.Core.List.{List, []}
 use native.Mathlib.Nat.{le_trans}
 use native.Mathlib.Omega.{arith}
-use lib.ListN.{length, take, drop}
+use lib.ListN.{take, drop}
+use Rattle.records.specs.declared.setup.KeptOpening.{KeptOpening}
 use Rattle.std.specs.Prelude.{Ok}
 use Rattle.source_evidence.specs.declared.evidence.Entry.{Entry}
 use Rattle.tariff.specs.Sizes.{last_month}
@@ -18,17 +19,17 @@ use Rattle.ledger.proofs.PostingFacts.{CarryFacts, carry_facts}
 use Rattle.records.specs.Opening.{opening_in}
 use Rattle.slots.specs.Cells.{HasCell, stored_at}
 use Rattle.slots.specs.Groups.{slots_of}
-use Rattle.slots.specs.Layout.{figure_slots, posted_slots, posted_count, figure_groups, posted_groups, evidence_groups, calendar_of, figures_of, posted_of, evidence_of, ledger_in, carried_slot, carry_posted_slot}
+use Rattle.slots.specs.Layout.{figure_slots, posted_slots, figure_groups, posted_groups, evidence_groups, calendar_of, figures_of, posted_of, evidence_of, ledger_in, carried_slot, carry_posted_slot}
 use Rattle.slots.specs.Months.{added_in_term, HasRoom}
 use Rattle.slots.specs.Steps.{Reachable, Steps}
 use Rattle.slots.proofs.CellLaws.{shown_is}
 use Rattle.slots.proofs.StoreLaws.{slot_stored, single_posted}
 use Rattle.slots.proofs.MonthLaws.{term_added}
-use Rattle.slots.proofs.Reachable.{counts, figures_shown, posted_shown, evidence_known, figures_long, posted_long}
+use Rattle.slots.proofs.Reachable.{counts, figures_shown, posted_shown, evidence_known}
 use Rattle.slots.proofs.Figures.{figure_fits, room_for_more}
 use Rattle.slots.proofs.StepLaws.{accepted_test, steps_accepted}
 
-module _ (o f : List ℕ) (m : List Bool) (x : List Entry) (h p kw : ℕ) (r : Reachable o f m x) (unmet : 0 ≡ refusal (opening_in o) (ledger_in f m x) (carry h p kw)) where
+module _ (o : KeptOpening) (f : List ℕ) (m : List Bool) (x : List Entry) (h p kw : ℕ) (r : Reachable o f m x) (unmet : 0 ≡ refusal (opening_in o) (ledger_in f m x) (carry h p kw)) where
   abbrev O : Opening
   O = opening_in o
 
@@ -48,15 +49,14 @@ module _ (o f : List ℕ) (m : List Bool) (x : List Entry) (h p kw : ℕ) (r : R
   pub carry_room : HasRoom f h p carried_slot (carried_slot + last_month) kw
   carry_room =
       record {
-        long = figures_long o f m x r;
         holder = holder;
         place = path;
         in_row = omega arith;
         room = λ slot above below. room_for_more _ kw (figure_fits o f m x r h p slot facts.holder facts.path (omega arith)) facts.high;
       }
 
-  pub carry_cell : HasCell posted_slots h p carry_posted_slot × (length m ≡ posted_count)
-  carry_cell = (record { holder = holder; place = path; in_row = omega arith }, posted_long o f m x r)
+  pub carry_cell : HasCell posted_slots h p carry_posted_slot
+  carry_cell = record { holder = holder; place = path; in_row = omega arith }
 
   -- the carried rights and the note of the posting are new, and nothing else
   carried : (f' : List ℕ) → f' ≡ added_in_term f h p carried_slot 0 kw → f' ≡ figures_of (effect O L (carry h p kw))

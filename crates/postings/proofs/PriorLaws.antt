@@ -5,7 +5,8 @@ use mathlib.Core.Bool.{Bool, true, false}
 use mathlib.Core.List.{List, []}
 use native.Mathlib.Nat.{le_trans}
 use native.Mathlib.Omega.{arith}
-use lib.ListN.{length, take, drop}
+use lib.ListN.{take, drop}
+use Rattle.records.specs.declared.setup.KeptOpening.{KeptOpening}
 use Rattle.std.specs.Prelude.{Ok}
 use Rattle.source_evidence.specs.declared.evidence.Entry.{Entry}
 use Rattle.ledger.specs.Opening.{Opening}
@@ -17,17 +18,17 @@ use Rattle.ledger.proofs.PostingFacts.{PriorFacts, prior_facts}
 use Rattle.records.specs.Opening.{opening_in}
 use Rattle.slots.specs.Cells.{HasCell, stored_at, added_at}
 use Rattle.slots.specs.Groups.{slots_of}
-use Rattle.slots.specs.Layout.{figure_slots, posted_slots, posted_count, figure_groups, posted_groups, evidence_groups, calendar_of, figures_of, posted_of, evidence_of, ledger_in, prior_allocated_slot, prior_remaining_slot, carried_slot, prior_posted_slot}
+use Rattle.slots.specs.Layout.{figure_slots, posted_slots, figure_groups, posted_groups, evidence_groups, calendar_of, figures_of, posted_of, evidence_of, ledger_in, prior_allocated_slot, prior_remaining_slot, carried_slot, prior_posted_slot}
 use Rattle.slots.specs.Months.{HasRoom}
 use Rattle.slots.specs.Steps.{Reachable, Steps}
 use Rattle.slots.proofs.CellLaws.{shown_is}
 use Rattle.slots.proofs.StoreLaws.{slot_stored, slot_added, single_added, single_posted}
 use Rattle.slots.proofs.RoomLaws.{room_next}
-use Rattle.slots.proofs.Reachable.{counts, figures_shown, posted_shown, evidence_known, figures_long, posted_long}
+use Rattle.slots.proofs.Reachable.{counts, figures_shown, posted_shown, evidence_known}
 use Rattle.slots.proofs.Figures.{figure_fits, room_for_more}
 use Rattle.slots.proofs.StepLaws.{accepted_test, steps_accepted}
 
-module _ (o f : List ℕ) (m : List Bool) (x : List Entry) (h p a l : ℕ) (r : Reachable o f m x) (unmet : 0 ≡ refusal (opening_in o) (ledger_in f m x) (prior h p a l)) where
+module _ (o : KeptOpening) (f : List ℕ) (m : List Bool) (x : List Entry) (h p a l : ℕ) (r : Reachable o f m x) (unmet : 0 ≡ refusal (opening_in o) (ledger_in f m x) (prior h p a l)) where
   abbrev O : Opening
   O = opening_in o
 
@@ -54,7 +55,6 @@ module _ (o f : List ℕ) (m : List Bool) (x : List Entry) (h p a l : ℕ) (r : 
   pub prior_room : HasRoom f h p prior_allocated_slot carried_slot a
   prior_room =
       record {
-        long = figures_long o f m x r;
         holder = holder;
         place = path;
         in_row = omega arith;
@@ -65,8 +65,8 @@ module _ (o f : List ℕ) (m : List Bool) (x : List Entry) (h p a l : ℕ) (r : 
   pub remaining_room : (f' : List ℕ) → f' ≡ added_at figure_slots f h p prior_allocated_slot a → HasRoom f' h p prior_remaining_slot carried_slot a
   remaining_room f' e = room_next f f' h p prior_allocated_slot carried_slot a a prior_remaining_slot prior_room (omega arith) (omega arith) e
 
-  pub prior_cell : HasCell posted_slots h p prior_posted_slot × (length m ≡ posted_count)
-  prior_cell = (record { holder = holder; place = path; in_row = omega arith }, posted_long o f m x r)
+  pub prior_cell : HasCell posted_slots h p prior_posted_slot
+  prior_cell = record { holder = holder; place = path; in_row = omega arith }
 
   -- last year's allocation, what remains of it and the note of the posting are new, and nothing else
   allocated : (f₁ f₂ : List ℕ) → f₁ ≡ added_at figure_slots f h p prior_allocated_slot a → f₂ ≡ added_at figure_slots f₁ h p prior_remaining_slot (a - l) → f₂ ≡ figures_of (effect O L call)

@@ -7,19 +7,26 @@ ghost use Rattle.slots.specs.Steps.{ReachablePostings, InPostings, PostingsStep}
 
 use records::ranges::kw_out_of_range;
 use records::refusal::Refusal;
-use records::setup::{kind_ineligible, path_sink, unknown_holder, unknown_path};
+use records::setup::KeptOpening;
 use slots::calendar::calendar;
 use slots::cells::{is_posted, set_posted};
-use slots::layout::{CARRIED_SLOT, CARRY_POSTED_SLOT};
+use slots::layout::{CARRIED_SLOT, CARRY_POSTED_SLOT, Figures, Postings};
 use slots::months::add_in_term;
 
 // Whether a carry meets no cause, else the first that it meets.
 #[tactic(auto, using(slots::proofs::CalendarLaws::before_as_ledger, slots::proofs::PostedLaws::posted_one), unfolding(ledger::specs::Causes::refusal, ledger::specs::Causes::call_causes, ledger::specs::Causes::carry_causes, ledger::specs::Numbers::first_met, slots::specs::Layout::ledger_in))]
-fn check_carry(o: &[u64], f: &[u64], m: &[bool], h: u64, p: u64, kw: u64) -> Result<(), Refusal>
+fn check_carry(
+    o: &KeptOpening,
+    f: &Figures,
+    m: &Postings,
+    h: u64,
+    p: u64,
+    kw: u64,
+) -> Result<(), Refusal>
     requires { ReachablePostings o.now f.now m.now }
     ensures { InPostings o.now f.now m.now (λ O L. refused_by result ≡ refusal O L (carry h p kw)) }
 {
-    if unknown_holder(o, h) || unknown_path(o, p) {
+    if o.unknown_holder(h) || o.unknown_path(p) {
         return Err(Refusal::NotInBook);
     }
     if kw_out_of_range(kw) {
@@ -31,7 +38,7 @@ fn check_carry(o: &[u64], f: &[u64], m: &[bool], h: u64, p: u64, kw: u64) -> Res
     if is_posted(m, h, p, CARRY_POSTED_SLOT) {
         return Err(Refusal::PostedBefore);
     }
-    if kind_ineligible(o, h, path_sink(o, p)) {
+    if o.kind_ineligible(h, o.path_sink(p)) {
         return Err(Refusal::SinkIneligible);
     }
     Ok(())
@@ -39,9 +46,9 @@ fn check_carry(o: &[u64], f: &[u64], m: &[bool], h: u64, p: u64, kw: u64) -> Res
 
 // Carries kw in for a holder on a path.
 pub fn carry(
-    o: &[u64],
-    f: &mut [u64],
-    m: &mut [bool],
+    o: &KeptOpening,
+    f: &mut Figures,
+    m: &mut Postings,
     h: u64,
     p: u64,
     kw: u64,

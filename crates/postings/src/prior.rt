@@ -7,17 +7,19 @@ ghost use Rattle.slots.specs.Steps.{ReachablePostings, InPostings, PostingsStep}
 
 use records::ranges::prior_out_of_range;
 use records::refusal::Refusal;
-use records::setup::{kind_ineligible, path_sink, unknown_holder, unknown_path};
+use records::setup::KeptOpening;
 use slots::calendar::calendar;
 use slots::cells::{add, is_posted, set_posted};
-use slots::layout::{PRIOR_ALLOCATED_SLOT, PRIOR_POSTED_SLOT, PRIOR_REMAINING_SLOT};
+use slots::layout::{
+    Figures, PRIOR_ALLOCATED_SLOT, PRIOR_POSTED_SLOT, PRIOR_REMAINING_SLOT, Postings,
+};
 
 // Whether a prior meets no cause, else the first that it meets.
 #[tactic(auto, using(slots::proofs::CalendarLaws::before_as_ledger, slots::proofs::PostedLaws::posted_one), unfolding(ledger::specs::Causes::refusal, ledger::specs::Causes::call_causes, ledger::specs::Causes::prior_causes, ledger::specs::Numbers::first_met, slots::specs::Layout::ledger_in))]
 fn check_prior(
-    o: &[u64],
-    f: &[u64],
-    m: &[bool],
+    o: &KeptOpening,
+    f: &Figures,
+    m: &Postings,
     h: u64,
     p: u64,
     a: u64,
@@ -26,7 +28,7 @@ fn check_prior(
     requires { ReachablePostings o.now f.now m.now }
     ensures { InPostings o.now f.now m.now (λ O L. refused_by result ≡ refusal O L (prior h p a l)) }
 {
-    if unknown_holder(o, h) || unknown_path(o, p) {
+    if o.unknown_holder(h) || o.unknown_path(p) {
         return Err(Refusal::NotInBook);
     }
     if prior_out_of_range(a, l) {
@@ -38,7 +40,7 @@ fn check_prior(
     if is_posted(m, h, p, PRIOR_POSTED_SLOT) {
         return Err(Refusal::PostedBefore);
     }
-    if kind_ineligible(o, h, path_sink(o, p)) {
+    if o.kind_ineligible(h, o.path_sink(p)) {
         return Err(Refusal::SinkIneligible);
     }
     Ok(())
@@ -46,9 +48,9 @@ fn check_prior(
 
 // Posts the prior of a holder on a path: a allocated last year, of which l went to Long Term.
 pub fn prior(
-    o: &[u64],
-    f: &mut [u64],
-    m: &mut [bool],
+    o: &KeptOpening,
+    f: &mut Figures,
+    m: &mut Postings,
     h: u64,
     p: u64,
     a: u64,

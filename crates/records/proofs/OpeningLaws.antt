@@ -1,30 +1,23 @@
--- Openings: an array keeps the whole of a legal one. Assumes nothing.
-use Prim.Native.Nat.{ℕ, zero, suc, ◌+◌, ◌≤◌, ◌<◌}
+-- Openings: what is kept of a legal one is the whole of it. Assumes nothing.
+use Prim.Native.Nat.{ℕ, zero, suc, ◌≤◌, ◌<◌}
 use mathlib.Core.Path.{◌≡◌, refl, sym, ap, ◌∙◌}
 use mathlib.Core.Bool.{true}
-use mathlib.Core.List.{List, [], ◌∷◌, ◌++◌}
+use mathlib.Core.List.{List, [], ◌∷◌, map}
 use native.Mathlib.Omega.{arith}
-use lib.ListN.{length, get_or, take, drop, length-drop}
-use lib.Seq.{ext_get_or, get_or-take, get_or-drop, length-take-le, take-take, take_at, drop_at}
+use lib.ListN.{length, get_or}
+use lib.Seq.{ext_get_or}
+use Rattle.std.proofs.lemmas.List.{length-map, map-id, get_or_past}
 use borrow.Author.Tests.{eqb-true, leb-true}
 use Rattle.tariff.specs.Sum.{tabulate, all_below}
-use Rattle.tariff.specs.Settings.{fraction_legal, settings_legal, fraction_at, settings_of, present_settings, settings_numbers}
+use Rattle.tariff.specs.Settings.{fraction_legal, settings_legal, fraction_at, settings_of, present_settings}
 use Rattle.tariff.proofs.Tests.{and_both}
 use Rattle.tariff.proofs.Lists.{length_tabulate, at_tabulate}
-use Rattle.tariff.proofs.SettingsLaws.{settings_ext, settings_back}
 use Rattle.ledger.proofs.LegalFacts.{legal_facts}
-use Rattle.ledger.specs.Opening.{Opening, path_base, counts_fit, lists_fit, legal}
-use Rattle.records.specs.Opening.{opening_count, settings_at, bases_at, opening_in, opening_lists, opening_numbers, path_bases, opening_array, KeepsBases, with_room, empty_opening}
-use Rattle.records.proofs.ListsBefore.{mid_past, last_past}
-
--- the first n of a list that was copied into n places or more are the list
-pub copied_back : (n room : ℕ) (xs : List ℕ) → length xs ≡ n → n ≤ room → take n (tabulate room (λ k. get_or xs k 0)) ≡ xs
-copied_back n room xs len fits =
-    ext_get_or 0 (take n (tabulate room (λ k. get_or xs k 0))) xs (taken ∙ sym len)
-    (λ i l. let below : i < n = omega (arith, taken) in get_or-take n (tabulate room (λ k. get_or xs k 0)) i 0 below ∙ at_tabulate room (λ k. get_or xs k 0) 0 i (omega arith))
-  where
-    taken : length (take n (tabulate room (λ k. get_or xs k 0))) ≡ n
-    taken = length-take-le n (tabulate room (λ k. get_or xs k 0)) (let all = length_tabulate room (λ k. get_or xs k 0) in omega arith)
+use Rattle.ledger.specs.Opening.{Opening, sink_kind, base, path_source, path_sink, path_base, counts_fit, lists_fit, legal}
+use Rattle.records.specs.declared.setup.KeptOpening.{KeptOpening}
+use Rattle.records.specs.declared.setup.SinkLine.{SinkLine}
+use Rattle.records.specs.declared.setup.PathLine.{PathLine}
+use Rattle.records.specs.Opening.{opening_in, with_room, no_sink, no_path, sink_line, path_line, path_bases, kept_opening, KeepsBases, empty_opening}
 
 -- the lists are as long as counted
 lists_long : (o : Opening) → lists_fit o ≡ true → (length o.holder_kinds ≡ o.holders) × (length o.sink_kinds ≡ o.sinks) × (length o.sink_parents ≡ o.sinks) × (length o.path_sources ≡ o.paths) × (length o.path_sinks ≡ o.paths)
@@ -45,108 +38,96 @@ counts_small o e =
     let one = and_both _ _ two.0 in
     (leb-true _ _ one.0, leb-true _ _ two.1, leb-true _ _ three.1)
 
--- five lists one after another, each taken out again
-module _ (v w x y z : List ℕ) (a : length v ≡ 8) (b : length w ≡ 16) (c : length x ≡ 16) (d : length y ≡ 16) (e : length z ≡ 16) where
-  abbrev all : List ℕ
-  all = v ++ (w ++ (x ++ (y ++ z)))
+-- a list with room: how long it is, and what stands in it
+module _ {A : Type 0} (none : A) (room : ℕ) (xs : List A) where
+  pub room_long : length (with_room none room xs) ≡ room
+  unfolding with_room
+  room_long = length_tabulate room _
 
-  lists-apart : (take 8 all ≡ v) × (take 16 (drop 8 all) ≡ w) × (take 16 (drop 24 all) ≡ x) × (take 16 (drop 40 all) ≡ y) × (take 16 (drop 56 all) ≡ z)
-  lists-apart = (
-    mid_past [] v (w ++ (x ++ (y ++ z))) 0 8 refl a,
-    mid_past (v ∷ []) w (x ++ (y ++ z)) 8 16 (omega (arith, a)) b,
-    mid_past (v ∷ w ∷ []) x (y ++ z) 24 16 (omega (arith, a, b)) c,
-    mid_past (v ∷ w ∷ x ∷ []) y z 40 16 (omega (arith, a, b, c)) d,
-    last_past (v ∷ w ∷ x ∷ y ∷ []) z 56 16 (omega (arith, a, b, c, d)) e,
-  )
+  pub room_at : (i : ℕ) → i < room → get_or (with_room none room xs) i none ≡ get_or xs i none
+  unfolding with_room
+  room_at i l = at_tabulate room _ none i l
 
--- a part of what stands before a place
-part_before : (a k n : ℕ) (xs : List ℕ) → a + k ≤ n → take k (drop a (take n xs)) ≡ take k (drop a xs)
-part_before zero k n xs l = take-take k n xs (omega arith)
-part_before (suc a) k zero xs l = absurd (omega (arith, l))
-part_before (suc a) k (suc n) [] l = refl
-part_before (suc a) k (suc n) (x ∷ xs) l = part_before a k n xs (omega arith)
+  pub room_past : (i : ℕ) → room ≤ i → get_or (with_room none room xs) i none ≡ none
+  room_past i l = get_or_past (with_room none room xs) i none (let long = room_long in omega arith)
 
-lists_size : (o : Opening) → length (opening_lists o) ≡ settings_at
-unfolding opening_lists tabulate
-lists_size o = refl
+-- a number of a line, read from the column of that number
+pub in_column : {A : Type 0} (number : A → ℕ) (lines : List A) (none : A) (i : ℕ) → get_or (map number lines) i (number none) ≡ number (get_or lines i none)
+in_column number [] none i = refl
+in_column number (line ∷ lines) none zero = refl
+in_column number (line ∷ lines) none (suc i) = in_column number lines none i
 
--- the settings stand after the lists
-settings_after : (o : Opening) → settings_of (drop settings_at (opening_numbers o)) ≡ o.settings
-unfolding opening_numbers
-settings_after o = ap settings_of (drop_at (opening_lists o) (settings_numbers o.settings) settings_at (lists_size o)) ∙ settings_back o.settings
+-- a column of the first n lines, of which room for more was made, is the list that the lines were made from
+module _ {A : Type 0} (none : A) (number : A → ℕ) (n room : ℕ) (made : List A) (xs : List ℕ) (len : length xs ≡ n) (fits : n ≤ room) (shows : (k : ℕ) → k < room → number (get_or made k none) ≡ get_or xs k (number none)) where
+  abbrev lines : List A
+  lines = with_room none n made
 
--- and a list stands where it does without them
-list_before : (o : Opening) (a k : ℕ) → a + k ≤ settings_at → take k (drop a (opening_numbers o)) ≡ take k (drop a (opening_lists o))
-unfolding opening_numbers
-list_before o a k l =
-    sym (part_before a k settings_at (opening_lists o ++ settings_numbers o.settings) l)
-    ∙ ap (λ xs. take k (drop a xs)) (take_at (opening_lists o) (settings_numbers o.settings) settings_at (lists_size o))
+  lines-long : length (map number lines) ≡ n
+  lines-long = length-map lines number ∙ room_long none n made
 
--- the numbers keep the whole of an opening whose counts and lists fit
-pub lists_back : (o : Opening) → counts_fit o ≡ true → lists_fit o ≡ true → opening_in (opening_numbers o) ≡ o
-unfolding opening_in opening_numbers opening_lists
-lists_back o counts lists =
-    let n = counts_small o counts in
-    let l = lists_long o lists in
-    let apart = lists-apart (with_room 8 o.holder_kinds) (with_room 16 o.sink_kinds) (with_room 16 o.sink_parents) (with_room 16 o.path_sources) (with_room 16 o.path_sinks) (length_tabulate 8 _) (length_tabulate 16 _) (length_tabulate 16 _) (length_tabulate 16 _) (length_tabulate 16 _) in
-    λ i.
-    record {
-      holders = o.holders;
-      sources = o.sources;
-      sinks = o.sinks;
-      paths = o.paths;
-      holder_kinds = (ap (take o.holders) (list_before o 4 8 (omega arith) ∙ apart.0) ∙ copied_back o.holders 8 o.holder_kinds l.0 n.0) i;
-      sink_kinds = (ap (take o.sinks) (list_before o 12 16 (omega arith) ∙ apart.1) ∙ copied_back o.sinks 16 o.sink_kinds l.1 n.1) i;
-      sink_parents = (ap (take o.sinks) (list_before o 28 16 (omega arith) ∙ apart.2) ∙ copied_back o.sinks 16 o.sink_parents l.2 n.1) i;
-      path_sources = (ap (take o.paths) (list_before o 44 16 (omega arith) ∙ apart.3) ∙ copied_back o.paths 16 o.path_sources l.3 n.2) i;
-      path_sinks = (ap (take o.paths) (list_before o 60 16 (omega arith) ∙ apart.4) ∙ copied_back o.paths 16 o.path_sinks l.4 n.2) i;
-      settings = settings_after o i;
-    }
+  pub column_back : map number lines ≡ xs
+  column_back =
+      ext_get_or (number none) (map number lines) xs (lines-long ∙ sym len)
+      (λ i l.
+      let below : i < n = let long = lines-long in omega arith in
+      in_column number lines none i ∙ ap number (room_at none n made i below) ∙ shows i (omega arith))
 
--- what stands before the bases is all of the opening
-pub opening_before : (o : List ℕ) → opening_in (take bases_at o) ≡ opening_in o
-unfolding opening_in
-opening_before o =
-    let count : (k : ℕ) → k < 4 → get_or (take bases_at o) k 0 ≡ get_or o k 0 = λ k l. get_or-take bases_at o k 0 (omega arith) in
-    λ i.
-    record {
-      holders = count 0 (omega arith) i;
-      sources = count 1 (omega arith) i;
-      sinks = count 2 (omega arith) i;
-      paths = count 3 (omega arith) i;
-      holder_kinds = take (count 0 (omega arith) i) (part_before 4 8 bases_at o (omega arith) i);
-      sink_kinds = take (count 2 (omega arith) i) (part_before 12 16 bases_at o (omega arith) i);
-      sink_parents = take (count 2 (omega arith) i) (part_before 28 16 bases_at o (omega arith) i);
-      path_sources = take (count 3 (omega arith) i) (part_before 44 16 bases_at o (omega arith) i);
-      path_sinks = take (count 3 (omega arith) i) (part_before 60 16 bases_at o (omega arith) i);
-      settings = settings_ext (drop settings_at (take bases_at o)) (drop settings_at o) (λ k l. get_or-drop settings_at (take bases_at o) k 0 ∙ get_or-take bases_at o (settings_at + k) 0 (omega arith) ∙ sym (get_or-drop settings_at o k 0)) i;
-    }
+-- what stands on a sink's and a path's line as code reads it
+module _ (o : KeptOpening) where
+  module _ (s : ℕ) (line : SinkLine) (read : line ≡ get_or (with_room no_sink o.sinks o.sink_lines) s no_sink) where
+    pub kind_read : line.kind ≡ sink_kind (opening_in o) s
+    unfolding opening_in sink_kind
+    kind_read = ap (λ x. x.kind) read ∙ sym (in_column {A = SinkLine} (λ x. x.kind) (with_room no_sink o.sinks o.sink_lines) no_sink s)
 
-numbers_size : (o : Opening) → length (opening_numbers o) ≡ bases_at
-unfolding opening_numbers opening_lists tabulate settings_numbers
-numbers_size o = refl
+    pub parent_read : line.parent ≡ base (opening_in o) s
+    unfolding opening_in base
+    parent_read = ap (λ x. x.parent) read ∙ sym (in_column {A = SinkLine} (λ x. x.parent) (with_room no_sink o.sinks o.sink_lines) no_sink s)
 
--- an array of which the numbers are an opening's keeps that opening
-pub opening_by_lists : (o : Opening) (kept : List ℕ) → take bases_at kept ≡ opening_numbers o → counts_fit o ≡ true → lists_fit o ≡ true → opening_in kept ≡ o
-opening_by_lists o kept keeps counts lists = sym (opening_before kept) ∙ ap opening_in keeps ∙ lists_back o counts lists
+  module _ (p : ℕ) (line : PathLine) (read : line ≡ get_or (with_room no_path o.paths o.path_lines) p no_path) where
+    pub source_read : line.source ≡ path_source (opening_in o) p
+    unfolding opening_in path_source
+    source_read = ap (λ x. x.source) read ∙ sym (in_column {A = PathLine} (λ x. x.source) (with_room no_path o.paths o.path_lines) no_path p)
 
-pub opening_back : (o : Opening) → legal o ≡ true → opening_in (opening_array o) ≡ o
-unfolding opening_array
-opening_back o e = let fits = legal_facts o e in opening_by_lists o (opening_array o) (take_at (opening_numbers o) (path_bases o) bases_at (numbers_size o)) fits.counts_fit fits.lists_fit
+    pub end_read : line.sink ≡ path_sink (opening_in o) p
+    unfolding opening_in path_sink
+    end_read = ap (λ x. x.sink) read ∙ sym (in_column {A = PathLine} (λ x. x.sink) (with_room no_path o.paths o.path_lines) no_path p)
 
--- and its array keeps the bases of its paths
-pub bases_kept : (o : Opening) → legal o ≡ true → KeepsBases (opening_array o)
-unfolding opening_array
-bases_kept o e = drop_at (opening_numbers o) (path_bases o) bases_at (numbers_size o) ∙ ap path_bases (sym (opening_back o e))
+-- what is kept of an opening whose counts and lists fit is the whole of it, whatever stands for the bases
+pub lists_back : (o : Opening) (kept : KeptOpening) → record kept { bases = path_bases o } ≡ kept_opening o → counts_fit o ≡ true → lists_fit o ≡ true → opening_in kept ≡ o
+unfolding opening_in kept_opening
+lists_back o kept keeps counts lists = ap opening_in keeps ∙ kept_back
+  where
+    kept_back : opening_in (kept_opening o) ≡ o
+    kept_back =
+        let n = counts_small o counts in
+        let l = lists_long o lists in
+        λ i.
+        record {
+          holders = o.holders;
+          sources = o.sources;
+          sinks = o.sinks;
+          paths = o.paths;
+          holder_kinds = (sym (map-id _) ∙ column_back 0 (λ k. k) o.holders 8 (with_room 0 8 o.holder_kinds) o.holder_kinds l.0 n.0 (room_at 0 8 o.holder_kinds)) i;
+          sink_kinds = column_back {A = SinkLine} no_sink (λ line. line.kind) o.sinks 16 (tabulate 16 (sink_line o)) o.sink_kinds l.1 n.1 (λ k b. ap (λ line. line.kind) (at_tabulate 16 (sink_line o) no_sink k b)) i;
+          sink_parents = column_back {A = SinkLine} no_sink (λ line. line.parent) o.sinks 16 (tabulate 16 (sink_line o)) o.sink_parents l.2 n.1 (λ k b. ap (λ line. line.parent) (at_tabulate 16 (sink_line o) no_sink k b)) i;
+          path_sources = column_back {A = PathLine} no_path (λ line. line.source) o.paths 16 (tabulate 16 (path_line o)) o.path_sources l.3 n.2 (λ k b. ap (λ line. line.source) (at_tabulate 16 (path_line o) no_path k b)) i;
+          path_sinks = column_back {A = PathLine} no_path (λ line. line.sink) o.paths 16 (tabulate 16 (path_line o)) o.path_sinks l.4 n.2 (λ k b. ap (λ line. line.sink) (at_tabulate 16 (path_line o) no_path k b)) i;
+          settings = o.settings;
+        }
+
+pub opening_back : (o : Opening) → legal o ≡ true → opening_in (kept_opening o) ≡ o
+unfolding kept_opening
+opening_back o e = let fits = legal_facts o e in lists_back o (kept_opening o) refl fits.counts_fit fits.lists_fit
+
+-- and it keeps the bases of its paths
+pub bases_kept : (o : Opening) → legal o ≡ true → KeepsBases (kept_opening o)
+unfolding kept_opening
+bases_kept o e = ap path_bases (sym (opening_back o e))
 
 -- the base that is kept for a path
-pub base_at : (o : List ℕ) → KeepsBases o → (p : ℕ) → p < 16 → get_or o (bases_at + p) 0 ≡ path_base (opening_in o) p
+pub base_at : (o : KeptOpening) → KeepsBases o → (p : ℕ) → p < 16 → get_or o.bases p 0 ≡ path_base (opening_in o) p
 unfolding path_bases
-base_at o keeps p l = sym (get_or-drop bases_at o p 0) ∙ ap (λ xs. get_or xs p 0) keeps ∙ at_tabulate 16 (path_base (opening_in o)) 0 p l
-
-pub bases_size : (o : List ℕ) → KeepsBases o → length o ≡ opening_count
-unfolding path_bases
-bases_size o keeps = let left = length-drop bases_at o in let many = ap length keeps ∙ length_tabulate 16 (path_base (opening_in o)) in omega arith
+base_at o keeps p l = ap (λ xs. get_or xs p 0) keeps ∙ at_tabulate 16 (path_base (opening_in o)) 0 p l
 
 -- an opening with nothing in it breaks no rule
 pub empty_legal : legal empty_opening ≡ true

@@ -1,4 +1,4 @@
--- The opening that stands in an array, when calls can run, and the ledger's refusals and answers as code gives them.
+-- The opening that a book keeps, when calls can run, and the ledger's refusals and answers as code gives them.
 pub mod Opening
 pub mod Calendar
 pub mod Kinds

@@ -1,93 +1,75 @@
--- The opening that a book keeps in an array.
-use Rattle.std.specs.Prelude.{ℕ, ◌≡◌, List, [], ◌∷◌, ◌++◌, take, drop, get_or}
+-- The opening that a book keeps.
+use Rattle.std.specs.Prelude.{ℕ, ◌≡◌, List, [], map, get_or}
 use Rattle.std.specs.Borrow.{Bor}
 use Rattle.tariff.specs.Sizes.{max_holders, max_places}
 use Rattle.tariff.specs.declared.settings.Settings.{Settings}
 use Rattle.tariff.specs.Sum.{tabulate}
-use Rattle.tariff.specs.Settings.{settings_of, present_settings, settings_numbers}
+use Rattle.tariff.specs.Settings.{present_settings}
 use Rattle.ledger.specs.Opening.{Opening, path_base}
+use Rattle.records.specs.declared.setup.KeptOpening.{KeptOpening}
+use Rattle.records.specs.declared.setup.SinkLine.{SinkLine}
+use Rattle.records.specs.declared.setup.PathLine.{PathLine}
 
--- how many numbers keep an opening: four counts, then the kinds of 8 holders and 16 sinks, the parents of the sinks, the sources and the sinks of 16 paths,
--- the twelve numbers of the settings, and last the base of each path
-abbrev pub opening_count : ℕ
-opening_count = 104
+-- a list with so many entries: what is past its end is none
+unfoldable pub with_room : {A : Type 0} → A → ℕ → List A → List A
+with_room none room xs = tabulate room (λ k. get_or xs k none)
 
--- where each list stands
-abbrev pub holder_kinds_at : ℕ
-holder_kinds_at = 4
+-- what stands past the last line of a sink and of a path
+abbrev pub no_sink : SinkLine
+no_sink = record { kind = 0; parent = 0 }
 
-abbrev pub sink_kinds_at : ℕ
-sink_kinds_at = 12
+abbrev pub no_path : PathLine
+no_path = record { source = 0; sink = 0 }
 
-abbrev pub sink_parents_at : ℕ
-sink_parents_at = 28
-
-abbrev pub path_sources_at : ℕ
-path_sources_at = 44
-
-abbrev pub path_sinks_at : ℕ
-path_sinks_at = 60
-
--- where the settings stand (02, 3/14)
-abbrev pub settings_at : ℕ
-settings_at = 76
-
--- and the bases
-abbrev pub bases_at : ℕ
-bases_at = 88
-
--- the opening that stands in an array: as many entries of each list as are counted
-unfoldable pub opening_in : List ℕ → Opening
+-- the opening that a book keeps: as many lines of each kind as are counted
+unfoldable pub opening_in : KeptOpening → Opening
 opening_in o =
     record {
-      holders = get_or o 0 0;
-      sources = get_or o 1 0;
-      sinks = get_or o 2 0;
-      paths = get_or o 3 0;
-      holder_kinds = take (get_or o 0 0) (take max_holders (drop holder_kinds_at o));
-      sink_kinds = take (get_or o 2 0) (take max_places (drop sink_kinds_at o));
-      sink_parents = take (get_or o 2 0) (take max_places (drop sink_parents_at o));
-      path_sources = take (get_or o 3 0) (take max_places (drop path_sources_at o));
-      path_sinks = take (get_or o 3 0) (take max_places (drop path_sinks_at o));
-      settings = settings_of (drop settings_at o);
+      holders = o.holders;
+      sources = o.sources;
+      sinks = o.sinks;
+      paths = o.paths;
+      holder_kinds = with_room 0 o.holders o.holder_kinds;
+      sink_kinds = map (λ line. line.kind) (with_room no_sink o.sinks o.sink_lines);
+      sink_parents = map (λ line. line.parent) (with_room no_sink o.sinks o.sink_lines);
+      path_sources = map (λ line. line.source) (with_room no_path o.paths o.path_lines);
+      path_sinks = map (λ line. line.sink) (with_room no_path o.paths o.path_lines);
+      settings = o.settings;
     }
 
--- the opening that a lent array keeps
-abbrev pub opening_of : Bor (List ℕ) → Opening
+-- the same of one that is lent
+abbrev pub opening_of : Bor KeptOpening → Opening
 opening_of o = opening_in o.now
-
--- a list with room for as many entries: what is past its end is 0
-abbrev pub with_room : ℕ → List ℕ → List ℕ
-with_room room xs = tabulate room (λ k. get_or xs k 0)
-
--- the counts and lists of an opening, as they stand in its array
-unfoldable pub opening_lists : Opening → List ℕ
-opening_lists o =
-    o.holders
-    ∷ o.sources
-    ∷ o.sinks
-    ∷ o.paths
-    ∷ (with_room max_holders o.holder_kinds
-    ++ (with_room max_places o.sink_kinds
-    ++ (with_room max_places o.sink_parents
-    ++ (with_room max_places o.path_sources
-    ++ with_room max_places o.path_sinks))))
-
--- the counts, the lists and the settings
-unfoldable pub opening_numbers : Opening → List ℕ
-opening_numbers o = opening_lists o ++ settings_numbers o.settings
 
 -- the base of each path
 unfoldable pub path_bases : Opening → List ℕ
 path_bases o = tabulate max_places (path_base o)
 
--- the array of an opening: bases follow from the lists, and are kept so that nobody looks them up twice
-unfoldable pub opening_array : Opening → List ℕ
-opening_array o = opening_numbers o ++ path_bases o
+-- what stands on the line of a sink and of a path
+abbrev pub sink_line : Opening → ℕ → SinkLine
+sink_line o s = record { kind = get_or o.sink_kinds s 0; parent = get_or o.sink_parents s 0 }
 
--- an array that keeps the bases of its own paths
-abbrev pub KeepsBases : List ℕ → Type 0
-KeepsBases o = drop bases_at o ≡ path_bases (opening_in o)
+abbrev pub path_line : Opening → ℕ → PathLine
+path_line o p = record { source = get_or o.path_sources p 0; sink = get_or o.path_sinks p 0 }
+
+-- an opening as it is kept: past the lines of a kind stands 0, and the bases, which follow from the lines, stand beside them
+unfoldable pub kept_opening : Opening → KeptOpening
+kept_opening o =
+    record {
+      holders = o.holders;
+      sources = o.sources;
+      sinks = o.sinks;
+      paths = o.paths;
+      holder_kinds = with_room 0 max_holders o.holder_kinds;
+      sink_lines = tabulate max_places (sink_line o);
+      path_lines = tabulate max_places (path_line o);
+      settings = o.settings;
+      bases = path_bases o;
+    }
+
+-- one that keeps the bases of its own paths
+abbrev pub KeepsBases : KeptOpening → Type 0
+KeepsBases o = o.bases ≡ path_bases (opening_in o)
 
 -- the counts, lists and settings that a caller opens with
 unfoldable pub opening_from : ℕ → ℕ → ℕ → ℕ → List ℕ → List ℕ → List ℕ → List ℕ → List ℕ → Settings → Opening

@@ -1,4 +1,4 @@
-// What every call reads beside a book's figures: the opening kept in an array, the calendar's tests, the refusals and their numbers, the answers.
+// What every call reads beside a book's figures: the opening that a book keeps, the calendar's tests, the refusals and their numbers, the answers.
 #![tactic(auto)]
 
 pub mod answers;

@@ -1,22 +1,21 @@
-// Numbers of a lent array: one at a place, and one of a list that stands in it.
-ghost use Rattle.std.specs.Prelude.{◌≡◌, ◌≤◌, get_or, take, drop};
-ghost use Rattle.tariff.specs.Sizes.{max_places};
-ghost use Rattle.records.specs.Opening.{opening_count};
+// One of a list's entries, and one of those that are counted of a list.
+ghost use Rattle.std.specs.Prelude.{◌≡◌, get_or};
+ghost use Rattle.records.specs.Opening.{with_room};
 
-// The number at a place; 0 past the end.
-pub fn number_at(numbers: &[u64], i: usize) -> u64
-    ensures { result ≡ get_or numbers.now i 0 }
+// The entry at a place; `none` past the end.
+pub fn entry_at<T: Copy>(entries: &[T], i: usize, none: T) -> T
+    ensures { result ≡ get_or entries.now i none }
 {
-    numbers.get(i).copied().unwrap_or(0)
+    entries.get(i).copied().unwrap_or(none)
 }
 
-// The entry of a list of `count` numbers that stands from a place on, with room for `room` of them; 0 past its end.
-pub fn list_entry(numbers: &[u64], from: usize, room: u64, count: u64, i: u64) -> u64
-    requires { (from ≤ opening_count) × (room ≤ max_places) }
-    ensures { result ≡ get_or (take count (take room (drop from numbers.now))) i 0 }
+// The same of entries of which the first `count` are used.
+#[tactic(auto, using(crate::proofs::OpeningLaws::room_at, crate::proofs::OpeningLaws::room_past))]
+pub fn counted_entry<T: Copy>(entries: &[T], count: u64, i: u64, none: T) -> T
+    ensures { result ≡ get_or (with_room none count entries.now) i none }
 {
-    if count <= i || room <= i {
-        return 0;
+    if count <= i {
+        return none;
     }
-    number_at(numbers, from + i as usize)
+    entry_at(entries, i as usize, none)
 }

@@ -1,210 +1,214 @@
-// What a book was opened with, kept in an array (01, The book; 02, 3/14): the four counts, then what stands on the line of each holder, sink and path, and
-// the settings.
-ghost use Rattle.std.specs.Prelude.{◌<◌, ◌≡◌, true, drop, eqb};
-ghost use Rattle.tariff.specs.Sizes.{max_places, setting_count};
-ghost use Rattle.tariff.specs.Settings.{fraction_at, settings_legal};
+// What a book was opened with (01, The book; 02, 3/14): the four counts, what stands on the line of each holder, sink and path, and the settings.
+ghost use Rattle.std.specs.Prelude.{◌<◌, ◌≡◌, true, eqb};
+ghost use Rattle.tariff.specs.Sizes.{max_places};
+ghost use Rattle.tariff.specs.Settings.{settings_legal};
 ghost use Rattle.ledger.specs.Opening.{obaalse, holder_kind, sink_kind, base, path_source, path_sink, path_base};
 ghost use Rattle.ledger.specs.Ranges.{unknown_holder, unknown_source, unknown_sink, unknown_path};
 ghost use Rattle.ledger.specs.Causes.{kind_ineligible, is_sub_lap};
 ghost use Rattle.records.specs.Kinds.{holder_kind_of, sink_kind_of};
-ghost use Rattle.records.specs.Opening.{settings_at, opening_of, KeepsBases};
+ghost use Rattle.records.specs.Opening.{opening_of, KeepsBases};
 
 use crate::kinds::{HolderKind, SinkKind};
-use crate::lists::{list_entry, number_at};
+use crate::lists::counted_entry;
 use tariff::legal_settings::LegalSettings;
-use tariff::settings::{Fraction, Settings};
+use tariff::settings::Settings;
 use tariff::sizes::{MAX_HOLDERS, MAX_PLACES};
 
-// Where the lists stand after the four counts, each with room for as many as a book can have.
-pub const HOLDER_KINDS_AT: usize = 4;
-
-pub const SINK_KINDS_AT: usize = 12;
-
-pub const SINK_PARENTS_AT: usize = 28;
-
-pub const PATH_SOURCES_AT: usize = 44;
-
-pub const PATH_SINKS_AT: usize = 60;
-
-// Where the settings stand, after the lists.
-pub const SETTINGS_AT: usize = 76;
-
-// Where the base of each path stands, after the settings.
-pub const BASES_AT: usize = 88;
-
-// How many numbers keep an opening.
-pub const OPENING_COUNT: usize = 104;
-
-#[tactic(auto, unfolding(crate::specs::Opening::opening_in))]
-pub fn holders(o: &[u64]) -> u64
-    ensures { result ≡ (opening_of o.entry).holders }
-{
-    number_at(o, 0)
+// What stands on a sink's line: its kind, and the sink that it names.
+#[derive(Clone, Copy)]
+pub struct SinkLine {
+    pub kind: u64,
+    pub parent: u64,
 }
 
-#[tactic(auto, unfolding(crate::specs::Opening::opening_in))]
-pub fn sources(o: &[u64]) -> u64
-    ensures { result ≡ (opening_of o.entry).sources }
-{
-    number_at(o, 1)
+// What stands on a path's line: the source that it comes from, and the sink that it ends at.
+#[derive(Clone, Copy)]
+pub struct PathLine {
+    pub source: u64,
+    pub sink: u64,
 }
 
-#[tactic(auto, unfolding(crate::specs::Opening::opening_in))]
-pub fn sinks(o: &[u64]) -> u64
-    ensures { result ≡ (opening_of o.entry).sinks }
-{
-    number_at(o, 2)
+impl SinkLine {
+    // What is read past the last line.
+    pub const NONE: SinkLine = SinkLine { kind: 0, parent: 0 };
 }
 
-#[tactic(auto, unfolding(crate::specs::Opening::opening_in))]
-pub fn paths(o: &[u64]) -> u64
-    ensures { result ≡ (opening_of o.entry).paths }
-{
-    number_at(o, 3)
+impl PathLine {
+    pub const NONE: PathLine = PathLine { source: 0, sink: 0 };
 }
 
-#[tactic(auto, unfolding(ledger::specs::Ranges::unknown_holder))]
-pub fn unknown_holder(o: &[u64], h: u64) -> bool
-    ensures { result ≡ unknown_holder (opening_of o.entry) h }
-{
-    holders(o) <= h
+// An opening as a book keeps it, with room for as many lines as a book can have.
+#[derive(Clone, Copy)]
+pub struct KeptOpening {
+    pub holders: u64,
+    pub sources: u64,
+    pub sinks: u64,
+    pub paths: u64,
+    pub holder_kinds: [u64; MAX_HOLDERS],
+    pub sink_lines: [SinkLine; MAX_PLACES],
+    pub path_lines: [PathLine; MAX_PLACES],
+    pub settings: Settings,
+    // The base of each path, so that it is looked up once.
+    pub bases: [u64; MAX_PLACES],
 }
 
-#[tactic(auto, unfolding(ledger::specs::Ranges::unknown_source))]
-pub fn unknown_source(o: &[u64], s: u64) -> bool
-    ensures { result ≡ unknown_source (opening_of o.entry) s }
-{
-    sources(o) <= s
-}
-
-#[tactic(auto, unfolding(ledger::specs::Ranges::unknown_sink))]
-pub fn unknown_sink(o: &[u64], s: u64) -> bool
-    ensures { result ≡ unknown_sink (opening_of o.entry) s }
-{
-    sinks(o) <= s
-}
-
-#[tactic(auto, unfolding(ledger::specs::Ranges::unknown_path))]
-pub fn unknown_path(o: &[u64], p: u64) -> bool
-    ensures { result ≡ unknown_path (opening_of o.entry) p }
-{
-    paths(o) <= p
-}
-
-#[tactic(auto, unfolding(crate::specs::Opening::opening_in, ledger::specs::Opening::holder_kind))]
-pub fn holder_kind(o: &[u64], h: u64) -> Option<HolderKind>
-    ensures { result ≡ holder_kind_of (holder_kind (opening_of o.entry) h) }
-{
-    let number = list_entry(o, HOLDER_KINDS_AT, MAX_HOLDERS as u64, holders(o), h);
-    HolderKind::try_from(number).ok()
-}
-
-#[tactic(auto, unfolding(crate::specs::Opening::opening_in, ledger::specs::Opening::sink_kind))]
-pub fn sink_kind(o: &[u64], s: u64) -> Option<SinkKind>
-    ensures { result ≡ sink_kind_of (sink_kind (opening_of o.entry) s) }
-{
-    let number = list_entry(o, SINK_KINDS_AT, MAX_PLACES as u64, sinks(o), s);
-    SinkKind::try_from(number).ok()
-}
-
-#[tactic(auto, unfolding(crate::specs::Opening::opening_in, ledger::specs::Opening::base))]
-pub fn sink_base(o: &[u64], s: u64) -> u64
-    ensures { result ≡ base (opening_of o.entry) s }
-{
-    list_entry(o, SINK_PARENTS_AT, MAX_PLACES as u64, sinks(o), s)
-}
-
-#[tactic(auto, unfolding(crate::specs::Opening::opening_in, ledger::specs::Opening::path_source))]
-pub fn path_source(o: &[u64], p: u64) -> u64
-    ensures { result ≡ path_source (opening_of o.entry) p }
-{
-    list_entry(o, PATH_SOURCES_AT, MAX_PLACES as u64, paths(o), p)
-}
-
-#[tactic(auto, unfolding(crate::specs::Opening::opening_in, ledger::specs::Opening::path_sink))]
-pub fn path_sink(o: &[u64], p: u64) -> u64
-    ensures { result ≡ path_sink (opening_of o.entry) p }
-{
-    list_entry(o, PATH_SINKS_AT, MAX_PLACES as u64, paths(o), p)
-}
-
-// The base of a path's sink, looked up by way of the sink.
-#[tactic(auto, unfolding(ledger::specs::Opening::path_base))]
-pub fn base_by_sink(o: &[u64], p: u64) -> u64
-    ensures { result ≡ path_base (opening_of o.entry) p }
-{
-    let sink = path_sink(o, p);
-    sink_base(o, sink)
-}
-
-// The base of a path's sink, as it is kept.
-pub fn path_base(o: &[u64], p: u64) -> u64
-    requires { KeepsBases o.now × (p < max_places) }
-    ensures { result ≡ path_base (opening_of o.entry) p }
-{
-    o[BASES_AT + p as usize]
-}
-
-// The fraction whose numerator stands at a place of the settings.
-fn fraction_at(o: &[u64], k: usize) -> Fraction
-    requires { k < setting_count }
-    ensures { result ≡ fraction_at k (drop settings_at o.now) }
-{
-    let at = SETTINGS_AT + k;
-    Fraction {
-        numerator: number_at(o, at),
-        denominator: number_at(o, at + 1),
+impl KeptOpening {
+    #[tactic(auto, unfolding(crate::specs::Opening::opening_in))]
+    pub fn holders(&self) -> u64
+        ensures { result ≡ (opening_of self.entry).holders }
+    {
+        self.holders
     }
-}
 
-// The fractions that the book was opened with.
-#[tactic(auto, unfolding(crate::specs::Opening::opening_in, tariff::specs::Settings::settings_of))]
-pub fn settings(o: &[u64]) -> Settings
-    ensures { result ≡ (opening_of o.entry).settings }
-{
-    Settings {
-        seasonal: fraction_at(o, 0),
-        priority: fraction_at(o, 2),
-        exceedance: fraction_at(o, 4),
-        missing: fraction_at(o, 6),
-        without_evidence: fraction_at(o, 8),
-        with_evidence: fraction_at(o, 10),
+    #[tactic(auto, unfolding(crate::specs::Opening::opening_in))]
+    pub fn sources(&self) -> u64
+        ensures { result ≡ (opening_of self.entry).sources }
+    {
+        self.sources
     }
-}
 
-// The same, of an opening that is legal.
-pub fn legal_settings(o: &[u64]) -> LegalSettings
-    requires { settings_legal (opening_of o).settings ≡ true }
-    ensures { result.settings ≡ (opening_of o.entry).settings }
-{
-    LegalSettings {
-        settings: settings(o),
+    #[tactic(auto, unfolding(crate::specs::Opening::opening_in))]
+    pub fn sinks(&self) -> u64
+        ensures { result ≡ (opening_of self.entry).sinks }
+    {
+        self.sinks
     }
-}
 
-// Cause 10 by kinds: a scheduling point is not for an LSE, and nothing else is for an OBAALSE.
-#[tactic(auto, unfolding(ledger::specs::Causes::kind_ineligible), using(crate::proofs::KindLaws::names_lse, crate::proofs::KindLaws::names_scheduling_point))]
-pub fn kind_ineligible(o: &[u64], h: u64, s: u64) -> bool
-    ensures { result ≡ kind_ineligible (opening_of o.entry) h s }
-{
-    let scheduling_point = sink_kind(o, s) == Some(SinkKind::SchedulingPoint);
-    if holder_kind(o, h) == Some(HolderKind::Lse) {
-        return scheduling_point;
+    #[tactic(auto, unfolding(crate::specs::Opening::opening_in))]
+    pub fn paths(&self) -> u64
+        ensures { result ≡ (opening_of self.entry).paths }
+    {
+        self.paths
     }
-    !scheduling_point
-}
 
-// A holder is an OBAALSE.
-#[tactic(auto, using(crate::proofs::KindLaws::names_obaalse))]
-pub fn is_obaalse(o: &[u64], h: u64) -> bool
-    ensures { result ≡ eqb (holder_kind (opening_of o.entry) h) obaalse }
-{
-    holder_kind(o, h) == Some(HolderKind::Obaalse)
-}
+    #[tactic(auto, unfolding(ledger::specs::Ranges::unknown_holder))]
+    pub fn unknown_holder(&self, h: u64) -> bool
+        ensures { result ≡ unknown_holder (opening_of self.entry) h }
+    {
+        self.holders() <= h
+    }
 
-#[tactic(auto, unfolding(ledger::specs::Causes::is_sub_lap), using(crate::proofs::KindLaws::names_sub_lap))]
-pub fn is_sub_lap(o: &[u64], s: u64) -> bool
-    ensures { result ≡ is_sub_lap (opening_of o.entry) s }
-{
-    sink_kind(o, s) == Some(SinkKind::SubLap)
+    #[tactic(auto, unfolding(ledger::specs::Ranges::unknown_source))]
+    pub fn unknown_source(&self, s: u64) -> bool
+        ensures { result ≡ unknown_source (opening_of self.entry) s }
+    {
+        self.sources() <= s
+    }
+
+    #[tactic(auto, unfolding(ledger::specs::Ranges::unknown_sink))]
+    pub fn unknown_sink(&self, s: u64) -> bool
+        ensures { result ≡ unknown_sink (opening_of self.entry) s }
+    {
+        self.sinks() <= s
+    }
+
+    #[tactic(auto, unfolding(ledger::specs::Ranges::unknown_path))]
+    pub fn unknown_path(&self, p: u64) -> bool
+        ensures { result ≡ unknown_path (opening_of self.entry) p }
+    {
+        self.paths() <= p
+    }
+
+    #[tactic(auto, unfolding(crate::specs::Opening::opening_in, ledger::specs::Opening::holder_kind))]
+    pub fn holder_kind(&self, h: u64) -> Option<HolderKind>
+        ensures { result ≡ holder_kind_of (holder_kind (opening_of self.entry) h) }
+    {
+        let number = counted_entry(&self.holder_kinds, self.holders, h, 0);
+        HolderKind::try_from(number).ok()
+    }
+
+    // The line of a sink.
+    fn sink_line(&self, s: u64) -> SinkLine
+        ensures kind { result.kind ≡ sink_kind (opening_of self.entry) s }
+        ensures base { result.parent ≡ base (opening_of self.entry) s }
+    {
+        counted_entry(&self.sink_lines, self.sinks, s, SinkLine::NONE)
+    }
+
+    pub fn sink_kind(&self, s: u64) -> Option<SinkKind>
+        ensures { result ≡ sink_kind_of (sink_kind (opening_of self.entry) s) }
+    {
+        SinkKind::try_from(self.sink_line(s).kind).ok()
+    }
+
+    pub fn sink_base(&self, s: u64) -> u64
+        ensures { result ≡ base (opening_of self.entry) s }
+    {
+        self.sink_line(s).parent
+    }
+
+    // The line of a path.
+    fn path_line(&self, p: u64) -> PathLine
+        ensures source { result.source ≡ path_source (opening_of self.entry) p }
+        ensures sink { result.sink ≡ path_sink (opening_of self.entry) p }
+    {
+        counted_entry(&self.path_lines, self.paths, p, PathLine::NONE)
+    }
+
+    pub fn path_source(&self, p: u64) -> u64
+        ensures { result ≡ path_source (opening_of self.entry) p }
+    {
+        self.path_line(p).source
+    }
+
+    pub fn path_sink(&self, p: u64) -> u64
+        ensures { result ≡ path_sink (opening_of self.entry) p }
+    {
+        self.path_line(p).sink
+    }
+
+    // The base of a path's sink, looked up by way of the sink.
+    #[tactic(auto, unfolding(ledger::specs::Opening::path_base))]
+    pub fn base_by_sink(&self, p: u64) -> u64
+        ensures { result ≡ path_base (opening_of self.entry) p }
+    {
+        let sink = self.path_sink(p);
+        self.sink_base(sink)
+    }
+
+    // The base of a path's sink, as it is kept.
+    pub fn path_base(&self, p: u64) -> u64
+        requires { KeepsBases self.now × (p < max_places) }
+        ensures { result ≡ path_base (opening_of self.entry) p }
+    {
+        self.bases[p as usize]
+    }
+
+    // The fractions of an opening that is legal.
+    #[tactic(auto, unfolding(crate::specs::Opening::opening_in))]
+    pub fn legal_settings(&self) -> LegalSettings
+        requires { settings_legal (opening_of self).settings ≡ true }
+        ensures { result.settings ≡ (opening_of self.entry).settings }
+    {
+        LegalSettings {
+            settings: self.settings,
+        }
+    }
+
+    // Cause 10 by kinds: a scheduling point is not for an LSE, and nothing else is for an OBAALSE.
+    #[tactic(auto, unfolding(ledger::specs::Causes::kind_ineligible), using(crate::proofs::KindLaws::names_lse, crate::proofs::KindLaws::names_scheduling_point))]
+    pub fn kind_ineligible(&self, h: u64, s: u64) -> bool
+        ensures { result ≡ kind_ineligible (opening_of self.entry) h s }
+    {
+        let scheduling_point = self.sink_kind(s) == Some(SinkKind::SchedulingPoint);
+        if self.holder_kind(h) == Some(HolderKind::Lse) {
+            return scheduling_point;
+        }
+        !scheduling_point
+    }
+
+    // A holder is an OBAALSE.
+    #[tactic(auto, using(crate::proofs::KindLaws::names_obaalse))]
+    pub fn is_obaalse(&self, h: u64) -> bool
+        ensures { result ≡ eqb (holder_kind (opening_of self.entry) h) obaalse }
+    {
+        self.holder_kind(h) == Some(HolderKind::Obaalse)
+    }
+
+    #[tactic(auto, unfolding(ledger::specs::Causes::is_sub_lap), using(crate::proofs::KindLaws::names_sub_lap))]
+    pub fn is_sub_lap(&self, s: u64) -> bool
+        ensures { result ≡ is_sub_lap (opening_of self.entry) s }
+    {
+        self.sink_kind(s) == Some(SinkKind::SubLap)
+    }
 }

@@ -7,6 +7,7 @@ use native.Mathlib.Omega.{arith}
 use lib.ListN.{length, take, drop, replicate, length-append, length-drop, drop_of_length-le, take-append-drop}
 use native.Mathlib.Nat.{add-zero}
 use lib.Seq.{drop-drop}
+use Rattle.records.specs.declared.setup.KeptOpening.{KeptOpening}
 use Rattle.source_evidence.specs.declared.evidence.Entry.{Entry}
 use Rattle.ledger.specs.Ledger.{empty_ledger}
 use Rattle.ledger.specs.Season.{call, query}
@@ -98,17 +99,17 @@ pub record AnswersSoFar (script : List ℕ) (first : Book) (from start : ℕ) (o
   pub left : done ++ text_from b (drop at script) ≡ text_from first (drop from script)
 
 -- the same of the arrays that a run keeps: the book has some evidence, which a run does not keep
-pub record RunSoFar (script : List ℕ) (first : Book) (from start : ℕ) (out₀ out o f : List ℕ) (m : List Bool) (at written : ℕ) : Type 0 where
+pub record RunSoFar (script : List ℕ) (first : Book) (from start : ℕ) (out₀ out : List ℕ) (o : KeptOpening) (f : List ℕ) (m : List Bool) (at written : ℕ) : Type 0 where
   pub evidence : List Entry
   pub so_far : AnswersSoFar script first from start out₀ out (book_in o f m evidence) at written
 
 -- arrays at 0, with nothing posted, are those of the book that was opened
-opened_book : (o : List ℕ) → book_of o empty_ledger ≡ book_in o (replicate figure_count 0) (replicate posted_count false) (evidence_of empty_ledger)
+opened_book : (o : KeptOpening) → book_of o empty_ledger ≡ book_in o (replicate figure_count 0) (replicate posted_count false) (evidence_of empty_ledger)
 unfolding book_of
 opened_book o = λ i. book_in o (sym empty_figures i) (sym empty_posted i) (evidence_of empty_ledger)
 
 -- and nothing is answered yet
-module _ (script o : List ℕ) (from start : ℕ) (out : List ℕ) where
+module _ (script : List ℕ) (o : KeptOpening) (from start : ℕ) (out : List ℕ) where
   abbrev opened : Book
   opened = book_of o empty_ledger
 

@@ -1,24 +1,27 @@
 -- A run's answers from its book group and the groups after it. Assumes nothing.
 use Prim.Native.Nat.{ℕ, zero, suc, ◌*◌, ◌≤◌, ◌<◌, zero-le}
 use mathlib.Core.Path.{◌≡◌, refl, sym, ap, ◌∙◌}
-use mathlib.Core.Bool.{Bool, true, false, cond, ◌&&◌, ◌||◌}
+use mathlib.Core.Bool.{Bool, true, false, cond, ◌||◌}
 use mathlib.Core.List.{List, [], ◌∷◌, ◌++◌, map, append-nil}
 use native.Mathlib.Nat.{zero-add}
 use native.Mathlib.Omega.{arith}
 use lib.ListN.{length, drop}
 use lib.Dec.{ltb}
 use borrow.Author.Tests.{lt-ltb, le-ltb}
+use Rattle.records.specs.declared.setup.KeptOpening.{KeptOpening}
 use Rattle.std.specs.Prelude.{Ok, Err}
-use Rattle.std.specs.Result.{is_ok}
 use Rattle.ledger.specs.Opening.{Opening, legal, opening_refusal}
 use Rattle.ledger.specs.Ledger.{empty_ledger}
 use Rattle.ledger.specs.Season as ledger
 use Rattle.ledger.specs.Season.{after, after_from}
 use Rattle.records.specs.declared.refusal.Refusal.TheVariants.{Unreadable, BreaksRules}
-use Rattle.records.specs.Answers.{answer_in, of_call}
-use Rattle.opening.specs.Opened.{opening_answer}
+use Rattle.records.specs.Answers.{answer_in}
+use Rattle.records.specs.Opening.{kept_opening}
+use Rattle.records.specs.declared.refusal.Refusal.{Refusal}
+use Rattle.opening.specs.Opened.{opened}
 use Rattle.book.specs.Reading.{book_of}
 use Rattle.book.specs.Opened.{opening_outcome}
+use Rattle.book.proofs.OpenedLaws.{opened_book}
 use Rattle.book.proofs.SeasonAnswers.{opened_at}
 use Rattle.lines.specs.declared.rows.Row.{Row}
 use Rattle.lines.specs.Text.{lines_of, max_lines, max_bytes}
@@ -29,7 +32,7 @@ use Rattle.counted_lines.proofs.RowSteps.{first_row_lem}
 use Rattle.groups.specs.Groups.{groups_of, book_readable, opening_of_rows, call_rows}
 use Rattle.script.specs.Answers.{answers_to, answers_after, script_answers, text_of, texts_of}
 use Rattle.script.specs.GroupTexts.{answers_of, text_from}
-use Rattle.book_group.specs.BookGroup.{book_group_with, opening_left, book_group_of, opening_after}
+use Rattle.book_group.specs.BookGroup.{book_group_with, book_group_of, group_answer}
 use Rattle.script.specs.Run.{too_long, too_short, answers_text, written, run_refusal, run_number, output_after}
 use Rattle.script.proofs.GroupTextLaws.{groups_answered}
 use Rattle.book_group.proofs.BookGroupLaws.{group_rows, group_opens}
@@ -39,32 +42,24 @@ groups_text : (o : Opening) → legal o ≡ true → (rows : List Row) → texts
 unfolding after after_from
 groups_text o e rows = ap (λ b. texts_of (map answer_in (answers_of b (groups_of rows)))) (opened_at o e) ∙ ap texts_of (groups_answered o e [] (groups_of rows))
 
-opened_answer : (o : Opening) → legal o ≡ true → answer_in (of_call (opening_outcome o).answer) ≡ ledger.done
-unfolding opening_outcome opening_answer answer_in of_call
-opened_answer o e = ap (λ t. answer_in (of_call (cond t (Ok (tt {0})) (Err BreaksRules)))) e
-
-after_text : (o : Opening) → legal o ≡ true → (rows : List Row) → texts_of (answers_after o rows) ≡ text_of (answer_in (of_call (opening_outcome o).answer)) ++ texts_of (map answer_in (answers_of (opening_outcome o).book (groups_of rows)))
+after_text : (o : Opening) → legal o ≡ true → (rows : List Row) → texts_of (answers_after o rows) ≡ text_of ledger.done ++ texts_of (map answer_in (answers_of (book_of (kept_opening o) empty_ledger) (groups_of rows)))
 unfolding answers_after texts_of
 after_text o e rows =
     ap (λ t. texts_of (cond t (ledger.done ∷ answers_to o empty_ledger (groups_of rows)) (ledger.refused (opening_refusal o) ∷ []))) e
-    ∙ (λ i. text_of (sym (opened_answer o e) i) ++ sym (groups_text o e rows) i)
+    ∙ ap (λ text. text_of ledger.done ++ text) (sym (groups_text o e rows) ∙ ap (λ b. texts_of (map answer_in (answers_of b (groups_of rows)))) (opened_book o e))
 
-module _ (head : Row) (rows : List Row) (consumed : ℕ) where
-  -- a book group that ends the run is answered by itself
-  stops : is_ok (book_group_with head rows consumed).answer ≡ false → texts_of (script_answers (head ∷ rows)) ≡ text_of (answer_in (of_call (book_group_with head rows consumed).answer))
-  unfolding book_group_with script_answers answers_after texts_of opening_answer opening_refusal answer_in of_call
-  stops e = go (book_readable head rows) (legal (opening_of_rows head rows)) e
-    where
-      go : (readable is_legal : Bool) → is_ok (cond readable (cond is_legal (Ok (tt {0})) (Err BreaksRules)) (Err Unreadable)) ≡ false → texts_of (cond readable (cond is_legal (ledger.done ∷ answers_to (opening_of_rows head rows) empty_ledger (groups_of (call_rows head rows))) (ledger.refused (cond is_legal 0 16) ∷ [])) (ledger.refused 1 ∷ [])) ≡ text_of (answer_in (of_call (cond readable (cond is_legal (Ok (tt {0})) (Err BreaksRules)) (Err Unreadable))))
-      go true true w = cc
-      go true false w = append-nil _
-      go false is_legal w = append-nil _
+-- a book group that ends the run is answered by itself
+stops : (head : Row) (rows : List Row) (consumed : ℕ) (refusal : Refusal) → (book_group_with head rows consumed).opened ≡ Err refusal → texts_of (script_answers (head ∷ rows)) ≡ text_of (answer_in (group_answer (book_group_with head rows consumed).opened))
+unfolding book_group_with script_answers answers_after texts_of opened opening_refusal group_answer answer_in
+stops head rows consumed refusal e = go (book_readable head rows) (legal (opening_of_rows head rows)) e
+  where
+    kept : KeptOpening
+    kept = kept_opening (opening_of_rows head rows)
 
-  -- one that does not is answered, and then the groups after it
-  continues : (o : List ℕ) → (book_readable head rows ≡ true) × (legal (opening_of_rows head rows) ≡ true) → texts_of (script_answers (head ∷ rows)) ≡ text_of (answer_in (of_call (book_group_with head rows consumed).answer)) ++ texts_of (map answer_in (answers_of (book_of (opening_left head rows o) empty_ledger) (groups_of (call_rows head rows))))
-  unfolding book_group_with opening_left script_answers opening_outcome
-  continues o both =
-      rw both.0 (after_text (opening_of_rows head rows) both.1 (call_rows head rows))
+    go : (readable is_legal : Bool) → cond readable (cond is_legal (Ok kept) (Err BreaksRules)) (Err Unreadable) ≡ Err refusal → texts_of (cond readable (cond is_legal (ledger.done ∷ answers_to (opening_of_rows head rows) empty_ledger (groups_of (call_rows head rows))) (ledger.refused (cond is_legal 0 16) ∷ [])) (ledger.refused 1 ∷ [])) ≡ text_of (answer_in (group_answer (cond readable (cond is_legal (Ok kept) (Err BreaksRules)) (Err Unreadable))))
+    go true true w = cc
+    go true false w = append-nil _
+    go false is_legal w = append-nil _
 
 -- of a script that has a line
 module _ (script : List ℕ) (some : 1 ≤ length script) where
@@ -74,16 +69,20 @@ module _ (script : List ℕ) (some : 1 ≤ length script) where
   rows : List Row
   rows = rows_of (drop (next_row script).consumed script)
 
-  pub run_stops : is_ok (book_group_of script).answer ≡ false → answers_text script ≡ text_of (answer_in (of_call (book_group_of script).answer))
-  unfolding answers_text book_group_of head rows
-  run_stops e = ap (λ all. texts_of (script_answers all)) (first_row_lem script some) ∙ stops head rows _ e
+  pub run_stops : (refusal : Refusal) → (book_group_of script).opened ≡ Err refusal → answers_text script ≡ text_of (answer_in (Err refusal))
+  unfolding answers_text book_group_of head rows group_answer
+  run_stops refusal e = ap (λ all. texts_of (script_answers all)) (first_row_lem script some) ∙ stops head rows _ refusal e ∙ ap (λ opened. text_of (answer_in (group_answer opened))) e
 
-  pub run_continues : (o : List ℕ) → is_ok (book_group_of script).answer ≡ true → answers_text script ≡ text_of (answer_in (of_call (book_group_of script).answer)) ++ text_from (book_of (opening_after script o) empty_ledger) (drop (book_group_of script).consumed script)
-  unfolding answers_text book_group_of opening_after head rows text_from
-  run_continues o e =
+  -- one that does not is answered, and then the groups after it
+  pub run_continues : (kept : KeptOpening) → (book_group_of script).opened ≡ Ok kept → answers_text script ≡ text_of ledger.done ++ text_from (book_of kept empty_ledger) (drop (book_group_of script).consumed script)
+  unfolding answers_text script_answers head rows text_from
+  run_continues kept e =
+      let opens = group_opens script kept e in
+      let o = opening_of_rows head rows in
       ap (λ all. texts_of (script_answers all)) (first_row_lem script some)
-      ∙ continues head rows _ o (group_opens script e)
-      ∙ ap (λ calls. text_of (answer_in (of_call (book_group_of script).answer)) ++ texts_of (map answer_in (answers_of (book_of (opening_after script o) empty_ledger) (groups_of calls)))) (sym (group_rows script))
+      ∙ ap (λ t. texts_of (cond t (answers_after o (call_rows head rows)) (ledger.refused 1 ∷ []))) opens.0
+      ∙ after_text o opens.1 (call_rows head rows)
+      ∙ (λ i. text_of ledger.done ++ texts_of (map answer_in (answers_of (book_of (sym opens.2 i) empty_ledger) (groups_of (sym (group_rows script) i)))))
 
 -- what is written from the start on
 from_start : (out text : List ℕ) → written_at out 0 text ≡ text ++ drop (length text) out

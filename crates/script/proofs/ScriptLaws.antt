@@ -1,18 +1,21 @@
 -- A script that is answered: its book group first, then what is left of it. Assumes nothing.
-use Prim.Native.Nat.{ℕ, ◌+◌, ◌*◌, ◌≤◌, ◌<◌}
+use Prim.Native.Nat.{ℕ, ◌+◌, ◌*◌, ◌≤◌}
 use mathlib.Core.Path.{◌≡◌, sym, ap, ◌∙◌, subst}
 use mathlib.Core.Bool.{Bool, true, false, cond}
 use mathlib.Core.List.{List, ◌++◌}
-use native.Mathlib.Nat.{le_trans, le_of_eq, zero-add}
+use native.Mathlib.Nat.{le_trans, le_of_eq}
 use native.Mathlib.Omega.{arith}
 use lib.ListN.{length, drop, length-append}
 use Rattle.std.specs.Prelude.{Ok, Err}
-use Rattle.std.specs.Result.{is_ok}
-use Rattle.records.specs.Answers.{Answer, answer_in, of_call}
+use Rattle.records.specs.Answers.{Answer, answer_in}
+use Rattle.records.specs.Opening.{kept_opening}
+use Rattle.records.specs.declared.setup.KeptOpening.{KeptOpening}
+use Rattle.records.specs.declared.refusal.Refusal.{Refusal}
+use Rattle.ledger.specs.Season.{done}
 use Rattle.ledger.specs.Opening.{legal}
 use Rattle.ledger.specs.Ledger.{empty_ledger}
 use Rattle.records.specs.declared.refusal.Refusal.TheVariants.{Unreadable, BreaksRules}
-use Rattle.opening.specs.Opened.{opening_answer}
+use Rattle.opening.specs.Opened.{opened}
 use Rattle.lines.specs.declared.rows.Row.{Row}
 use Rattle.book.specs.Reading.{book_of}
 use Rattle.book.specs.Reachable.{Reachable}
@@ -25,7 +28,7 @@ use Rattle.book_group.specs.declared.book_group.BookGroup.{BookGroup}
 use Rattle.groups.specs.Groups.{book_readable, opening_of_rows, call_rows}
 use Rattle.script.specs.Answers.{text_of}
 use Rattle.script.specs.GroupTexts.{text_from}
-use Rattle.book_group.specs.BookGroup.{book_group_with, book_group_of, opening_after}
+use Rattle.book_group.specs.BookGroup.{book_group_with, book_group_of, group_answer}
 use Rattle.script.specs.Writing.{Writable}
 use Rattle.script.specs.Run.{answers_text}
 use Rattle.groups.proofs.GroupLaws.{drop_shorter}
@@ -35,8 +38,8 @@ use Rattle.script.proofs.RunLaws.{run_stops, run_continues}
 use Rattle.lines.specs.Text.{max_lines}
 
 -- what the book group is answered fits its line
-group_writable : (script : List ℕ) → Writable (answer_in (of_call (book_group_of script).answer))
-unfolding book_group_of book_group_with opening_answer answer_in of_call
+pub group_writable : (script : List ℕ) → Writable (answer_in (group_answer (book_group_of script).opened))
+unfolding book_group_of book_group_with opened answer_in group_answer
 group_writable script = go (book_readable first left) (legal (opening_of_rows first left))
   where
     first : Row
@@ -45,15 +48,12 @@ group_writable script = go (book_readable first left) (legal (opening_of_rows fi
     left : List Row
     left = rows_of (drop (next_row script).consumed script)
 
-    go : (t u : Bool) → Writable (answer_in (of_call (cond t (cond u (Ok (tt {0})) (Err BreaksRules)) (Err Unreadable))))
+    go : (t u : Bool) → Writable (answer_in (group_answer (cond t (cond u (Ok (kept_opening (opening_of_rows first left))) (Err BreaksRules)) (Err Unreadable))))
     go true true = done_writable
     go true false = refused_writable 16
     go false u = refused_writable 1
 
-module _ (script out : List ℕ) (some : 1 ≤ length script) (few : length (rows_of script) ≤ max_lines) (room : 16 * length (rows_of script) ≤ length out) (x : BookGroup) (is : x ≡ book_group_of script) (a : Answer) (given : a ≡ of_call x.answer) (o₀ o : List ℕ) (opening : o ≡ opening_after script o₀) where
-  abbrev text : List ℕ
-  text = text_of (answer_in a)
-
+module _ (script out : List ℕ) (some : 1 ≤ length script) (few : length (rows_of script) ≤ max_lines) (room : 16 * length (rows_of script) ≤ length out) (x : BookGroup) (is : x ≡ book_group_of script) where
   abbrev rest : List ℕ
   rest = drop x.consumed script
 
@@ -61,12 +61,13 @@ module _ (script out : List ℕ) (some : 1 ≤ length script) (few : length (row
   first-room : 16 ≤ length out
   first-room = let all = ap length (first_row_lem script some) in omega arith
 
-  first_fits : Writable (answer_in a)
-  first_fits = subst (λ y. Writable (answer_in y)) (sym (given ∙ ap (λ y. of_call y.answer) is)) (group_writable script)
+  -- what writing the group's answer needs
+  module _ (a : Answer) (given : a ≡ group_answer x.opened) where
+    first_fits : Writable (answer_in a)
+    first_fits = subst (λ y. Writable (answer_in y)) (sym (given ∙ ap (λ y. group_answer y.opened) is)) (group_writable script)
 
-  -- what writing it needs
-  pub first_writable : 0 + length text ≤ length out
-  first_writable = let room = first-room in let short = first_fits.short in omega arith
+    pub first_writable : 0 + length (text_of (answer_in a)) ≤ length out
+    first_writable = let room = first-room in let short = first_fits.short in omega arith
 
   -- at least the head is not among the rows that are left
   rows_left : length (rows_of rest) + 1 ≤ length (rows_of script)
@@ -80,15 +81,17 @@ module _ (script out : List ℕ) (some : 1 ≤ length script) (few : length (row
       let all = ap length (first_row_lem script some) in
       omega arith
 
-  module _ (w : ℕ) (out₁ : List ℕ) (place : w ≡ 0 + length text) (bytes : out₁ ≡ written_at out 0 text) where
-    -- a refused book group is all that is answered
-    pub stopped : is_ok x.answer ≡ false → (w ≡ length (answers_text script)) × (out₁ ≡ written_at out 0 (answers_text script))
-    stopped e =
-        let all = run_stops script some (sym (ap (λ y. is_ok y.answer) is) ∙ e) ∙ ap (λ y. text_of (answer_in y)) (sym (given ∙ ap (λ y. of_call y.answer) is)) in
-        (place ∙ zero-add (length text) ∙ ap length (sym all), bytes ∙ ap (written_at out 0) (sym all))
+  -- a refused book group is all that is answered
+  pub stopped : (refusal : Refusal) → x.opened ≡ Err refusal → answers_text script ≡ text_of (answer_in (Err refusal))
+  stopped refusal e = run_stops script some refusal (sym (ap (λ y. y.opened) is) ∙ e)
 
-    pub left_reachable : is_ok x.answer ≡ true → Reachable (book_of o empty_ledger)
-    left_reachable e = subst (λ z. Reachable (book_of z empty_ledger)) (sym opening) (book_group_reachable script o₀ (sym (ap (λ y. is_ok y.answer) is) ∙ e))
+  -- after any other the groups that are left are answered
+  module _ (kept : KeptOpening) (opens : x.opened ≡ Ok kept) where
+    of_script : (book_group_of script).opened ≡ Ok kept
+    of_script = sym (ap (λ y. y.opened) is) ∙ opens
+
+    pub left_reachable : Reachable (book_of kept empty_ledger)
+    left_reachable = book_group_reachable script kept of_script
 
     pub left_within : x.consumed ≤ length script
     left_within = le_trans (le_of_eq (ap (λ y. y.consumed) is)) (group_within script)
@@ -96,21 +99,25 @@ module _ (script out : List ℕ) (some : 1 ≤ length script) (few : length (row
     pub left_few : length (rows_of rest) ≤ max_lines
     left_few = let left = rows_left in omega arith
 
-    short : length text ≤ 16
-    short = first_fits.short
-
-    same_length : length out₁ ≡ length out
-    same_length = ap length bytes ∙ written_length out 0 text (let s = short in let r = first-room in omega arith)
-
-    pub left_room : w + 16 * length (rows_of rest) ≤ length out₁
-    left_room = let left = rows_left in let s = short in let same = same_length in omega arith
+    abbrev text : List ℕ
+    text = text_of done
 
     abbrev later : List ℕ
-    later = text_from (book_of o empty_ledger) rest
+    later = text_from (book_of kept empty_ledger) rest
 
-    pub gone_on : is_ok x.answer ≡ true → (w₂ : ℕ) (out₂ : List ℕ) → w₂ ≡ w + length later → out₂ ≡ written_at out₁ w later → w₂ ≤ length out₁ → (w₂ ≡ length (answers_text script)) × (out₂ ≡ written_at out 0 (answers_text script))
-    gone_on e w₂ out₂ n b within =
-        let all = run_continues script some o₀ (sym (ap (λ y. is_ok y.answer) is) ∙ e) ∙ (λ i. text_of (answer_in (sym (given ∙ ap (λ y. of_call y.answer) is) i)) ++ text_from (book_of (sym opening i) empty_ledger) (drop (sym is i).consumed script)) in
-        let sum = length-append text later in
-        let same = same_length in
-        (n ∙ omega arith ∙ ap length (sym all), b ∙ (λ i. written_at (bytes i) (place i) later) ∙ written_again out 0 text later (omega arith) ∙ ap (written_at out 0) (sym all))
+    module _ (w : ℕ) (out₁ : List ℕ) (place : w ≡ 0 + length text) (bytes : out₁ ≡ written_at out 0 text) where
+      short : length text ≤ 16
+      short = done_writable.short
+
+      same_length : length out₁ ≡ length out
+      same_length = ap length bytes ∙ written_length out 0 text (let s = short in let r = first-room in omega arith)
+
+      pub left_room : w + 16 * length (rows_of rest) ≤ length out₁
+      left_room = let left = rows_left in let s = short in let same = same_length in omega arith
+
+      pub gone_on : (w₂ : ℕ) (out₂ : List ℕ) → w₂ ≡ w + length later → out₂ ≡ written_at out₁ w later → w₂ ≤ length out₁ → (w₂ ≡ length (answers_text script)) × (out₂ ≡ written_at out 0 (answers_text script))
+      gone_on w₂ out₂ n b within =
+          let all = run_continues script some kept of_script ∙ ap (λ y. text ++ text_from (book_of kept empty_ledger) (drop y.consumed script)) (sym is) in
+          let sum = length-append text later in
+          let same = same_length in
+          (n ∙ omega arith ∙ ap length (sym all), b ∙ (λ i. written_at (bytes i) (place i) later) ∙ written_again out 0 text later (omega arith) ∙ ap (written_at out 0) (sym all))

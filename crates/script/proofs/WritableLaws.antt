@@ -1,17 +1,15 @@
 -- Every answer that the ledger or a book gives has its place in sixteen bytes: a refusal is a line of six bytes, a figure has at most twelve digits. Assumes nothing.
 use Prim.Native.Nat.{ℕ, ◌*◌, ◌≤◌, ◌<◌}
 use mathlib.Core.Path.{◌≡◌, refl, sym, ap, ◌∙◌, subst}
-use mathlib.Core.Bool.{Bool, true, false, cond, ◌&&◌}
-use mathlib.Core.List.{List, [], ◌∷◌}
+use mathlib.Core.Bool.{Bool, true, false, cond}
+use mathlib.Core.List.{List}
 use native.Mathlib.Nat.{le_trans}
 use native.Mathlib.Omega.{arith}
-use lib.Dec.{ltb, eqb}
-use borrow.Author.Tests.{ltb-true, eqb-true}
-use Rattle.tariff.proofs.Tests.{and_both}
+use lib.Dec.{eqb}
+use borrow.Author.Tests.{eqb-true}
 use Rattle.tariff.proofs.Limits.{limit_le_load}
 use Rattle.tariff.specs.Terms.{term_of}
 use Rattle.ledger.specs.Opening.{Opening, legal, base}
-use Rattle.ledger.specs.Ledger.{Ledger}
 use Rattle.ledger.specs.Call.{Call, Query, limit_of, held_on, net_on}
 use Rattle.ledger.specs.Causes.{refusal, limit_causes, query_causes, query_refusal}
 use Rattle.ledger.specs.Limits.{limit_sums, tier_limit}

@@ -9,9 +9,7 @@ use crate::answers::write_answer;
 use crate::run_groups::run_groups;
 use book_group::book_group::open_from_script;
 use lines::text::{BYTES_PER_LINE, MAX_BYTES, MAX_LINES, count_lines};
-use records::answers::of_call;
 use records::refusal::Refusal;
-use records::setup::OPENING_COUNT;
 
 // The refusal of a whole run is given in these units, so that a length fits below.
 pub const REFUSAL_UNIT: u64 = 1_000_000;
@@ -20,7 +18,7 @@ const SCRIPT_TOO_LONG_RESULT: u64 = Refusal::Unreadable as u64 * REFUSAL_UNIT;
 
 const OUTPUT_TOO_SHORT_RESULT: u64 = Refusal::OutputTooShort as u64 * REFUSAL_UNIT;
 
-// Answers a script that is neither too long for a run nor too long for the buffer; says how many bytes were written.
+// Answers a script that is neither too long for a run nor too long for the buffer; says how many bytes were written. A refused book group ends the run.
 fn answer_script(script: &[u8], out: &mut [u8]) -> usize
     requires some { 1 ≤ length script.now }
     requires short { length script.now ≤ max_bytes }
@@ -29,13 +27,14 @@ fn answer_script(script: &[u8], out: &mut [u8]) -> usize
     ensures end { result ≡ length (answers_text script.now) }
     ensures written { out.new ≡ written_at out.old 0 (answers_text script.now) }
 {
-    let mut o = [0u64; OPENING_COUNT];
-    let group = open_from_script(script, &mut o);
-    let written = write_answer(out, 0, of_call(group.answer));
-    if !group.opens() {
-        return written;
+    let group = open_from_script(script);
+    match group.opened {
+        Err(refusal) => write_answer(out, 0, Err(refusal)),
+        Ok(opening) => {
+            let written = write_answer(out, 0, Ok(None));
+            run_groups(script, group.consumed, &opening, out, written)
+        }
     }
-    run_groups(script, group.consumed, &o, out, written)
 }
 
 // Runs a script: the refusal, 0 for a run, times 1,000,000, plus the written length. Nothing is asked of the two slices.

@@ -10,11 +10,18 @@ ghost use Rattle.lines.specs.Text.{max_lines, max_bytes, bytes_per_line};
 
 use crate::answers::write_answer;
 use heads::heads::run_group;
+use records::setup::KeptOpening;
 use slots::layout::{FIGURE_COUNT, POSTED_COUNT};
 
 // Puts what is left of a script to the book that was opened and writes the answers from a place on; says where they end.
 // The book's arrays stay here and are lent to each group, so that nothing of the book is copied for a line.
-pub fn run_groups(script: &[u8], from: usize, o: &[u64], out: &mut [u8], start: usize) -> usize
+pub fn run_groups(
+    script: &[u8],
+    from: usize,
+    o: &KeptOpening,
+    out: &mut [u8],
+    start: usize,
+) -> usize
     requires reachable { Reachable (book_of o.now empty_ledger) }
     requires in_script { from ≤ length script.now }
     requires short { length script.now ≤ max_bytes }

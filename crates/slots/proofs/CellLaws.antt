@@ -166,11 +166,7 @@ pub cell_small : (width h p slot : ℕ) → width ≤ figure_slots → HasCell w
 unfolding cell_of
 cell_small width h p slot w c = let l = cell_below width h p slot c in omega arith
 
--- an addition leaves the array's length, and the other slots of its row
-pub added_long : (width : ℕ) (cells : List ℕ) (h p slot kw : ℕ) → length (added_at width cells h p slot kw) ≡ length cells
-unfolding added_at stored_at
-added_long width cells h p slot kw = length-set cells (cell_of width h p slot) _
-
+-- an addition leaves the other slots of its row
 pub read_added : (width : ℕ) (cells : List ℕ) (h p slot kw other : ℕ) → HasCell width h p slot → HasCell width h p other → (other ≡ slot → ⊥) → read_at width 0 (added_at width cells h p slot kw) h p other ≡ read_at width 0 cells h p other
 unfolding added_at stored_at read_at
 read_added width cells h p slot kw other there here ne = get_or-set_other cells (cell_of width h p slot) (cell_of width h p other) _ 0 (λ e. ne (sym (slot_at width h p other here) ∙ ap (λ k. k % width) e ∙ slot_at width h p slot there))

@@ -9,6 +9,7 @@ use native.Mathlib.Omega.{arith}
 use lib.ListN.{take, drop}
 use lib.Dec.{ltb, eqb}
 use borrow.Author.Tests.{eq-eqb, ltb-true}
+use Rattle.records.specs.declared.setup.KeptOpening.{KeptOpening}
 use Rattle.source_evidence.specs.declared.evidence.Entry.{Entry}
 use Rattle.tariff.specs.Sum.{when_true, sum_to}
 use Rattle.tariff.specs.Sizes.{terms, evidence_kinds, ownership, contract}
@@ -33,7 +34,7 @@ use Rattle.slots.specs.Steps.{Reachable}
 use Rattle.slots.proofs.CoverageLaws.{coverage_le}
 use Rattle.slots.proofs.GroupLaws.{in_group_lem}
 use Rattle.slots.proofs.StoreLaws.{slot_shown}
-use Rattle.slots.proofs.Reachable.{bases_known, counts, fits, figures_shown, figures_long}
+use Rattle.slots.proofs.Reachable.{bases_known, counts, fits, figures_shown}
 
 -- every figure of groups at a holder and a place is within a bound ..
 abbrev pub EachWithin : ℕ → List (SlotGroup ℕ) → (h p : ℕ) → Type 0
@@ -76,7 +77,7 @@ module _ (f : List ℕ) (from count h p k : ℕ) (a : h < 8) (b : p < 16) where
   pub from_zero : k < count → read_at figure_slots 0 f h p (from + k) ≡ figure_in f from count 0 h p k
   from_zero below = ap (λ n. read_at figure_slots 0 f h p (from + n)) (sym (sub-zero k)) ∙ by_number 0 zero-le (omega arith)
 
-module _ (o f : List ℕ) (m : List Bool) (x : List Entry) (r : Reachable o f m x) where
+module _ (o : KeptOpening) (f : List ℕ) (m : List Bool) (x : List Entry) (r : Reachable o f m x) where
   abbrev L : Ledger
   L = ledger_in f m x
 
@@ -168,7 +169,6 @@ module _ (o f : List ℕ) (m : List Bool) (x : List Entry) (r : Reachable o f m 
       record {
         bases = bases_known o f m x r;
         few = (counts o f m x r).3;
-        long = figures_long o f m x r;
         holder = le_trans l (counts o f m x r).0;
         in_row = in_row;
         each = λ p k. figure_fits h p slot l k in_row;

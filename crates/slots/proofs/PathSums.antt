@@ -5,6 +5,7 @@ use mathlib.Core.Bool.{Bool}
 use mathlib.Core.List.{List}
 use native.Mathlib.Nat.{le_trans, le_of_eq}
 use native.Mathlib.Omega.{arith}
+use Rattle.records.specs.declared.setup.KeptOpening.{KeptOpening}
 use Rattle.tariff.specs.Sum.{when_true, sum_to}
 use Rattle.tariff.proofs.Sums.{when_le}
 use Rattle.ledger.specs.Opening.{has_base, has_source}
@@ -20,7 +21,7 @@ module _ (test : ℕ → Bool) (f : ℕ → ℕ) (n most : ℕ) (few : n ≤ 16)
   pub counted_fits : sum_to n (λ p. when_true (test p) (f p)) ≤ 16 * most
   counted_fits = paths_fit (λ p. when_true (test p) (f p)) n most few (λ p l. le_trans (when_le (test p) (f p)) (each p l))
 
-module _ (o f : List ℕ) (h slot place : ℕ) (s : Summable o f h slot) where
+module _ (o : KeptOpening) (f : List ℕ) (h slot place : ℕ) (s : Summable o f h slot) where
   -- the whole sums
   pub base_sum_fits : sum_at_base (opening_in o) place (on_path f h slot) ≤ 16 * max_figure
   unfolding sum_at_base
@@ -30,7 +31,7 @@ module _ (o f : List ℕ) (h slot place : ℕ) (s : Summable o f h slot) where
   unfolding sum_from_source
   source_sum_fits = counted_fits (has_source (opening_in o) place) (on_path f h slot) (opening_in o).paths max_figure s.few s.each
 
-module _ (o f : List ℕ) (h slot : ℕ) (s : Summable o f h slot) (p n : ℕ) (e : n ≡ (opening_in o).paths) (l : p < n) where
+module _ (o : KeptOpening) (f : List ℕ) (h slot : ℕ) (s : Summable o f h slot) (p n : ℕ) (e : n ≡ (opening_in o).paths) (l : p < n) where
   -- the cell on a path
   pub path_cell : HasCell figure_slots h p slot
   path_cell = record { holder = s.holder; place = let a = s.few in omega arith; in_row = s.in_row }

@@ -7,6 +7,7 @@ use native.Mathlib.Nat.{le_trans}
 use native.Mathlib.Omega.{arith}
 use lib.Dec.{ltb, leb, eqb}
 use borrow.Author.Tests.{ltb-true, eqb-true}
+use Rattle.records.specs.declared.setup.KeptOpening.{KeptOpening}
 use Rattle.source_evidence.specs.declared.evidence.Entry.{Entry}
 use Rattle.tariff.proofs.Tests.{and_both, all_below_lem}
 use Rattle.ledger.specs.Opening.{Opening, sink_kind, base, path_source, path_sink, path_base, parent_legal, sink_legal, path_legal, legal}
@@ -30,7 +31,7 @@ legal_base o ok s l =
     go true e = let below = ltb-true (base o s) s (and_both _ _ e).0 in omega arith
     go false e = let same = eqb-true (base o s) s e in omega arith
 
-module _ (o f : List ℕ) (m : List Bool) (x : List Entry) (r : Reachable o f m x) where
+module _ (o : KeptOpening) (f : List ℕ) (m : List Bool) (x : List Entry) (r : Reachable o f m x) where
   pub base_place : (s : ℕ) → s < (opening_in o).sinks → base (opening_in o) s < 16
   base_place s l = le_trans (known o f m x r (λ O L. (s : ℕ) → s < O.sinks → base O s < O.sinks) (λ O ok cs. legal_base O ok) s l) (counts o f m x r).2
 

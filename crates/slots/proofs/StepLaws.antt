@@ -5,6 +5,7 @@ use mathlib.Core.Bool.{Bool, true, false, cond}
 use mathlib.Core.List.{List}
 use native.Mathlib.Omega.{arith}
 use borrow.Author.Tests.{eq-eqb, ne_eqb}
+use Rattle.records.specs.declared.setup.KeptOpening.{KeptOpening}
 use Rattle.std.specs.Prelude.{Result, Ok, Err}
 use Rattle.source_evidence.specs.declared.evidence.Entry.{Entry}
 use Rattle.ledger.specs.Opening.{Opening}
@@ -52,7 +53,7 @@ err_of : (r : Refusal) (number : ℕ) → number_of r ≡ number → ◌≡◌ {
 err_of r number found = ap Err (sym (refusal_back r) ∙ ap refusal_of found)
 
 -- a refused call leaves the arrays as they were
-pub steps_refused : (o f : List ℕ) (m : List Bool) (x : List Entry) (c : Call) (r : Refusal) → number_of r ≡ refusal (opening_in o) (ledger_in f m x) c → Reachable o f m x → Steps (opening_in o) (ledger_in f m x) c (Err r) f m x
+pub steps_refused : (o : KeptOpening) (f : List ℕ) (m : List Bool) (x : List Entry) (c : Call) (r : Refusal) → number_of r ≡ refusal (opening_in o) (ledger_in f m x) c → Reachable o f m x → Steps (opening_in o) (ledger_in f m x) c (Err r) f m x
 unfolding season.answer called
 steps_refused o f m x c r found reach =
     record {

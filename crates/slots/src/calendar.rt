@@ -4,14 +4,14 @@ ghost use Rattle.slots.specs.Layout.{calendar_in, current_tier_in};
 
 use crate::layout::{CURRENT_TIER_AT, LAST_CLOSED_AT, STEP_HELD_AT};
 use records::calendar::Calendar;
-use records::lists::number_at;
+use records::lists::entry_at;
 
 // The open tier, 0 for none.
 #[tactic(auto, unfolding(crate::specs::Layout::current_tier_in))]
 pub fn current_tier(f: &[u64]) -> u64
     ensures { result ≡ current_tier_in f.now }
 {
-    number_at(f, CURRENT_TIER_AT)
+    entry_at(f, CURRENT_TIER_AT, 0)
 }
 
 // How far the tiers of the book have come.
@@ -20,8 +20,8 @@ pub fn calendar(f: &[u64]) -> Calendar
     ensures { result ≡ calendar_in f.now }
 {
     Calendar {
-        last_closed: number_at(f, LAST_CLOSED_AT),
+        last_closed: entry_at(f, LAST_CLOSED_AT, 0),
         current_tier: current_tier(f),
-        step_held: number_at(f, STEP_HELD_AT) == 1,
+        step_held: entry_at(f, STEP_HELD_AT, 0) == 1,
     }
 }

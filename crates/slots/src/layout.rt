@@ -41,6 +41,8 @@ pub const STEP_HELD_AT: usize = CURRENT_TIER_AT + 1;
 
 pub const FIGURE_COUNT: usize = STEP_HELD_AT + 1;
 
+pub type Figures = [u64; FIGURE_COUNT];
+
 // What was posted: load by term, carry, prior, evidence by kind.
 pub const LOAD_POSTED_SLOT: u64 = 0;
 
@@ -53,6 +55,8 @@ pub const EVIDENCE_POSTED_SLOT: u64 = PRIOR_POSTED_SLOT + 1;
 pub const POSTED_SLOTS: u64 = EVIDENCE_POSTED_SLOT + EVIDENCE_KINDS;
 
 pub const POSTED_COUNT: usize = (ROWS * POSTED_SLOTS) as usize;
+
+pub type Postings = [bool; POSTED_COUNT];
 
 // Evidence filed, by kind.
 pub const EVIDENCE_SLOTS: u64 = EVIDENCE_KINDS;

@@ -4,11 +4,12 @@ ghost use Rattle.tariff.specs.Sizes.{last_month};
 ghost use Rattle.slots.specs.Months.{added_in_term, HasRoom};
 
 use crate::cells::add;
+use crate::layout::Figures;
 use records::sums::when_true;
 use tariff::terms::has_month;
 
 // kw more for a holder at a path in each month of a term; the slots of the three months begin at `from`.
-pub fn add_in_term(f: &mut [u64], h: u64, p: u64, from: u64, term: u64, kw: u64)
+pub fn add_in_term(f: &mut Figures, h: u64, p: u64, from: u64, term: u64, kw: u64)
     requires { HasRoom f.old h p from (from + last_month) kw }
     ensures { f.new ≡ added_in_term f.old h p from term kw }
 {

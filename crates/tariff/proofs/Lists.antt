@@ -52,8 +52,12 @@ module _ {A : Type 0} where
   any_tabulate (suc n) f test = any_append (tabulate n f) (f n) test ∙ ap (λ b. b || test (f n)) (any_tabulate n f test)
 
 -- a list with these entries is the list of them
+pub entries_are : {A : Type 0} (none : A) (n : ℕ) (f : ℕ → A) (xs : List A) → length xs ≡ n → ((k : ℕ) → k < n → get_or xs k none ≡ f k) → xs ≡ tabulate n f
+entries_are none n f xs e at = ext_get_or none xs (tabulate n f) (e ∙ sym (length_tabulate n f)) (λ k l. let b : k < n = omega arith in at k b ∙ sym (at_tabulate n f none k b))
+
+-- the same of numbers
 pub list_is : (n : ℕ) (f : ℕ → ℕ) (xs : List ℕ) → length xs ≡ n → ((k : ℕ) → k < n → get_or xs k 0 ≡ f k) → xs ≡ tabulate n f
-list_is n f xs e at = ext_get_or 0 xs (tabulate n f) (e ∙ sym (length_tabulate n f)) (λ k l. let b : k < n = omega arith in at k b ∙ sym (at_tabulate n f 0 k b))
+list_is = entries_are 0
 
 -- whether some line passes a test, as std has it
 pub any_is : {A : Type 0} (test : A → Bool) (xs : List A) → any_of xs test ≡ list_any test xs

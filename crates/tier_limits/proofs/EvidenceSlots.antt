@@ -5,7 +5,7 @@ use mathlib.Core.Bool.{Bool}
 use mathlib.Core.List.{List}
 use native.Mathlib.Nat.{le_trans}
 use native.Mathlib.Omega.{arith}
-use lib.ListN.{length}
+use Rattle.records.specs.declared.setup.KeptOpening.{KeptOpening}
 use Rattle.tariff.specs.Sizes.{terms, ownership, contract}
 use Rattle.source_evidence.specs.declared.evidence.Entry.{Entry}
 use Rattle.source_evidence.specs.Evidence.{counts_for, entry_kw}
@@ -14,14 +14,14 @@ use Rattle.ledger.specs.Ledger.{Ledger}
 use Rattle.records.specs.Opening.{opening_in}
 use Rattle.slots.specs.Cells.{HasCell, read_at}
 use Rattle.slots.specs.Coverage.{coverage, covered_kw, is_covered}
-use Rattle.slots.specs.Layout.{ownership_slot, contract_slot, figure_slots, figure_count, current_tier_in, ledger_in}
+use Rattle.slots.specs.Layout.{ownership_slot, contract_slot, figure_slots, current_tier_in, ledger_in}
 use Rattle.slots.specs.Steps.{Reachable}
-use Rattle.slots.proofs.Reachable.{counts, figures_long}
+use Rattle.slots.proofs.Reachable.{counts}
 use Rattle.slots.proofs.CoverageLaws.{kw_back, counts_back}
 use Rattle.slots.proofs.Figures.{ownership_read, contract_read}
 use Rattle.tier_limits.proofs.LimitLaws.{open_last_lem, term_below}
 
-module _ (o f : List ℕ) (m : List Bool) (x : List Entry) (r : Reachable o f m x) where
+module _ (o : KeptOpening) (f : List ℕ) (m : List Bool) (x : List Entry) (r : Reachable o f m x) where
   abbrev L : Ledger
   L = ledger_in f m x
 
@@ -33,8 +33,8 @@ module _ (o f : List ℕ) (m : List Bool) (x : List Entry) (r : Reachable o f m 
     holder : h < 8
     holder = le_trans l (counts o f m x r).0
 
-    pub source_cell : (slot : ℕ) → slot < figure_slots → HasCell figure_slots h s slot × (length f ≡ figure_count)
-    source_cell slot k = (record { holder = holder; place = place; in_row = k }, figures_long o f m x r)
+    pub source_cell : (slot : ℕ) → slot < figure_slots → HasCell figure_slots h s slot
+    source_cell slot k = record { holder = holder; place = place; in_row = k }
 
     -- the four slots of ownership and after them those of the contract, by term
     owned-is : (term : ℕ) → term < terms → read_at figure_slots 0 f h s (ownership_slot + term) ≡ coverage term (L.evidence.entry h s ownership)

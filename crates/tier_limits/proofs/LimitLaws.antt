@@ -5,9 +5,9 @@ use mathlib.Core.Bool.{Bool, true, false, cond}
 use mathlib.Core.List.{List}
 use native.Mathlib.Nat.{le_trans, le_of_eq}
 use native.Mathlib.Omega.{arith}
-use lib.ListN.{length}
 use lib.Dec.{leb, eqb}
 use borrow.Author.Tests.{leb-true, leb-false, eqb-false}
+use Rattle.records.specs.declared.setup.KeptOpening.{KeptOpening}
 use Rattle.std.specs.Prelude.{Ok}
 use Rattle.tariff.specs.Sizes.{last_month, last_term, terms, long_term_step}
 use Rattle.source_evidence.specs.declared.evidence.Entry.{Entry}
@@ -29,10 +29,10 @@ use Rattle.ledger.specs.Season.{query_value}
 use Rattle.ledger.proofs.Unmet.{unmet}
 use Rattle.records.specs.Opening.{opening_in}
 use Rattle.slots.specs.Cells.{HasCell, read_at}
-use Rattle.slots.specs.Layout.{load_slot, prior_allocated_slot, carried_slot, awards_slot, tier_slots, figure_slots, figure_count, current_tier_in, ledger_in}
+use Rattle.slots.specs.Layout.{load_slot, prior_allocated_slot, carried_slot, awards_slot, tier_slots, figure_slots, current_tier_in, ledger_in}
 use Rattle.slots.specs.Sums.{on_path}
 use Rattle.slots.specs.Steps.{Reachable, ReachableFigures, InFigures, query_answer}
-use Rattle.slots.proofs.Reachable.{counts, sound, figures_long}
+use Rattle.slots.proofs.Reachable.{counts, sound}
 use Rattle.slots.proofs.Figures.{by_number, from_zero, summable}
 use Rattle.slots.proofs.Places.{base_place}
 use Rattle.slots.proofs.StepLaws.{query_answered}
@@ -41,7 +41,7 @@ use Rattle.tier_limits.specs.Inputs.{LimitInputs}
 use Rattle.tier_limits.specs.PathSums.{slot_to, sums_to, PathsSummable}
 
 -- the open tier is none past the Long Term step
-pub open_last_lem : (o f : List ℕ) (m : List Bool) (x : List Entry) → Reachable o f m x → (tier : ℕ) → tier ≡ current_tier_in f → tier ≤ long_term_step
+pub open_last_lem : (o : KeptOpening) (f : List ℕ) (m : List Bool) (x : List Entry) → Reachable o f m x → (tier : ℕ) → tier ≡ current_tier_in f → tier ≤ long_term_step
 unfolding ledger_in
 open_last_lem o f m x r tier e = le_trans (le_of_eq e) (sound o f m x r).open_last
 
@@ -59,7 +59,7 @@ carried_range term l = go (eqb term 0) refl
     go true e = (omega arith, omega arith)
     go false e = let some = eqb-false term 0 e in (omega (arith, some), omega arith)
 
-module _ (o f : List ℕ) (tier h base month last : ℕ) (rule : TierRule) (inputs : LimitInputs o f tier h base) (of_tier : rule ≡ rule_of tier) where
+module _ (o : KeptOpening) (f : List ℕ) (tier h base month last : ℕ) (rule : TierRule) (inputs : LimitInputs o f tier h base) (of_tier : rule ≡ rule_of tier) where
   abbrev O : opening.Opening
   O = opening_in o
 
@@ -74,8 +74,8 @@ module _ (o f : List ℕ) (tier h base month last : ℕ) (rule : TierRule) (inpu
   few = (counts o f _ _ inputs.figures.reachable).0
 
   -- the cell of the load
-  pub load_cell : HasCell figure_slots h base (load_slot + rule.term) × (length f ≡ figure_count)
-  load_cell = (record { holder = le_trans inputs.holder few; place = inputs.place; in_row = let t = term_fits in omega arith }, figures_long o f _ _ inputs.figures.reachable)
+  pub load_cell : HasCell figure_slots h base (load_slot + rule.term)
+  load_cell = record { holder = le_trans inputs.holder few; place = inputs.place; in_row = let t = term_fits in omega arith }
 
   -- the month of the carried rights
   pub month_range : month ≡ carried_month rule.term → (1 ≤ month) × (month ≤ last_month)
@@ -132,7 +132,7 @@ query_facts : (o : opening.Opening) (L : Ledger) (h s : ℕ) → query_refusal o
 unfolding query_refusal query_causes limit_causes unknown_holder unknown_sink
 query_facts o L h s e = let known = or_unmet _ _ (unmet 1 _ _ e).0 in (leb-false _ _ known.0, leb-false _ _ known.1)
 
-module _ (o f : List ℕ) (h s tier base : ℕ) (unmet : InFigures o f (λ O L. 0 ≡ query_refusal O L (limit_of h s))) (now : tier ≡ current_tier_in f) (there : base ≡ opening.base (opening_in o) s) where
+module _ (o : KeptOpening) (f : List ℕ) (h s tier base : ℕ) (unmet : InFigures o f (λ O L. 0 ≡ query_refusal O L (limit_of h s))) (now : tier ≡ current_tier_in f) (there : base ≡ opening.base (opening_in o) s) where
   -- its limit can be asked for
   pub query_inputs : ReachableFigures o f → LimitInputs o f tier h base
   query_inputs k =

@@ -1,12 +1,13 @@
 -- The sums of a limit, path by path: what one path more leaves, and what the sums after all paths are. Assumes nothing.
-use Prim.Native.Nat.{ℕ, ◌+◌, ◌*◌, ◌^◌, ◌≤◌, ◌<◌}
-use mathlib.Core.Path.{◌≡◌, refl, sym, ap, ◌∙◌, subst}
+use Prim.Native.Nat.{ℕ, ◌+◌, ◌*◌, ◌≤◌, ◌<◌}
+use mathlib.Core.Path.{◌≡◌, refl, sym, ◌∙◌, subst}
 use mathlib.Core.Bool.{Bool, true, false, not}
 use mathlib.Core.List.{List}
 use native.Mathlib.Nat.{le_trans}
 use native.Mathlib.Omega.{arith}
 use lib.Dec.{eqb}
 use borrow.Author.Tests.{not-true, not-false}
+use Rattle.records.specs.declared.setup.KeptOpening.{KeptOpening}
 use Rattle.tier_limits.specs.declared.limits.PathSums.{PathSums}
 use Rattle.tier_limits.specs.declared.limits.TierSlots.{TierSlots}
 use Rattle.tariff.specs.Sum.{when_true, sum_to}
@@ -54,12 +55,8 @@ module _ (f : List ℕ) (h p : ℕ) (slots : TierSlots) (s : PathSums) where
       more : (sum v w : ℕ) → v ≡ w → sum + v ≡ sum + when_true counts w
       more sum v w q = let all-of-it = when_is_true w (not-false counts some) in omega arith
 
--- a figure of a path has room beside a sum
-pub has_room : (sum v w : ℕ) → sum ≤ 16 * max_figure → v ≡ w → w ≤ max_figure → sum + v < 2 ^ 64
-has_room sum v w a e b = omega arith
-
 module _ (O : Opening) (f : List ℕ) (h base : ℕ) (slots : TierSlots) where
-  -- the sums that a loop forms: nothing yet, one path more, all
+  -- the sums that a loop forms: nothing yet, one path more
   pub sums_none : ◌≡◌ {A = PathSums} (record { carried = 0; prior = 0; tier1 = 0; tier2 = 0; tier3 = 0; before = 0 }) (sums_to O f h base slots 0)
   unfolding sums_to slot_to sum_to
   sums_none = refl
@@ -85,10 +82,7 @@ module _ (O : Opening) (f : List ℕ) (h base : ℕ) (slots : TierSlots) where
   unfolding has_base
   sums_more p there sums next e t s = e ∙ (λ i. with_path f h p slots (eqb (t i) base) (s i)) ∙ one_more p
 
-  pub sums_whole : (p n : ℕ) (sums : PathSums) → p ≤ n → n ≤ p → sums ≡ sums_to O f h base slots p → sums ≡ sums_to O f h base slots n
-  sums_whole p n sums below above e = e ∙ ap (sums_to O f h base slots) (let same : p ≡ n = omega arith in same)
-
-module _ (o f : List ℕ) (h base : ℕ) (slots : TierSlots) (all : PathsSummable o f h slots) where
+module _ (o : KeptOpening) (f : List ℕ) (h base : ℕ) (slots : TierSlots) (all : PathsSummable o f h slots) where
   abbrev O : Opening
   O = opening_in o
 
@@ -116,7 +110,6 @@ module _ (o f : List ℕ) (h base : ℕ) (slots : TierSlots) (all : PathsSummabl
       let s = all.each 0 (omega arith) in
       let there : p < O.paths = omega arith in
       record {
-        long = s.long;
         holder = s.holder;
         place = le_trans there s.few;
         carried_in_row = all.carried_in_row;

@@ -7,6 +7,7 @@ use native.Mathlib.Nat.{le_trans, mul-le-mul_right}
 use native.Mathlib.Omega.{arith}
 use lib.Dec.{eqb}
 use borrow.Author.Tests.{eq-eqb, ne_eqb}
+use Rattle.records.specs.declared.setup.KeptOpening.{KeptOpening}
 use Rattle.source_evidence.specs.declared.evidence.Entry.{Entry}
 use Rattle.tariff.specs.Sizes.{ownership, contract}
 use Rattle.tariff.specs.Sum.{when_true, sum_to}
@@ -26,7 +27,7 @@ use Rattle.slots.proofs.ReadBack.{flag_back}
 use Rattle.slots.proofs.Figures.{ten_year_read, evidence_fits_lem}
 use Rattle.tier_limits.proofs.EvidenceSlots.{owned_kw, contracted_kw}
 
-module _ (o f : List ℕ) (m : List Bool) (x : List Entry) (r : Reachable o f m x) (h s : ℕ) (l : h < (opening_in o).holders) (place : s < 16) where
+module _ (o : KeptOpening) (f : List ℕ) (m : List Bool) (x : List Entry) (r : Reachable o f m x) (h s : ℕ) (l : h < (opening_in o).holders) (place : s < 16) where
   abbrev L : Ledger
   L = ledger_in f m x
 
@@ -60,7 +61,7 @@ module _ (o f : List ℕ) (m : List Bool) (x : List Entry) (r : Reachable o f m 
   unfolding ten_year_at
   at_fits = let a = kw-fits ownership in let b = kw-fits contract in omega arith
 
-module _ (o f : List ℕ) (m : List Bool) (x : List Entry) (r : Reachable o f m x) (h : ℕ) (l : h < (opening_in o).holders) where
+module _ (o : KeptOpening) (f : List ℕ) (m : List Bool) (x : List Entry) (r : Reachable o f m x) (h : ℕ) (l : h < (opening_in o).holders) where
   -- what it comes to over the first sources has room for the next
   pub sources_room : (s n sum more : ℕ) → n ≡ (opening_in o).sources → s < n → sum ≡ sum_to s (ten_year_at (ledger_in f m x) h) → more ≡ ten_year_at (ledger_in f m x) h s → sum + more < 2 ^ 64
   sources_room s n sum more all k e g =

@@ -1,11 +1,12 @@
 -- The sums of a limit, added up path by path (01, Limits).
-use Rattle.std.specs.Prelude.{ℕ, ◌+◌, ◌*◌, ◌≤◌, ◌<◌, ◌≡◌, Bool, List, length}
+use Rattle.records.specs.declared.setup.KeptOpening.{KeptOpening}
+use Rattle.std.specs.Prelude.{ℕ, ◌+◌, ◌*◌, ◌≤◌, ◌<◌, Bool, List}
 use Rattle.tier_limits.specs.declared.limits.PathSums.{PathSums}
 use Rattle.tier_limits.specs.declared.limits.TierSlots.{TierSlots}
 use Rattle.tariff.specs.Sum.{when_true, sum_to}
 use Rattle.ledger.specs.Opening.{Opening, has_base}
 use Rattle.slots.specs.Cells.{max_holders, max_places}
-use Rattle.slots.specs.Layout.{figure_slots, figure_count, prior_allocated_slot, awards_slot}
+use Rattle.slots.specs.Layout.{figure_slots, prior_allocated_slot, awards_slot}
 use Rattle.slots.specs.Sums.{on_path, max_figure, Summable}
 
 -- Last year's allocation and the awards of tiers 1 to 3 have the same slots in every tier. Two more depend on the tier: that of the carried holding, by
@@ -40,7 +41,7 @@ sums_to O f h base slots n =
     }
 
 -- the figures of all paths can be summed, and the two slots are there
-pub record PathsSummable (o f : List ℕ) (h : ℕ) (slots : TierSlots) : Type 0 where
+pub record PathsSummable (o : KeptOpening) (f : List ℕ) (h : ℕ) (slots : TierSlots) : Type 0 where
   pub each : (slot : ℕ) → slot < figure_slots → Summable o f h slot
   pub carried_in_row : slots.carried < figure_slots
   pub before_in_row : slots.before < figure_slots
@@ -56,7 +57,6 @@ pub record SumsFit (s : PathSums) : Type 0 where
 
 -- a path's figures are there and small, and so are the sums that they are added to
 pub record PathSummable (f : List ℕ) (h p : ℕ) (slots : TierSlots) (s : PathSums) : Type 0 where
-  pub long : length f ≡ figure_count
   pub holder : h < max_holders
   pub place : p < max_places
   pub carried_in_row : slots.carried < figure_slots

@@ -11,12 +11,10 @@ ghost use Rattle.tier_limits.specs.PathSums.{sums_to, PathsSummable};
 
 use crate::ten_year::ten_year_in;
 use records::refusal::Refusal;
-use records::setup::{
-    is_obaalse, legal_settings, path_base, paths, sink_base, unknown_holder, unknown_sink,
-};
+use records::setup::KeptOpening;
 use slots::calendar::{calendar, current_tier};
 use slots::cells::read;
-use slots::layout::{AWARDS_SLOT, CARRIED_SLOT, LOAD_SLOT, PRIOR_ALLOCATED_SLOT};
+use slots::layout::{AWARDS_SLOT, CARRIED_SLOT, Figures, LOAD_SLOT, PRIOR_ALLOCATED_SLOT};
 use tariff::limit::{Sums, tier_rule};
 use tariff::terms::carried_month;
 
@@ -42,7 +40,7 @@ impl PathSums {
     ghost use Rattle.tier_limits.specs.PathSums.{with_path, PathSummable};
 
     // The sums with the figures of one path more, where it counts.
-    fn with_path(self, f: &[u64], h: u64, p: u64, slots: TierSlots, counts: bool) -> PathSums
+    fn with_path(self, f: &Figures, h: u64, p: u64, slots: TierSlots, counts: bool) -> PathSums
         requires { PathSummable f.now h p slots self }
         ensures { result ≡ with_path f.now h p slots counts self }
     {
@@ -61,11 +59,11 @@ impl PathSums {
 }
 
 // The sums over all paths whose sink has this base.
-fn sum_paths(o: &[u64], f: &[u64], h: u64, base: u64, slots: TierSlots) -> PathSums
+fn sum_paths(o: &KeptOpening, f: &Figures, h: u64, base: u64, slots: TierSlots) -> PathSums
     requires { PathsSummable o.now f.now h slots }
     ensures { result ≡ sums_to (opening_of o.entry) f.now h base slots (opening_of o.entry).paths }
 {
-    let past = paths(o);
+    let past = o.paths();
     let mut sums = PathSums {
         carried: 0,
         prior: 0,
@@ -75,14 +73,14 @@ fn sum_paths(o: &[u64], f: &[u64], h: u64, base: u64, slots: TierSlots) -> PathS
         before: 0,
     };
     for p in 0..past {
-        let counts = path_base(o, p) == base;
+        let counts = o.path_base(p) == base;
         sums = sums.with_path(f, h, p, slots, counts);
     }
     sums
 }
 
 // What a holder's limit at a base is made of in a tier.
-fn limit_sums(o: &[u64], f: &[u64], tier: u64, h: u64, base: u64) -> Sums
+fn limit_sums(o: &KeptOpening, f: &Figures, tier: u64, h: u64, base: u64) -> Sums
     requires { LimitInputs o.now f.now tier h base }
     ensures { InFigures o.now f.now (λ O L. result ≡ limit_sums O L tier h base) }
 {
@@ -97,7 +95,7 @@ fn limit_sums(o: &[u64], f: &[u64], tier: u64, h: u64, base: u64) -> Sums
     };
     let sums = sum_paths(o, f, h, base, slots);
     let ten_year_kw = ten_year_in(o, f, tier, h);
-    let obaalse = is_obaalse(o, h);
+    let obaalse = o.is_obaalse(h);
     Sums {
         load,
         carried: sums.carried,
@@ -112,20 +110,20 @@ fn limit_sums(o: &[u64], f: &[u64], tier: u64, h: u64, base: u64) -> Sums
 }
 
 // The limit on what a holder nominates at a base in a tier.
-pub fn tier_limit(o: &[u64], f: &[u64], tier: u64, h: u64, base: u64) -> u64
+pub fn tier_limit(o: &KeptOpening, f: &Figures, tier: u64, h: u64, base: u64) -> u64
     requires { LimitInputs o.now f.now tier h base }
     ensures { InFigures o.now f.now (λ O L. result ≡ tier_limit O L tier h base) }
 {
     let sums = limit_sums(o, f, tier, h, base);
-    legal_settings(o).limit_of_sums(tier, sums)
+    o.legal_settings().limit_of_sums(tier, sums)
 }
 
 // Whether a limit query meets no cause, else the first that it meets.
 #[tactic(auto, using(slots::proofs::CalendarLaws::open_as_ledger), unfolding(ledger::specs::Causes::query_refusal, ledger::specs::Causes::query_causes, ledger::specs::Causes::limit_causes, ledger::specs::Numbers::first_met))]
-fn check_limit(o: &[u64], f: &[u64], h: u64, s: u64) -> Result<(), Refusal>
+fn check_limit(o: &KeptOpening, f: &Figures, h: u64, s: u64) -> Result<(), Refusal>
     ensures { InFigures o.now f.now (λ O L. refused_by result ≡ query_refusal O L (limit_of h s)) }
 {
-    if unknown_holder(o, h) || unknown_sink(o, s) {
+    if o.unknown_holder(h) || o.unknown_sink(s) {
         return Err(Refusal::NotInBook);
     }
     if !calendar(f).tier_is_open() {
@@ -135,11 +133,11 @@ fn check_limit(o: &[u64], f: &[u64], h: u64, s: u64) -> Result<(), Refusal>
 }
 
 // A holder's limit at a sink's base in the open tier.
-pub fn limit(o: &[u64], f: &[u64], h: u64, s: u64) -> Result<u64, Refusal>
+pub fn limit(o: &KeptOpening, f: &Figures, h: u64, s: u64) -> Result<u64, Refusal>
     requires { ReachableFigures o.now f.now }
     ensures { InFigures o.now f.now (λ O L. result ≡ query_answer O L (limit_of h s)) }
 {
     check_limit(o, f, h, s)?;
-    let base = sink_base(o, s);
+    let base = o.sink_base(s);
     Ok(tier_limit(o, f, current_tier(f), h, base))
 }

@@ -6,15 +6,15 @@ ghost use Rattle.ledger.specs.TenYear.{has_ten_year, ten_year_at, ten_year_sum};
 ghost use Rattle.slots.specs.Steps.{InFigures};
 ghost use Rattle.tier_limits.specs.Inputs.{HolderInputs, SourceInputs};
 
-use records::setup::sources;
+use records::setup::KeptOpening;
 use records::sums::when_true;
 use slots::cells::read;
 use slots::coverage::covered_kw;
-use slots::layout::{COVERAGE_SLOT, TEN_YEAR_SLOT};
+use slots::layout::{COVERAGE_SLOT, Figures, TEN_YEAR_SLOT};
 use tariff::sizes::{LONG_TERM_STEP, TERMS};
 
 // Whether a holder has ten-year evidence at a source, of either kind.
-pub fn has_ten_year(o: &[u64], f: &[u64], h: u64, s: u64) -> bool
+pub fn has_ten_year(o: &KeptOpening, f: &Figures, h: u64, s: u64) -> bool
     requires { SourceInputs o.now f.now h s }
     ensures { InFigures o.now f.now (λ O L. result ≡ has_ten_year L h s) }
 {
@@ -22,7 +22,7 @@ pub fn has_ten_year(o: &[u64], f: &[u64], h: u64, s: u64) -> bool
 }
 
 // What a holder's ten-year evidence comes to at a source: ownership and contract add.
-fn ten_year_at(o: &[u64], f: &[u64], h: u64, s: u64) -> u64
+fn ten_year_at(o: &KeptOpening, f: &Figures, h: u64, s: u64) -> u64
     requires { SourceInputs o.now f.now h s }
     ensures { InFigures o.now f.now (λ O L. result ≡ ten_year_at L h s) }
 {
@@ -34,11 +34,11 @@ fn ten_year_at(o: &[u64], f: &[u64], h: u64, s: u64) -> u64
 }
 
 // What it comes to over every source of the book.
-fn ten_year_sum(o: &[u64], f: &[u64], h: u64) -> u64
+fn ten_year_sum(o: &KeptOpening, f: &Figures, h: u64) -> u64
     requires { HolderInputs o.now f.now h }
     ensures { InFigures o.now f.now (λ O L. result ≡ ten_year_sum O L h) }
 {
-    let past = sources(o);
+    let past = o.sources();
     let mut sum: u64 = 0;
     for s in 0..past {
         sum += ten_year_at(o, f, h, s);
@@ -47,7 +47,7 @@ fn ten_year_sum(o: &[u64], f: &[u64], h: u64) -> u64
 }
 
 // What a limit takes of it: all in the Long Term step, and nothing in another tier, where it is not summed.
-pub fn ten_year_in(o: &[u64], f: &[u64], tier: u64, h: u64) -> u64
+pub fn ten_year_in(o: &KeptOpening, f: &Figures, tier: u64, h: u64) -> u64
     requires { HolderInputs o.now f.now h }
     ensures { InFigures o.now f.now (λ O L. result ≡ when_true (is_long_term_step tier) (ten_year_sum O L h)) }
 {

@@ -6,7 +6,7 @@ use mathlib.Core.List.{List}
 use mathlib.Core.Logic.{◌⊎◌, inl, inr}
 use native.Mathlib.Numerals.{add-one}
 use native.Mathlib.Omega.{arith}
-use lib.ListN.{length, get_or, drop, length-set, length-drop}
+use lib.ListN.{length, get_or, drop, length-drop}
 use lib.Seq.{get_or-drop}
 use lib.Dec.{ltb, eqb}
 use borrow.Author.Tests.{ltb-true, ltb-false, lt-ltb, le-ltb, eqb-true, eqb-false}
@@ -24,8 +24,8 @@ pub column_holder : (f : List ℕ) (p slot i : ℕ) → i < 8 → holder_at (col
 unfolding holder_at column_at column_cells
 column_holder f p slot i l = at_tabulate 8 (in_column f p slot) 0 i l
 
-pub column_cell : (f : List ℕ) (p slot h : ℕ) → HasColumn f p slot → h < 8 → HasCell figure_slots h p slot
-column_cell f p slot h c l = record { holder = l; place = c.place; in_row = c.in_row }
+pub column_cell : (p slot h : ℕ) → HasColumn p slot → h < 8 → HasCell figure_slots h p slot
+column_cell p slot h c l = record { holder = l; place = c.place; in_row = c.in_row }
 
 -- one entry more of a column that is stored from the first on
 one_more : (s c l m : Bool) (v a f : ℕ) → (s ≡ true → v ≡ a) → (s ≡ true → m ≡ true) → (s ≡ false → l ≡ m) → cond (s && c) v (cond (l && c) a f) ≡ cond (m && c) a f
@@ -48,11 +48,6 @@ module _ (f : List ℕ) (p slot : ℕ) (column : List ℕ) where
   pub stored_more : (h : ℕ) (so_far next : List ℕ) (v : ℕ) → so_far ≡ column_stored f p slot column h → v ≡ get_or column h 0 → next ≡ stored_at figure_slots so_far h p slot v → next ≡ column_stored f p slot column (h + 1)
   unfolding column_stored holder_at
   stored_more h so_far next v e is made = made ∙ (λ i. stored_at figure_slots (e i) h p slot (is i)) ∙ ap (column_stored f p slot column) (sym (add-one h))
-
-  pub column_long : (n : ℕ) → length (column_stored f p slot column n) ≡ length f
-  unfolding column_stored stored_at
-  column_long zero = refl
-  column_long (suc n) = length-set (column_stored f p slot column n) _ (holder_at column n) ∙ column_long n
 
   -- the figures after the first n entries are stored
   column-so-far : (n : ℕ) (g : ℕ → ℕ → ℕ → ℕ) (rest : List ℕ) → n ≤ 8 → p < 16 → slot < figure_slots → Shows figure_slots 0 f g rest → Shows figure_slots 0 (column_stored f p slot column n) (λ h q s. cond (ltb h n && (eqb q p && eqb s slot)) (holder_at column h) (g h q s)) rest
@@ -82,10 +77,6 @@ self_shown f long =
       each = λ h p slot c. refl;
       tail = λ k. sym (get_or-drop last_closed_at f k 0);
     }
-
--- a transferred array is as long as it was
-pub transferred_long : (column : ℕ → ℕ → (ℕ → ℕ) → ℕ → ℕ) (f f' : List ℕ) → length f ≡ figure_count → ColumnTransfer column f f' → length f' ≡ figure_count
-transferred_long column f f' long t = let s = t (read_at figure_slots 0 f) (drop last_closed_at f) (self_shown f long) in let a = s.sized in let b = (self_shown f long).sized in omega arith
 
 -- and what stands in its columns is known
 pub transferred_read : (column : ℕ → ℕ → (ℕ → ℕ) → ℕ → ℕ) (f f' : List ℕ) → length f ≡ figure_count → ColumnTransfer column f f' → (h p slot : ℕ) → HasCell figure_slots h p slot → read_at figure_slots 0 f' h p slot ≡ column p slot (in_column f p slot) h

@@ -140,7 +140,7 @@ module _ (x : Transfer) (ok : LossesWithinLoads x) where
       nothing i j b = share_of_nothing (pair_at x.m) (holder_at x.load) v i j (none i b)
 
 -- a stored column, as a transfer of that column alone
-pub column_transferred : (f f' : List ℕ) (p slot : ℕ) (next : List ℕ) (column : (ℕ → ℕ) → ℕ → ℕ) → HasColumn f p slot → ((v w : ℕ → ℕ) (h : ℕ) → h < 8 → ((i : ℕ) → i < 8 → v i ≡ w i) → column v h ≡ column w h) → ((h : ℕ) → h < 8 → holder_at next h ≡ column (in_column f p slot) h) → f' ≡ column_stored f p slot next 8 → ColumnTransfer (column_where (λ q j. eqb q p && eqb j slot) column) f f'
+pub column_transferred : (f f' : List ℕ) (p slot : ℕ) (next : List ℕ) (column : (ℕ → ℕ) → ℕ → ℕ) → HasColumn p slot → ((v w : ℕ → ℕ) (h : ℕ) → h < 8 → ((i : ℕ) → i < 8 → v i ≡ w i) → column v h ≡ column w h) → ((h : ℕ) → h < 8 → holder_at next h ≡ column (in_column f p slot) h) → f' ≡ column_stored f p slot next 8 → ColumnTransfer (column_where (λ q j. eqb q p && eqb j slot) column) f f'
 unfolding column_where
 column_transferred f f' p slot next column there ext is made g rest s =
     rw made
@@ -153,13 +153,13 @@ column_transferred f f' p slot next column there ext is made g rest s =
         let both = and_both (eqb q p) (eqb z slot) t in
         let a = eqb-true q p both.0 in
         let b = eqb-true z slot both.1 in
-        ap (λ u. cond (eqb q p && eqb z slot) u (g h q z)) (is h l ∙ ext (in_column f p slot) (λ i. g i q z) h l (λ i k. s.each i p slot (column_cell f p slot i there k) ∙ (λ t. g i (sym a t) (sym b t))))
+        ap (λ u. cond (eqb q p && eqb z slot) u (g h q z)) (is h l ∙ ext (in_column f p slot) (λ i. g i q z) h l (λ i k. s.each i p slot (column_cell p slot i there k) ∙ (λ t. g i (sym a t) (sym b t))))
     go h q z l (inr t) =
         ap (λ u. cond u (holder_at next h) (g h q z)) t
         ∙ sym (ap (λ u. cond u (column (λ i. g i q z) h) (g h q z)) t)
 
 -- a column that holds nothing, left as it is
-pub column_left : (f : List ℕ) (p slot : ℕ) (x : Transfer) → HasColumn f p slot → LossesWithinLoads x → ((i : ℕ) → i < 8 → in_column f p slot i ≡ 0) → ColumnTransfer (column_where (λ q j. eqb q p && eqb j slot) (share_column x)) f f
+pub column_left : (f : List ℕ) (p slot : ℕ) (x : Transfer) → HasColumn p slot → LossesWithinLoads x → ((i : ℕ) → i < 8 → in_column f p slot i ≡ 0) → ColumnTransfer (column_where (λ q j. eqb q p && eqb j slot) (share_column x)) f f
 unfolding column_where
 column_left f p slot x there ok none g rest s =
     shows_agree figure_slots 0 g (λ h q z. cond (eqb q p && eqb z slot) (share_column x (λ i. g i q z) h) (g h q z)) f rest s (λ h q z c. go h q z c.holder (decided (eqb q p && eqb z slot)))
@@ -169,7 +169,7 @@ column_left f p slot x there ok none g rest s =
         let both = and_both (eqb q p) (eqb z slot) t in
         let a = eqb-true q p both.0 in
         let b = eqb-true z slot both.1 in
-        sym (nothing_shared x ok (λ i. g i q z) h l (λ i k. (λ t. g i (a t) (b t)) ∙ sym (s.each i p slot (column_cell f p slot i there k)) ∙ none i k))
+        sym (nothing_shared x ok (λ i. g i q z) h l (λ i k. (λ t. g i (a t) (b t)) ∙ sym (s.each i p slot (column_cell p slot i there k)) ∙ none i k))
         ∙ sym (ap (λ u. cond u (share_column x (λ i. g i q z) h) (g h q z)) t)
     go h q z l (inr t) = sym (ap (λ u. cond u (share_column x (λ i. g i q z) h) (g h q z)) t)
 

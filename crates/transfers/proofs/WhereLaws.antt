@@ -4,21 +4,17 @@ use mathlib.Core.Path.{◌≡◌, refl, sym, ap, ◌∙◌}
 use mathlib.Core.Bool.{Bool, true, false, cond, ◌||◌}
 use mathlib.Core.List.{List}
 use mathlib.Core.Logic.{◌⊎◌, inl, inr}
-use lib.ListN.{length}
 use Rattle.tariff.proofs.Tests.{decided}
-use Rattle.slots.specs.Layout.{figure_slots, figure_count}
+use Rattle.slots.specs.Layout.{figure_slots}
 use Rattle.slots.proofs.CellLaws.{shows_agree}
 use Rattle.transfers.specs.Columns.{ColumnTransfer}
 use Rattle.transfers.specs.Transfers.{column_where}
-use Rattle.transfers.proofs.ColumnLaws.{transferred_long, transferred_then}
+use Rattle.transfers.proofs.ColumnLaws.{transferred_then}
 
 module _ (column : (ℕ → ℕ) → ℕ → ℕ) where
   pub where_off : (test : ℕ → ℕ → Bool) (p slot : ℕ) (v : ℕ → ℕ) (h : ℕ) → test p slot ≡ false → column_where test column p slot v h ≡ v h
   unfolding column_where
   where_off test p slot v h e = ap (λ t. cond t (column v h) (v h)) e
-
-  pub where_long : (test : ℕ → ℕ → Bool) (f f' : List ℕ) → length f ≡ figure_count → ColumnTransfer (column_where test column) f f' → length f' ≡ figure_count
-  where_long test f f' long a = transferred_long (column_where test column) f f' long a
 
   -- nothing is transferred
   pub where_none : (test : ℕ → ℕ → Bool) (f : List ℕ) → ((p slot : ℕ) → test p slot ≡ false) → ColumnTransfer (column_where test column) f f

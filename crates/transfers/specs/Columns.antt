@@ -1,12 +1,11 @@
 -- Columns of the figures: what the eight holders have in one slot at one place.
-use Rattle.std.specs.Prelude.{ℕ, zero, suc, ◌<◌, ◌≡◌, List, length}
+use Rattle.std.specs.Prelude.{ℕ, zero, suc, ◌<◌, List}
 use Rattle.netting.specs.Netting.{holder_at, column_cells}
 use Rattle.slots.specs.Cells.{max_places, read_at, stored_at, Shows}
-use Rattle.slots.specs.Layout.{figure_slots, figure_count}
+use Rattle.slots.specs.Layout.{figure_slots}
 
--- figures, and a place and a slot that have a column
-pub record HasColumn (f : List ℕ) (p slot : ℕ) : Type 0 where
-  pub long : length f ≡ figure_count
+-- a place and a slot that have a column
+pub record HasColumn (p slot : ℕ) : Type 0 where
   pub place : p < max_places
   pub in_row : slot < figure_slots
 

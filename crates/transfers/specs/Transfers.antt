@@ -1,5 +1,6 @@
 -- What a migration transfers, and which columns of the figures take part (01, Migration).
-use Rattle.std.specs.Prelude.{ℕ, ◌+◌, ◌-◌, ◌*◌, ◌≤◌, ◌<◌, ◌≡◌, Bool, true, cond, ◌&&◌, ◌||◌, List, ◌⊎◌, length, leb, ltb, eqb}
+use Rattle.records.specs.declared.setup.KeptOpening.{KeptOpening}
+use Rattle.std.specs.Prelude.{ℕ, ◌+◌, ◌-◌, ◌*◌, ◌≤◌, ◌<◌, ◌≡◌, Bool, true, cond, ◌&&◌, ◌||◌, List, ◌⊎◌, leb, ltb, eqb}
 use Rattle.tariff.specs.Sizes.{max_holders, max_places, last_term}
 use Rattle.tariff.specs.Sum.{sum_to}
 use Rattle.tariff.specs.Ranges.{max_kw}
@@ -7,7 +8,7 @@ use Rattle.netting.specs.Migration.{shares, transferred}
 use Rattle.netting.specs.Netting.{pair_at, holder_at}
 use Rattle.ledger.specs.Opening.{Opening, has_base}
 use Rattle.records.specs.Opening.{opening_in, KeepsBases}
-use Rattle.slots.specs.Layout.{figure_count, load_slot, prior_allocated_slot, carried_slot, awarded_slot, nominated_slot}
+use Rattle.slots.specs.Layout.{load_slot, prior_allocated_slot, carried_slot, awarded_slot, nominated_slot}
 use Rattle.slots.specs.Sums.{max_figure}
 use Rattle.transfers.specs.declared.transfers.Transfer.{Transfer}
 use Rattle.transfers.specs.Columns.{HasColumn, in_column}
@@ -49,14 +50,13 @@ ColumnFits x v = sum_to x.holders v ≤ max_figure
 
 -- a slot of a path whose column fits, if a migration moves it
 pub record SlotFits (f : List ℕ) (term p slot : ℕ) (x : Transfer) : Type 0 where
-  pub column : HasColumn f p slot
+  pub column : HasColumn p slot
   pub in_term : term ≤ last_term
   pub covered : LossesWithinLoads x
   pub fits : slot_moves term slot ≡ true → ColumnFits x (in_column f p slot)
 
 -- a path of which the rights and allocations can move
-pub record PathFits (o f : List ℕ) (term sink : ℕ) (x : Transfer) (p : ℕ) : Type 0 where
-  pub long : length f ≡ figure_count
+pub record PathFits (o : KeptOpening) (f : List ℕ) (term sink : ℕ) (x : Transfer) (p : ℕ) : Type 0 where
   pub bases : KeepsBases o
   pub in_term : term ≤ last_term
   pub covered : LossesWithinLoads x
@@ -64,5 +64,5 @@ pub record PathFits (o f : List ℕ) (term sink : ℕ) (x : Transfer) (p : ℕ) 
   pub fits : (slot : ℕ) → slot < nominated_slot → moves_at (opening_in o) term sink p slot ≡ true → ColumnFits x (in_column f p slot)
 
 -- and every path
-abbrev pub RightsFit : (o f : List ℕ) (term sink : ℕ) → Transfer → Type 0
+abbrev pub RightsFit : (o : KeptOpening) (f : List ℕ) (term sink : ℕ) → Transfer → Type 0
 RightsFit o f term sink x = (p : ℕ) → p < max_places → PathFits o f term sink x p

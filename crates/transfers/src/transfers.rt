@@ -7,9 +7,11 @@ ghost use Rattle.transfers.specs.Columns.{HasColumn, in_column, column_at, colum
 ghost use Rattle.transfers.specs.Transfers.{load_column, share_column, slot_moves, moves_at, column_where, load_at, LossesWithinLoads, ColumnFits, SlotFits, PathFits, RightsFit};
 
 use netting::shares::{shares_of, transferred_column};
-use records::setup::path_base;
+use records::setup::KeptOpening;
 use slots::cells::{read, store};
-use slots::layout::{AWARDED_SLOT, CARRIED_SLOT, LOAD_SLOT, NOMINATED_SLOT, PRIOR_ALLOCATED_SLOT};
+use slots::layout::{
+    AWARDED_SLOT, CARRIED_SLOT, Figures, LOAD_SLOT, NOMINATED_SLOT, PRIOR_ALLOCATED_SLOT,
+};
 use tariff::sizes::{HOLDER_PAIRS, MAX_HOLDERS, MAX_PLACES};
 
 // What a migration transfers: the kW from holder i to holder j at i * 8 + j, each holder's load at the sink and term before it,
@@ -22,16 +24,16 @@ pub struct Transfer {
 }
 
 // What the eight holders have in a slot at a place.
-pub fn column_at(f: &[u64], p: u64, slot: u64) -> [u64; MAX_HOLDERS]
-    requires { HasColumn f.now p slot }
+pub fn column_at(f: &Figures, p: u64, slot: u64) -> [u64; MAX_HOLDERS]
+    requires { HasColumn p slot }
     ensures { result ≡ column_at f.now p slot }
 {
     std::array::from_fn(|h| read(f, h as u64, p, slot))
 }
 
 // A column stored in a slot at a place.
-fn store_column(f: &mut [u64], p: u64, slot: u64, column: [u64; MAX_HOLDERS])
-    requires { HasColumn f.old p slot }
+fn store_column(f: &mut Figures, p: u64, slot: u64, column: [u64; MAX_HOLDERS])
+    requires { HasColumn p slot }
     ensures { f.new ≡ column_stored f.old p slot column max_holders }
 {
     for h in 0..MAX_HOLDERS {
@@ -47,8 +49,8 @@ fn is_empty(column: [u64; MAX_HOLDERS]) -> bool
 }
 
 // Transfers the shares of one column of records. A column that holds nothing is left as it is.
-fn transfer_column(f: &mut [u64], p: u64, slot: u64, x: Transfer)
-    requires { HasColumn f.old p slot × LossesWithinLoads x × ColumnFits x (in_column f.old p slot) }
+fn transfer_column(f: &mut Figures, p: u64, slot: u64, x: Transfer)
+    requires { HasColumn p slot × LossesWithinLoads x × ColumnFits x (in_column f.old p slot) }
     ensures { ColumnTransfer (column_where (λ q j. eqb q p && eqb j slot) (share_column x)) f.old f.new }
 {
     let column = column_at(f, p, slot);
@@ -74,7 +76,7 @@ fn slot_moves(term: u64, slot: u64) -> bool
 }
 
 // Transfers the shares of one slot of a path, if it is one that moves.
-fn transfer_slot(f: &mut [u64], term: u64, p: u64, slot: u64, x: Transfer)
+fn transfer_slot(f: &mut Figures, term: u64, p: u64, slot: u64, x: Transfer)
     requires { SlotFits f.old term p slot x }
     ensures { ColumnTransfer (column_where (λ q j. (eqb q p && slot_moves term j) && eqb j slot) (share_column x)) f.old f.new }
 {
@@ -85,11 +87,11 @@ fn transfer_slot(f: &mut [u64], term: u64, p: u64, slot: u64, x: Transfer)
 }
 
 // Transfers the shares of a path's slots, if its sink has this base. The slots that can move stand side by side: prior's, carried and awarded holdings.
-fn transfer_path(f: &mut [u64], o: &[u64], term: u64, sink: u64, p: u64, x: Transfer)
+fn transfer_path(f: &mut Figures, o: &KeptOpening, term: u64, sink: u64, p: u64, x: Transfer)
     requires { PathFits o.now f.old term sink x p }
     ensures { ColumnTransfer (column_where (λ q j. moves_at (opening_of o.entry) term sink q j && eqb q p) (share_column x)) f.old f.new }
 {
-    if path_base(o, p) != sink {
+    if o.path_base(p) != sink {
         return;
     }
     for slot in PRIOR_ALLOCATED_SLOT..NOMINATED_SLOT {
@@ -98,7 +100,7 @@ fn transfer_path(f: &mut [u64], o: &[u64], term: u64, sink: u64, p: u64, x: Tran
 }
 
 // Transfers the shares of every slot that moves, path by path.
-pub fn transfer_rights(f: &mut [u64], o: &[u64], term: u64, sink: u64, x: Transfer)
+pub fn transfer_rights(f: &mut Figures, o: &KeptOpening, term: u64, sink: u64, x: Transfer)
     requires { RightsFit o.now f.old term sink x }
     ensures { ColumnTransfer (column_where (moves_at (opening_of o.entry) term sink) (share_column x)) f.old f.new }
 {
@@ -108,8 +110,8 @@ pub fn transfer_rights(f: &mut [u64], o: &[u64], term: u64, sink: u64, x: Transf
 }
 
 // Transfers the load m of each pair at the sink and term.
-pub fn transfer_load(f: &mut [u64], term: u64, sink: u64, x: Transfer)
-    requires { HasColumn f.old sink (load_slot + term) × LossesWithinLoads x × (x.load ≡ column_at f.old sink (load_slot + term)) }
+pub fn transfer_load(f: &mut Figures, term: u64, sink: u64, x: Transfer)
+    requires { HasColumn sink (load_slot + term) × LossesWithinLoads x × (x.load ≡ column_at f.old sink (load_slot + term)) }
     ensures { ColumnTransfer (column_where (load_at term sink) (load_column x)) f.old f.new }
 {
     let next = transferred_column(x.load, &x.m, x.holders as usize);

@@ -9,6 +9,7 @@ use native.Mathlib.Omega.{arith}
 use lib.ListN.{take, drop}
 use lib.Dec.{eqb}
 use borrow.Author.Tests.{eq-eqb, ne_eqb, eqb-true, eqb-false}
+use Rattle.records.specs.declared.setup.KeptOpening.{KeptOpening}
 use Rattle.std.specs.Prelude.{Ok}
 use Rattle.source_evidence.specs.declared.evidence.Entry.{Entry}
 use Rattle.source_evidence.specs.declared.filing.Filing.{Filing}
@@ -79,7 +80,7 @@ posted_as m h s f filed e =
     ∙ ap (λ n. look_at posted_slots false m h s (evidence_posted_slot + (n - ownership))) (kind_numbered f.kind range.0 range.1)
     ∙ posted_number m h s evidence_posted_slot evidence_kinds 1 f.kind (omega arith) range.0 (omega arith)
 
-module _ (o f : List ℕ) (m : List Bool) (x : List Entry) (h s : ℕ) (filing : Filing) (filed_as : Filed) (r : Reachable o f m x) (unmet : 0 ≡ refusal (opening_in o) (ledger_in f m x) (verify_of h s filing)) (files : filed_as ≡ filed_of filing) where
+module _ (o : KeptOpening) (f : List ℕ) (m : List Bool) (x : List Entry) (h s : ℕ) (filing : Filing) (filed_as : Filed) (r : Reachable o f m x) (unmet : 0 ≡ refusal (opening_in o) (ledger_in f m x) (verify_of h s filing)) (files : filed_as ≡ filed_of filing) where
   abbrev O : Opening
   O = opening_in o
 

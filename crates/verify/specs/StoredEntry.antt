@@ -1,11 +1,11 @@
 -- What is stored of an entry: its coverage of terms 0 to 3, in four slots side by side, and whether it is ten-year evidence.
-use Rattle.std.specs.Prelude.{ℕ, zero, suc, ◌+◌, ◌*◌, ◌≤◌, ◌<◌, ◌≡◌, List, length}
+use Rattle.std.specs.Prelude.{ℕ, zero, suc, ◌+◌, ◌*◌, ◌≤◌, ◌<◌, List}
 use Rattle.source_evidence.specs.declared.evidence.Entry.{Entry}
 use Rattle.tariff.specs.Sizes.{terms}
 use Rattle.source_evidence.specs.Evidence.{is_ten_year}
 use Rattle.slots.specs.Cells.{max_holders, max_places, stored_at}
 use Rattle.slots.specs.Coverage.{coverage}
-use Rattle.slots.specs.Layout.{figure_slots, figure_count, ownership_slot, ten_year_slot, flag}
+use Rattle.slots.specs.Layout.{figure_slots, ownership_slot, ten_year_slot, flag}
 
 -- figures with an entry's coverage of the terms below n stored in the slots that begin at `from`
 unfoldable pub stored_below : ℕ → List ℕ → (h s from : ℕ) → Entry → List ℕ
@@ -19,7 +19,6 @@ stored_by_term f h s from entry = stored_below terms f h s from entry
 
 -- figures that have these four slots
 pub record HasTerms (f : List ℕ) (h s from : ℕ) : Type 0 where
-  pub long : length f ≡ figure_count
   pub holder : h < max_holders
   pub place : s < max_places
   pub in_row : from + terms ≤ figure_slots

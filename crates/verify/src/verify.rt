@@ -1,10 +1,10 @@
 // Verify: evidence for a source (01, Posting, Verify).
-ghost use Rattle.std.specs.Prelude.{◌≡◌, ◌+◌, true, length, IfOk};
+ghost use Rattle.std.specs.Prelude.{◌≡◌, ◌+◌, true, IfOk};
 ghost use Rattle.source_evidence.specs.Filing.{filed_of};
 ghost use Rattle.source_evidence.specs.Kind.{index_of};
 ghost use Rattle.ledger.specs.Causes.{refusal};
 ghost use Rattle.slots.specs.Cells.{HasCell, stored_at};
-ghost use Rattle.slots.specs.Layout.{figure_count, posted_slots, posted_count, evidence_slots, evidence_posted_slot, ledger_in};
+ghost use Rattle.slots.specs.Layout.{posted_slots, evidence_slots, evidence_posted_slot, ledger_in};
 ghost use Rattle.slots.specs.Steps.{Reachable, ReachablePostings, InPostings, EvidenceStep, Steps};
 ghost use Rattle.records.specs.Opening.{opening_of};
 ghost use Rattle.records.specs.Refusals.{refused_by};
@@ -12,13 +12,14 @@ ghost use Rattle.verify.specs.Asked.{verify_of};
 ghost use Rattle.verify.specs.StoredEntry.{stored_by_term, HasTerms, stored_entry};
 
 use records::refusal::Refusal;
-use records::setup::{unknown_holder, unknown_source};
+use records::setup::KeptOpening;
 use records::sums::when_true;
 use slots::calendar::calendar;
 use slots::cells::{cell, is_posted, set_posted, store};
 use slots::coverage::coverage;
 use slots::layout::{
-    COVERAGE_SLOT, EVIDENCE_COUNT, EVIDENCE_POSTED_SLOT, EVIDENCE_SLOTS, TEN_YEAR_SLOT,
+    COVERAGE_SLOT, EVIDENCE_COUNT, EVIDENCE_POSTED_SLOT, EVIDENCE_SLOTS, Figures, Postings,
+    TEN_YEAR_SLOT,
 };
 use source_evidence::evidence::Entry;
 use source_evidence::filing::{Filed, Filing};
@@ -28,9 +29,9 @@ use tariff::sizes::TERMS;
 // What a filing files, or the first cause that it meets.
 #[tactic(auto, using(slots::proofs::CalendarLaws::open_as_ledger, crate::proofs::VerifyLaws::posted_as), unfolding(ledger::specs::Causes::refusal, ledger::specs::Causes::call_causes, ledger::specs::Causes::verify_causes, ledger::specs::Numbers::first_met, slots::specs::Layout::ledger_in, source_evidence::specs::Filing::filing_outcome))]
 fn decide(
-    o: &[u64],
-    f: &[u64],
-    m: &[bool],
+    o: &KeptOpening,
+    f: &Figures,
+    m: &Postings,
     h: u64,
     s: u64,
     filing: Filing,
@@ -39,7 +40,7 @@ fn decide(
     ensures refused { InPostings o.now f.now m.now (λ O L. refused_by result ≡ refusal O L (verify_of h s filing)) }
     ensures filed { IfOk result (λ filed. filed ≡ filed_of filing) }
 {
-    if unknown_holder(o, h) || unknown_source(o, s) {
+    if o.unknown_holder(h) || o.unknown_source(s) {
         return Err(Refusal::NotInBook);
     }
     let filed = filing.filed()?;
@@ -54,7 +55,7 @@ fn decide(
 
 // An entry's coverage of each term, stored at a source in the four slots that begin at `from`.
 #[tactic(auto, unfolding(crate::specs::StoredEntry::stored_below, crate::specs::StoredEntry::stored_by_term))]
-fn store_by_term(f: &mut [u64], h: u64, s: u64, from: u64, entry: Entry)
+fn store_by_term(f: &mut Figures, h: u64, s: u64, from: u64, entry: Entry)
     requires { HasTerms f.old h s from }
     ensures { f.new ≡ stored_by_term f.old h s from entry }
 {
@@ -65,8 +66,8 @@ fn store_by_term(f: &mut [u64], h: u64, s: u64, from: u64, entry: Entry)
 
 // An entry's coverage of each term and whether it is ten-year evidence, stored at a source in the slots of a kind.
 #[tactic(auto, unfolding(crate::specs::StoredEntry::stored_entry, slots::specs::Layout::flag))]
-fn store_entry(f: &mut [u64], h: u64, s: u64, kind: EvidenceKind, entry: Entry)
-    requires { HasCell evidence_slots h s (index_of kind) × (length f.old ≡ figure_count) }
+fn store_entry(f: &mut Figures, h: u64, s: u64, kind: EvidenceKind, entry: Entry)
+    requires { HasCell evidence_slots h s (index_of kind) }
     ensures { f.new ≡ stored_entry f.old h s (index_of kind) entry }
 {
     let slot = kind.index();
@@ -76,10 +77,8 @@ fn store_entry(f: &mut [u64], h: u64, s: u64, kind: EvidenceKind, entry: Entry)
 }
 
 // What is filed stored by its terms, and noted as posted.
-fn post(f: &mut [u64], m: &mut [bool], h: u64, s: u64, filed: Filed)
-    requires cell { HasCell evidence_slots h s (index_of filed.kind) }
-    requires figures { length f.old ≡ figure_count }
-    requires posted { length m.old ≡ posted_count }
+fn post(f: &mut Figures, m: &mut Postings, h: u64, s: u64, filed: Filed)
+    requires { HasCell evidence_slots h s (index_of filed.kind) }
     ensures figures { f.new ≡ stored_entry f.old h s (index_of filed.kind) filed.entry }
     ensures posted { m.new ≡ stored_at posted_slots m.old h s (evidence_posted_slot + index_of filed.kind) true }
 {
@@ -99,9 +98,9 @@ fn file(evidence: &mut [Entry; EVIDENCE_COUNT], h: u64, s: u64, filed: Filed)
 
 // Posts evidence of a holder for a source: its coverage of each term and whether it is ten-year evidence is stored, and it is noted as posted.
 pub fn verify(
-    o: &[u64],
-    f: &mut [u64],
-    m: &mut [bool],
+    o: &KeptOpening,
+    f: &mut Figures,
+    m: &mut Postings,
     h: u64,
     s: u64,
     filing: Filing,
@@ -116,9 +115,9 @@ pub fn verify(
 
 // Posts evidence and files its entry among the book's.
 pub fn verify_and_file(
-    o: &[u64],
-    f: &mut [u64],
-    m: &mut [bool],
+    o: &KeptOpening,
+    f: &mut Figures,
+    m: &mut Postings,
     evidence: &mut [Entry; EVIDENCE_COUNT],
     h: u64,
     s: u64,

@@ -1,25 +1,12 @@
 -- `awards::open_close::open_tier` meets its contract: a refusal leaves the figures, and an accepted call clears the nominations and notes the tier, and the Long Term step as held. Assumes nothing.
-use native.Mathlib.Omega.{arith}
-use lib.ListN.{length-set}
 use Rattle.tariff.specs.Terms.{is_long_term_step}
 use Rattle.std.proofs.lemmas.Result.{err_from_is_err_and}
-use Rattle.slots.proofs.Reachable.{figures_long}
 use Rattle.slots.proofs.StepLaws.{steps_refused}
 use Rattle.awards.proofs.OpenCloseLaws.{open_steps}
-use borrow.Author.Rules.{rules}
 use Rattle.awards.proofs.open_close.open_tier.Goals as goal
 
 pub returns-in_err-check_open : goal.returns-in_err-check_open
 returns-in_err-check_open c = λ o m x r. let p = err_from_is_err_and c.from_residual.result c.from_residual.ensures.1 in rw (p.1, p.2) (steps_refused o _ m x _ _ (c.in_err-check_open.ensures _ m x) r)
-
-pub clear-requires : goal.clear-requires
-clear-requires c = let long = figures_long _ _ _ _ c.requires.reachable in search rules
-
-pub bounds-f-4353 : goal.bounds-f-4353
-bounds-f-4353 c = let long = figures_long _ _ _ _ c.requires.reachable in search rules
-
-pub bounds-f-4354 : goal.bounds-f-4354
-bounds-f-4354 c = let long = figures_long _ _ _ _ c.requires.reachable in simp length-set (omega arith)
 
 pub returns : goal.returns
 unfolding is_long_term_step

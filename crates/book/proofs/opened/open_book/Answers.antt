@@ -1,9 +1,19 @@
--- `book::opened::open_book` meets its contract: the array that opening leaves, beside arrays with nothing in them. Assumes nothing.
-use Rattle.book.specs.Reading.{book_in, book_of}
-use Rattle.book.specs.Opened.{opening_outcome}
-use Rattle.book.proofs.EmptyBook.{empty_figures, empty_posted}
+-- `book::opened::open_book` meets its contract: the opening that is kept, or one with nothing in it. Assumes nothing.
+use Rattle.std.proofs.Common.{◌∙◌, ap, subst, sym, Ok, Err}
+use Rattle.ledger.specs.Ledger.{empty_ledger}
+use Rattle.book.specs.Reading.{book_of}
+use Rattle.book.specs.Reachable.{Reachable}
+use Rattle.book.proofs.OpenedLaws.{opened_done, opened_refused, kept_reachable, nothing_reachable}
 use Rattle.book.proofs.opened.open_book.Goals as goal
 
-pub returns : goal.returns
-unfolding opening_outcome book_of book_in
-returns c = λ i. record { answer = c.open-answer.ensures.answered i; book = record { opening = c.open-answer.ensures.kept i; figures = empty_figures i; posted = empty_posted i; evidence = c.no_evidence.ensures i } }
+pub blank_book-requires : goal.blank_book-requires
+blank_book-requires c = kept_reachable _ _ c.in-Ok.ensures
+
+pub returns-in-Ok : goal.returns-in-Ok
+returns-in-Ok c = (λ i. record { answer = Ok tt; book = c.blank_book.ensures i }) ∙ opened_done _ _ c.in-Ok.ensures
+
+pub blank_book-requires-in-Err : goal.blank_book-requires-in-Err
+blank_book-requires-in-Err c = subst (λ o. Reachable (book_of o empty_ledger)) (sym c.keep_nothing.ensures) nothing_reachable
+
+pub returns-in-Err : goal.returns-in-Err
+returns-in-Err c = (λ i. record { answer = Err c.in-Err.refusal; book = (c.blank_book-in-Err.ensures ∙ ap (λ o. book_of o empty_ledger) c.keep_nothing.ensures) i }) ∙ opened_refused _ _ c.in-Err.ensures

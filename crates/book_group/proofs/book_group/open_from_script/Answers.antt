@@ -6,8 +6,7 @@ use Rattle.lines.specs.declared.rows.LineKind.TheVariants.{Book}
 use Rattle.lines.specs.Rows.{same_kind}
 use Rattle.lines.proofs.KindLaws.{kinds_compared}
 use Rattle.counted_lines.proofs.LineBytes.{here_within}
-use Rattle.book_group.proofs.CutLists.{full_lists}
-use Rattle.book_group.proofs.BookGroupLaws.{after_head, lists_fit_lem, group_opened, opening_put, group_refused, opening_stays, whole_group, whole_opening}
+use Rattle.book_group.proofs.BookGroupLaws.{after_head, lists_fit_lem, group_opened, group_refused, whole_group}
 use borrow.Author.Rules.{rules}
 use Rattle.book_group.proofs.book_group.open_from_script.Goals as goal
 use Rattle.book_group.proofs.book_group.open_from_script.Goals.{else-lists-via-then-lists+else-eq, else-lists-via-else-lists}
@@ -21,15 +20,12 @@ slice_bounds-read_book_lines-start c = let within = here_within _ _ _ (after_hea
 pub overflow_add-consumed : goal.overflow_add-consumed
 overflow_add-consumed c = let within = lists_fit_lem _ _ _ c.next_row-first.ensures c.read_book_lines-lists.ensures in search rules
 
-pub open_from_lists-answer-requires : goal.open_from_lists-answer-requires
-open_from_lists-answer-requires c = record { opening = search rules; lists = full_lists _ _ _ c.read_book_lines-lists.ensures }
-
 pub returns-then-eq : goal.returns-then-eq
 returns-then-eq c =
     let first = c.next_row-first in
     let lists = c.read_book_lines-lists in
     let readable = and_join c.if-lists.true (sym (c.if-eq.ensures ∙ kinds_compared first.result.row.kind Book)) in
-    let opened = c.open_from_lists-answer.ensures in record { group = group_opened first.result.row _ lists.result lists.ensures readable first.result.consumed _ opened.answer ∙ whole_group _ first.result first.ensures; opening = opening_put first.result.row _ lists.result lists.ensures readable _ _ opened.opening ∙ whole_opening _ _ first.result first.ensures }
+    group_opened first.result.row _ lists.result lists.ensures readable first.result.consumed _ c.open_from_lists-opened.ensures ∙ whole_group _ first.result first.ensures
 
 pub returns : goal.returns
 returns c =
@@ -40,4 +36,4 @@ returns c =
       | else-lists-via-then-lists+else-eq w ↦ and_right_false lists.result.complete (sym (w.if-eq.ensures ∙ kinds_compared first.result.row.kind Book))
       | else-lists-via-else-lists w ↦ and_left_false (same_kind first.result.row.kind Book) w.if-lists.false
     ]
-    in record { group = group_refused first.result.row _ lists.result lists.ensures unread first.result.consumed ∙ whole_group _ first.result first.ensures; opening = opening_stays first.result.row _ lists.result lists.ensures unread _ ∙ whole_opening _ _ first.result first.ensures }
+    in group_refused first.result.row _ lists.result lists.ensures unread first.result.consumed ∙ whole_group _ first.result first.ensures

@@ -11,9 +11,6 @@ use Rattle.groups.proofs.OutcomeLaws.{fits_counted, count_fits, lines_are, outco
 use Rattle.groups.proofs.HeadLaws.{migrate_request, by_call, answers_as}
 use Rattle.groups.proofs.counted_calls.migrate_with_room.Goals as goal
 
-pub whole_as_slice-read_counted : goal.whole_as_slice-read_counted
-whole_as_slice-read_counted g c = let few = c.requires.few in omega arith
-
 pub returns-then-not-read-clause-answer : goal.returns-then-not-read-clause-answer
 unfolding field
 returns-then-not-read-clause-answer g c m x k =

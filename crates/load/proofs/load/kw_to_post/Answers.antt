@@ -7,12 +7,9 @@ use Rattle.ledger.specs.Causes.{refusal, call_causes, load_causes}
 use Rattle.ledger.specs.Numbers.{first_met}
 use Rattle.slots.specs.Layout.{ledger_in}
 use Rattle.slots.proofs.CalendarLaws.{load_as_ledger}
-use Rattle.slots.proofs.Reachable.{posted_long, settings_known}
+use Rattle.slots.proofs.Reachable.{settings_known}
 use Rattle.load.proofs.BlockLaws.{blocks_refused, blocks_posted, posted_in_term}
 use Rattle.load.proofs.load.kw_to_post.Goals as goal
-
-pub is_posted-requires : goal.is_posted-requires
-is_posted-requires c = posted_long _ _ _ _ c.requires.reachable
 
 pub legal_settings-requires : goal.legal_settings-requires
 legal_settings-requires c = settings_known _ _ _ _ c.requires.reachable refl

@@ -2,11 +2,8 @@
 use Rattle.std.proofs.Common.{◌∙◌, rules}
 use Rattle.netting.specs.Netting.{transferred_entry}
 use Rattle.netting.proofs.ShareCells.{all_entries}
-use Rattle.tariff.proofs.FromFn.{made_list, made_callable}
+use Rattle.tariff.proofs.FromFn.{made_list}
 use Rattle.netting.proofs.shares.transferred_column.Goals as goal
-
-pub from_fn-requires : goal.from_fn-requires
-from_fn-requires c = (search rules, made_callable 8 _ (λ k q r. search rules) (λ k l. search rules))
 
 pub returns : goal.returns
 returns c = let a = c.args in made_list _ _ (transferred_entry a.n a.column a.parts.now) (λ k y q called. search rules) 8 _ c.from_fn.ensures.items ∙ all_entries a.n a.column a.parts.now

@@ -9,7 +9,7 @@ use Rattle.slots.proofs.Places.{source_place}
 use Rattle.nomination_tests.proofs.long_term_step.lacks_evidence_at.Goals as goal
 
 pub has_ten_year-requires : goal.has_ten_year-requires
-has_ten_year-requires c = let k = c.requires.second in record { figures = k.figures; holder = k.holder; place = subst (λ s. s < 16) (sym c.path_source.ensures) (source_place _ _ _ _ k.figures.reachable _ k.path) }
+has_ten_year-requires c = let k = c.requires in record { figures = k.figures; holder = k.holder; place = subst (λ s. s < 16) (sym c.path_source.ensures) (source_place _ _ _ _ k.figures.reachable _ k.second) }
 
 pub returns-then-needs_evidence_at : goal.returns-then-needs_evidence_at
 returns-then-needs_evidence_at c m x r =

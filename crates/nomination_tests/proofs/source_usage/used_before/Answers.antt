@@ -13,9 +13,6 @@ pub loop-n-init : goal.loop-n-init
 unfolding sum_to
 loop-n-init c = (search rules, λ m x r. refl)
 
-pub awards_used-sum-requires : goal.awards_used-sum-requires
-awards_used-sum-requires c = record { figures = c.requires.figures; holder = c.requires.holder; last = let few = c.requires.last in omega arith }
-
 pub overflow_add-sum : goal.overflow_add-sum
 overflow_add-sum c =
     let k = c.requires.figures in

@@ -1,8 +1,6 @@
 -- `script::run_groups::run_groups` meets its contract: so far it has answered the groups up to a place. Assumes nothing.
-use mathlib.Core.Path.{sym}
 use native.Mathlib.Omega.{arith}
 use borrow.Author.Rules.{rules}
-use Rattle.slots.proofs.Reachable.{figures_long, posted_long}
 use Rattle.book.specs.Reading.{book_in}
 use Rattle.script.proofs.RunGroupLaws.{none_run, answered_length, answered_within, part_few, turn_some, turn_within, turn_writable, group_more, answered_number, answered_bytes}
 use Rattle.script.proofs.run_groups.run_groups.Goals as goal
@@ -11,14 +9,6 @@ pub loop-at-init : goal.loop-at-init
 loop-at-init c =
     let k = c.requires in
     none_run _ _ _ _ _ k.reachable k.in_script k.few k.room
-
-pub slice_bounds-run_group-end : goal.slice_bounds-run_group-end
-unfolding book_in
-slice_bounds-run_group-end c = sym (figures_long _ _ _ _ c.loop-at.invariant.so_far.reachable)
-
-pub slice_bounds-run_group-end-in-loop-at : goal.slice_bounds-run_group-end-in-loop-at
-unfolding book_in
-slice_bounds-run_group-end-in-loop-at c = sym (posted_long _ _ _ _ c.loop-at.invariant.so_far.reachable)
 
 pub slice_bounds-run_group-count : goal.slice_bounds-run_group-count
 slice_bounds-run_group-count c = c.loop-at.invariant.so_far.in_script

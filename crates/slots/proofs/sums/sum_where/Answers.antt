@@ -11,7 +11,7 @@ unfolding sum_to
 loop-p-init g c = (omega arith, λ passes is. refl)
 
 pub read-requires : goal.read-requires
-read-requires g c = (path_cell _ _ _ _ c.requires.summable _ _ c.paths-p-end.ensures c.loop-p-test.true, c.requires.summable.long)
+read-requires g c = path_cell _ _ _ _ c.requires.summable _ _ c.paths-p-end.ensures c.loop-p-test.true
 
 pub overflow_add-sum : goal.overflow_add-sum
 overflow_add-sum g c =

@@ -1,13 +1,9 @@
 -- `transfers::transfers::column_at` meets its contract: each entry is read. Assumes nothing.
 use Rattle.std.proofs.Common.{rules}
 use Rattle.netting.specs.Netting.{column_cells}
-use Rattle.tariff.proofs.FromFn.{made_list, made_callable}
+use Rattle.tariff.proofs.FromFn.{made_list}
 use Rattle.transfers.specs.Columns.{in_column, column_at}
-use Rattle.transfers.proofs.ColumnLaws.{column_cell}
 use Rattle.transfers.proofs.transfers.column_at.Goals as goal
-
-pub from_fn-requires : goal.from_fn-requires
-from_fn-requires c = (search rules, made_callable 8 _ (λ k q r. search rules) (λ k l. let there = column_cell _ _ _ _ c.requires l in search rules))
 
 pub returns : goal.returns
 unfolding column_at column_cells

@@ -1,11 +1,7 @@
 -- `transfers::transfers::transfer_load` meets its contract: each load loses its m and gains the others'. Assumes nothing.
 use Rattle.transfers.specs.Transfers.{load_column, load_at}
-use Rattle.transfers.proofs.ShareLaws.{load_ext, load_shared, loads_fit_lem, column_transferred}
-use borrow.Author.Rules.{rules}
+use Rattle.transfers.proofs.ShareLaws.{load_ext, load_shared, column_transferred}
 use Rattle.transfers.proofs.transfers.transfer_load.Goals as goal
-
-pub transferred_column-next-requires : goal.transferred_column-next-requires
-transferred_column-next-requires c = (search rules, loads_fit_lem _ c.requires.1)
 
 pub returns : goal.returns
 unfolding load_at

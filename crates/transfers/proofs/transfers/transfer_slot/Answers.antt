@@ -6,10 +6,5 @@ use Rattle.transfers.proofs.transfers.transfer_slot.Goals as goal
 pub returns-then-not-slot_moves : goal.returns-then-not-slot_moves
 returns-then-not-slot_moves c = slot_still _ _ _ c.args.f.now _ (sym c.slot_moves.ensures ∙ c.if-not-slot_moves.true)
 
-pub transfer_column-requires : goal.transfer_column-requires
-transfer_column-requires c =
-    let k = c.requires in
-    (k.column, k.covered, k.fits (sym c.slot_moves.ensures ∙ c.if-not-slot_moves.false))
-
 pub returns : goal.returns
 returns c = slot_moved _ _ _ _ _ _ (sym c.slot_moves.ensures ∙ c.if-not-slot_moves.false) c.transfer_column.ensures

@@ -1,6 +1,5 @@
 -- `verify::verify::verify` meets its contract: a refusal leaves the arrays, and what is filed is stored and noted. Assumes nothing.
 use Rattle.std.proofs.lemmas.Result.{err_from_is_err_and}
-use Rattle.slots.proofs.Reachable.{figures_long, posted_long}
 use Rattle.slots.proofs.StepLaws.{steps_refused, beside_next_evidence}
 use Rattle.verify.proofs.VerifyLaws.{decided_cell, decided_steps}
 use Rattle.verify.proofs.verify.verify.Goals as goal
@@ -11,12 +10,7 @@ returns-in_err-filed c x r =
     rw (p.1, p.2) (beside_next_evidence _ _ _ _ _ _ x (steps_refused _ _ _ x _ _ (c.in_err-filed.ensures.refused x r) r))
 
 pub post-requires : goal.post-requires
-post-requires c =
-    record {
-      cell = decided_cell _ _ _ _ _ _ _ _ c.requires.reachable (c.in_ok-filed.ensures.refused _ c.requires.reachable) c.in_ok-filed.ensures.filed;
-      figures = figures_long _ _ _ _ c.requires.reachable;
-      posted = posted_long _ _ _ _ c.requires.reachable;
-    }
+post-requires c = decided_cell _ _ _ _ _ _ _ _ c.requires.reachable (c.in_ok-filed.ensures.refused _ c.requires.reachable) c.in_ok-filed.ensures.filed
 
 pub returns : goal.returns
 returns c x r = decided_steps _ _ _ _ _ _ _ _ r (c.in_ok-filed.ensures.refused x r) c.in_ok-filed.ensures.filed _ _ c.post.ensures.figures c.post.ensures.posted

@@ -1,8 +1,11 @@
 -- `book::Book::close_tier` meets its contract: the next book has the figures that were lent. Assumes nothing.
 use Rattle.book.specs.Reading.{book_in}
-use Rattle.book.proofs.OutcomeBooks.{outcome_book}
+use Rattle.book.proofs.NextBooks.{returned, next_reachable}
 use Rattle.book.proofs.book.Book.close_tier.Goals as goal
+
+pub invariant_of-self : goal.invariant_of-self
+invariant_of-self c = next_reachable _ _ _ _ _ _ _ _ _ c.self.invariant (c.close_tier-answer.ensures _ _ _ c.self.invariant)
 
 pub returns : goal.returns
 unfolding book_in
-returns c = outcome_book _ _ _ _ _ _ _ _ _ (c.close_tier-answer.ensures _ _ _ c.requires)
+returns c = returned _ _ _ _ _ _ _ _ _ c.self.view_is (c.close_tier-answer.ensures _ _ _ c.self.invariant)

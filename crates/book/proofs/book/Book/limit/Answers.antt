@@ -6,4 +6,4 @@ use Rattle.book.proofs.book.Book.limit.Goals as goal
 
 pub returns : goal.returns
 unfolding query_answer_in query_answer opening_of_book ledger_of
-returns c = c.limit.ensures _ _ c.requires
+returns c = rw (← c.self.view_is) (c.limit.ensures _ _ c.self.invariant)

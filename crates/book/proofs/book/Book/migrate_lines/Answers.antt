@@ -1,8 +1,11 @@
 -- `book::Book::migrate_lines` meets its contract: the next book has the figures that were lent. Assumes nothing.
 use Rattle.book.specs.Reading.{book_in}
-use Rattle.book.proofs.OutcomeBooks.{outcome_book}
+use Rattle.book.proofs.NextBooks.{returned, next_reachable}
 use Rattle.book.proofs.book.Book.migrate_lines.Goals as goal
+
+pub invariant_of-self : goal.invariant_of-self
+invariant_of-self c = next_reachable _ _ _ _ _ _ _ _ _ c.self.invariant (c.migrate_lines-answer.ensures _ _ c.self.invariant)
 
 pub returns : goal.returns
 unfolding book_in
-returns c = outcome_book _ _ _ _ _ _ _ _ _ (c.migrate_lines-answer.ensures _ _ c.requires)
+returns c = returned _ _ _ _ _ _ _ _ _ c.self.view_is (c.migrate_lines-answer.ensures _ _ c.self.invariant)
