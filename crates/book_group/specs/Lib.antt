@@ -1,2 +1,2 @@
--- What the book group comes to: its answer, and the opening that it leaves.
+-- What the book group comes to: the opening of the book, or the refusal, and the bytes that it takes.
 pub mod BookGroup

@@ -6,7 +6,7 @@ use load::metered::Metered;
 use load_metric::block::Block;
 use netting::netting::ClassLine;
 use opening::book_setup::BookSetup;
-use records::setup::{KeptOpening, PathLine, SinkLine};
+use records::setup::{PathLine, SinkLine};
 use source_evidence::filing::Filing;
 use std::io;
 use tariff::settings::Settings;

@@ -5,7 +5,7 @@ ghost use Rattle.counted_lines.specs.BookLines.{set_line_of, book_lists_of};
 use crate::counted::read_counted;
 use lines::lines::next_row;
 use lines::rows::{LineKind, Row};
-use records::setup::{KeptOpening, PathLine, SinkLine};
+use records::setup::{PathLine, SinkLine};
 use tariff::settings::Settings;
 use tariff::sizes::MAX_PLACES;
 

@@ -8,7 +8,7 @@ use lines::lines::next_row;
 use lines::rows::{LineKind, Row};
 use load_metric::block::Block;
 use netting::netting::ClassLine;
-use records::setup::{KeptOpening, PathLine, SinkLine};
+use records::setup::{PathLine, SinkLine};
 
 // A line that some head counts, as the head's call takes it.
 pub trait CountedLine: Copy {

@@ -1,4 +1,4 @@
-// The lines that a head counts: blocks and class lines kept by their fields, and the lines of the book group.
+// The lines that a head counts, blocks and class lines, each kept whole, and the lines of the book group.
 #![tactic(auto)]
 
 pub mod book_lines;

@@ -6,7 +6,7 @@ ghost use Rattle.lines.specs.Reading.{chunk_bytes, line_feeds_in, bytes_before, 
 // The most bytes that a run takes.
 pub const MAX_BYTES: usize = 65536;
 
-// The most lines that a run takes, and so the room for a field of each.
+// The most lines that a run takes, and so the most that one head can count.
 pub const MAX_LINES: usize = 4096;
 
 // The bytes of output that a run needs for each line of its script.

@@ -1,4 +1,4 @@
-// A nomination: who asks for how much on which path, and the arrays of the book that is asked.
+// A nomination: who asks for how much on which path, and the opening and figures of the book that is asked.
 ghost use Rattle.std.specs.Prelude.{◌≡◌, ◌+◌, ◌<◌, ◌&&◌, ℕ, eqb, ltb};
 ghost use Rattle.slots.specs.Layout.{figure_in, figure_slots};
 

@@ -28,7 +28,7 @@ pub fn keep_nothing() -> KeptOpening
 }
 
 // The counts, lines and settings of a setup, with no bases yet. What finds no room is left out.
-pub fn keep_lines(setup: BookSetup) -> KeptOpening
+pub(crate) fn keep_lines(setup: BookSetup) -> KeptOpening
     ensures { record result { bases = path_bases (opening_asked setup.entry) } ≡ kept_opening (opening_asked setup.entry) }
 {
     KeptOpening {

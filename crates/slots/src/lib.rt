@@ -1,4 +1,4 @@
-// A book's figures, postings and evidence, by holder, place and slot, lent as slices.
+// A book's figures, postings and evidence, by holder, place and slot, lent as arrays.
 #![tactic(auto)]
 
 pub mod calendar;
