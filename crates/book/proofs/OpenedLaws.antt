@@ -2,7 +2,7 @@
 use mathlib.Core.Path.{◌≡◌, refl, ap, sym, subst}
 use mathlib.Core.Bool.{Bool, true, false, cond}
 use mathlib.Core.List.{[]}
-use Rattle.std.specs.Prelude.{Result, Ok, Err}
+use Rattle.std.specs.Prelude.{Ok, Err}
 use Rattle.ledger.specs.Opening.{Opening, legal}
 use Rattle.ledger.specs.Ledger.{empty_ledger}
 use Rattle.ledger.specs.Season.{after, after_from}
@@ -10,9 +10,8 @@ use Rattle.records.specs.Opening.{kept_opening, empty_opening}
 use Rattle.records.proofs.OpeningLaws.{empty_legal}
 use Rattle.records.specs.declared.setup.KeptOpening.{KeptOpening}
 use Rattle.records.specs.declared.refusal.Refusal.{Refusal}
-use Rattle.records.specs.declared.refusal.Refusal.TheVariants.{BreaksRules}
 use Rattle.opening.specs.Opened.{opened, opening_answer, resulting_opening}
-use Rattle.book.specs.declared.book.Outcome.{Outcome}
+use Rattle.opening.proofs.KeptOpening.{opened_kept, opened_not}
 use Rattle.book.specs.Reading.{book_in, book_of}
 use Rattle.book.specs.Reachable.{Reachable}
 use Rattle.book.specs.Opened.{opening_outcome}
@@ -38,28 +37,12 @@ opened_book o e = ap (λ t. book_of (kept_opening (cond t o empty_opening)) empt
 
 -- what is returned beside an opening that is kept, and beside a refusal
 pub opened_done : (o : Opening) (kept : KeptOpening) → Ok kept ≡ opened o → record { answer = Ok tt; book = book_of kept empty_ledger } ≡ opening_outcome o
-unfolding opened opening_outcome opening_answer resulting_opening
-opened_done o kept e = go (legal o) e
-  where
-    of_ok : Result KeptOpening Refusal → KeptOpening
-    of_ok (Ok a) = a
-    of_ok (Err r) = kept
-
-    go : (t : Bool) → Ok kept ≡ cond t (Ok (kept_opening o)) (Err BreaksRules) → ◌≡◌ {A = Outcome} (record { answer = Ok tt; book = book_of kept empty_ledger }) (record { answer = cond t (Ok tt) (Err BreaksRules); book = book_of (kept_opening (cond t o empty_opening)) empty_ledger })
-    go true w = λ i. record { answer = Ok tt; book = book_of (ap of_ok w i) empty_ledger }
-    go false w = cc
+unfolding opening_outcome opening_answer resulting_opening
+opened_done o kept e = let k = opened_kept o kept e in rw k.0 (ap (λ x. record { answer = Ok tt; book = book_of x empty_ledger }) k.1)
 
 pub opened_refused : (o : Opening) (refusal : Refusal) → Err refusal ≡ opened o → record { answer = Err refusal; book = book_of (kept_opening empty_opening) empty_ledger } ≡ opening_outcome o
-unfolding opened opening_outcome opening_answer resulting_opening
-opened_refused o refusal e = go (legal o) e
-  where
-    of_err : Result KeptOpening Refusal → Refusal
-    of_err (Ok a) = refusal
-    of_err (Err r) = r
-
-    go : (t : Bool) → Err refusal ≡ cond t (Ok (kept_opening o)) (Err BreaksRules) → ◌≡◌ {A = Outcome} (record { answer = Err refusal; book = book_of (kept_opening empty_opening) empty_ledger }) (record { answer = cond t (Ok tt) (Err BreaksRules); book = book_of (kept_opening (cond t o empty_opening)) empty_ledger })
-    go true w = cc
-    go false w = λ i. record { answer = Err (ap of_err w i); book = book_of (kept_opening empty_opening) empty_ledger }
+unfolding opening_outcome opening_answer resulting_opening
+opened_refused o refusal e = let k = opened_not o refusal e in rw k.0 (ap (λ r. record { answer = Err r; book = book_of (kept_opening empty_opening) empty_ledger }) k.1)
 
 -- and both are books
 pub kept_reachable : (o : Opening) (kept : KeptOpening) → Ok kept ≡ opened o → Reachable (book_of kept empty_ledger)

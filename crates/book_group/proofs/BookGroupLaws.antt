@@ -16,8 +16,9 @@ use Rattle.ledger.specs.Opening.{legal}
 use Rattle.ledger.specs.Ledger.{empty_ledger}
 use Rattle.records.specs.Opening.{kept_opening}
 use Rattle.records.specs.declared.refusal.Refusal.{Refusal}
-use Rattle.records.specs.declared.refusal.Refusal.TheVariants.{Unreadable, BreaksRules}
+use Rattle.records.specs.declared.refusal.Refusal.TheVariants.{Unreadable}
 use Rattle.opening.specs.Opened.{opened}
+use Rattle.opening.proofs.KeptOpening.{opened_kept}
 use Rattle.book.specs.Reading.{book_of}
 use Rattle.book.specs.Reachable.{Reachable}
 use Rattle.book.proofs.OpenedLaws.{opened_reachable, opened_book}
@@ -149,17 +150,12 @@ module _ (script : List ℕ) where
 
   -- a run goes on where the group is readable and its opening legal, with that opening
   pub group_opens : (kept : KeptOpening) → (book_group_of script).opened ≡ Ok kept → (book_readable first (rows_of left) ≡ true) × (legal (opening_of_rows first (rows_of left)) ≡ true) × (kept ≡ kept_opening (opening_of_rows first (rows_of left)))
-  unfolding book_group_of book_group_with opened
-  group_opens kept e = go (book_readable first (rows_of left)) (legal (opening_of_rows first (rows_of left))) e
+  unfolding book_group_of book_group_with
+  group_opens kept e = go (book_readable first (rows_of left)) e
     where
-      of_ok : Result KeptOpening Refusal → KeptOpening
-      of_ok (Ok a) = a
-      of_ok (Err r) = kept
-
-      go : (readable is_legal : Bool) → cond readable (cond is_legal (Ok (kept_opening (opening_of_rows first (rows_of left)))) (Err BreaksRules)) (Err Unreadable) ≡ Ok kept → (readable ≡ true) × (is_legal ≡ true) × (kept ≡ kept_opening (opening_of_rows first (rows_of left)))
-      go true true w = (refl, refl, sym (ap of_ok w))
-      go true false w = cc
-      go false is_legal w = cc
+      go : (readable : Bool) → cond readable (opened (opening_of_rows first (rows_of left))) (Err Unreadable) ≡ Ok kept → (readable ≡ true) × (legal (opening_of_rows first (rows_of left)) ≡ true) × (kept ≡ kept_opening (opening_of_rows first (rows_of left)))
+      go true w = let k = opened_kept (opening_of_rows first (rows_of left)) kept (sym w) in (refl, k.0, k.1)
+      go false w = cc
 
   -- and its book is one
   pub book_group_reachable : (kept : KeptOpening) → (book_group_of script).opened ≡ Ok kept → Reachable (book_of kept empty_ledger)

@@ -9,32 +9,30 @@ use lib.ListN.{length, take, get_or, replicate, length-map}
 use lib.Seq.{length-take-le, take_all}
 use lib.Dec.{leb}
 use borrow.Author.Tests.{leb-true, leb-false}
-use Rattle.tariff.specs.Sizes.{max_holders, max_places}
-use Rattle.tariff.proofs.Tests.{and_both, and_left_false, decided}
+use Rattle.tariff.specs.Sizes.{max_places}
+use Rattle.tariff.proofs.Tests.{decided}
 use Rattle.std.specs.Prelude.{Err}
 use Rattle.std.proofs.lemmas.List.{length-replicate}
 use Rattle.std.proofs.lemmas.Simd.{map-map}
-use Rattle.ledger.specs.Opening.{Opening, counts_fit, legal}
+use Rattle.ledger.specs.Opening.{Opening, counts_fit}
 use Rattle.records.specs.Opening.{no_sink, no_path, opening_from}
 use Rattle.records.specs.declared.refusal.Refusal.TheVariants.{BreaksRules}
+use Rattle.records.proofs.OpeningLaws.{counts_small}
 use Rattle.opening.specs.Opened.{opened}
+use Rattle.opening.proofs.KeptOpening.{unfit_counts}
 use Rattle.lines.specs.declared.rows.Row.{Row}
 use Rattle.counted_lines.specs.declared.book_lines.BookLists.{BookLists}
 use Rattle.lines.specs.Rows.{rows_of, field, holder_rows, sink_rows, path_rows, settings_of_rows}
 use Rattle.counted_lines.specs.BookLines.{first_lines, book_lists_of}
 use Rattle.counted_lines.specs.Counted.{sink_line_of, path_line_of, with_lines}
-use Rattle.counted_lines.proofs.KeptLines.{all_kept, same_long}
+use Rattle.counted_lines.proofs.KeptLines.{all_kept}
 use Rattle.groups.specs.Groups.{opening_of_rows}
-use Rattle.book_group.specs.BookGroup.{FullLists, opening_kept}
+use Rattle.book_group.specs.BookGroup.{opening_kept}
 
--- a count above its size breaks the rules
-not_legal : (o : Opening) → counts_fit o ≡ false → legal o ≡ false
-unfolding legal
-not_legal o e = and_left_false _ (and_left_false _ (and_left_false _ (and_left_false _ (and_left_false _ (and_left_false _ e)))))
-
+-- a count above its size is refused
 refused_for_counts : (o : Opening) → counts_fit o ≡ false → opened o ≡ Err BreaksRules
 unfolding opened
-refused_for_counts o e = rw (not_legal o e)
+refused_for_counts o e = rw (unfit_counts o e)
 
 -- two openings of the same counts, whose lists are the same where the counts fit, open the same
 same_opened : (o p : Opening) → counts_fit o ≡ counts_fit p → (counts_fit p ≡ true → o ≡ p) → opened o ≡ opened p
@@ -43,16 +41,6 @@ same_opened o p counts lists = go (decided (counts_fit p))
     go : (counts_fit p ≡ true) ⊎ (counts_fit p ≡ false) → opened o ≡ opened p
     go (inl e) = ap opened (lists e)
     go (inr e) = refused_for_counts o (counts ∙ e) ∙ sym (refused_for_counts p e)
-
--- counts that fit are at most 16
-counts_small : (o : Opening) → counts_fit o ≡ true → (o.holders ≤ max_places) × (o.sinks ≤ max_places) × (o.paths ≤ max_places)
-unfolding counts_fit
-counts_small o e =
-    let last = and_both _ _ e in
-    let third = and_both _ _ last.0 in
-    let first = and_both _ _ third.0 in
-    let holders = leb-true o.holders max_holders first.0 in
-    (omega arith, leb-true o.sinks max_places third.1, leb-true o.paths max_places last.1)
 
 -- of at most 16 lines the first 16 are all
 lines_are_all : {T : Type 0} (of : Row → T) (blank : T) (n : ℕ) (rows : List Row) → length rows ≡ n → n ≤ max_places → take n (first_lines blank (map of rows)) ≡ map of rows
@@ -65,11 +53,6 @@ lines_are_all of blank n rows long few =
 -- a number of each line is a field of each row
 numbers_are_all : {T : Type 0} (of : Row → T) (number : T → ℕ) (blank : T) (n : ℕ) (rows : List Row) → length rows ≡ n → n ≤ max_places → map number (take n (first_lines blank (map of rows))) ≡ map (λ r. number (of r)) rows
 numbers_are_all of number blank n rows long few = ap (map number) (lines_are_all of blank n rows long few) ∙ map-map number of rows
-
--- the first 16 lines have 16 places
-as-long : {T : Type 0} (blank : T) (lines : List T) → length (first_lines blank lines) ≡ max_places
-unfolding first_lines
-as-long blank lines = same_long lines (replicate max_places blank) ∙ length-replicate max_places blank
 
 -- what is lent of a full list is what is counted, or all of it
 module _ (n r : ℕ) (lent : r ≡ min n max_places) {T : Type 0} (xs : List T) (full : length xs ≡ max_places) where
@@ -84,7 +67,7 @@ module _ (n r : ℕ) (lent : r ≡ min n max_places) {T : Type 0} (xs : List T) 
       go (inr t) = let many = leb-false n max_places t in take_all r xs (omega arith) ∙ sym (take_all n xs (omega arith))
 
 -- so what is opened is the opening of the lists that were kept
-module _ (head : Row) (lists : BookLists) (full : FullLists lists) where
+module _ (head : Row) (lists : BookLists) (holders : length lists.holder_kinds ≡ max_places) (sinks : length lists.sink_lines ≡ max_places) (paths : length lists.path_lines ≡ max_places) where
   abbrev count : ℕ → ℕ
   count k = get_or head.fields k 0
 
@@ -93,27 +76,17 @@ module _ (head : Row) (lists : BookLists) (full : FullLists lists) where
   lent_opening h s p eh es ep =
       λ i.
       opening_from (count 0) (count 1) (count 2) (count 3)
-      (lent_cut (count 0) h eh lists.holder_kinds full.of_holder_kinds i)
-      (map (λ line. line.kind) (lent_cut (count 2) s es lists.sink_lines full.of_sink_lines i))
-      (map (λ line. line.parent) (lent_cut (count 2) s es lists.sink_lines full.of_sink_lines i))
-      (map (λ line. line.source) (lent_cut (count 3) p ep lists.path_lines full.of_path_lines i))
-      (map (λ line. line.sink) (lent_cut (count 3) p ep lists.path_lines full.of_path_lines i))
+      (lent_cut (count 0) h eh lists.holder_kinds holders i)
+      (map (λ line. line.kind) (lent_cut (count 2) s es lists.sink_lines sinks i))
+      (map (λ line. line.parent) (lent_cut (count 2) s es lists.sink_lines sinks i))
+      (map (λ line. line.source) (lent_cut (count 3) p ep lists.path_lines paths i))
+      (map (λ line. line.sink) (lent_cut (count 3) p ep lists.path_lines paths i))
       lists.settings
 
 -- the lists that are kept of a head's lines
 module _ (head : Row) (rest : List ℕ) (lists : BookLists) (e : lists ≡ book_lists_of head rest) where
   abbrev rows : List Row
   rows = rows_of rest
-
-  -- each has its 16 places
-  pub full_lists : FullLists lists
-  unfolding book_lists_of
-  full_lists =
-      record {
-        of_holder_kinds = ap (λ l. length l.holder_kinds) e ∙ as-long _ _;
-        of_sink_lines = ap (λ l. length l.sink_lines) e ∙ as-long _ _;
-        of_path_lines = ap (λ l. length l.path_lines) e ∙ as-long _ _;
-      }
 
   module _ (there : (length (holder_rows head rows) ≡ field 0 head) × (length (sink_rows head rows) ≡ field 2 head) × (length (path_rows head rows) ≡ field 3 head)) where
     abbrev read : Opening
@@ -123,6 +96,7 @@ module _ (head : Row) (rest : List ℕ) (lists : BookLists) (e : lists ≡ book_
     unfolding opening_kept opening_from opening_of_rows book_lists_of sink_line_of path_line_of
     whole-lists fit =
         let small = counts_small read fit in
+        let holders : read.holders ≤ max_places = omega (arith, small.0) in
         ap (opening_kept head) e
         ∙ λ i.
         record {
@@ -130,7 +104,7 @@ module _ (head : Row) (rest : List ℕ) (lists : BookLists) (e : lists ≡ book_
           sources = field 1 head;
           sinks = field 2 head;
           paths = field 3 head;
-          holder_kinds = lines_are_all (field 0) 0 (field 0 head) (holder_rows head rows) there.0 small.0 i;
+          holder_kinds = lines_are_all (field 0) 0 (field 0 head) (holder_rows head rows) there.0 holders i;
           sink_kinds = numbers_are_all sink_line_of (λ line. line.kind) no_sink (field 2 head) (sink_rows head rows) there.1 small.1 i;
           sink_parents = numbers_are_all sink_line_of (λ line. line.parent) no_sink (field 2 head) (sink_rows head rows) there.1 small.1 i;
           path_sources = numbers_are_all path_line_of (λ line. line.source) no_path (field 3 head) (path_rows head rows) there.2 small.2 i;

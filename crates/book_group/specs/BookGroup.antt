@@ -1,6 +1,5 @@
 -- The book group that a script begins with: what it opens, and where the calls begin (01, Script and host; 02, 3/14).
-use Rattle.std.specs.Prelude.{ℕ, ◌+◌, ◌≡◌, cond, List, map, length, take, drop, None, Result, Ok, Err}
-use Rattle.tariff.specs.Sizes.{max_places}
+use Rattle.std.specs.Prelude.{ℕ, ◌+◌, cond, List, map, take, drop, None, Result, Ok, Err}
 use Rattle.ledger.specs.Opening.{Opening}
 use Rattle.records.specs.Opening.{opening_from}
 use Rattle.records.specs.Answers.{Answer}
@@ -15,12 +14,6 @@ use Rattle.lines.specs.Reading.{next_row}
 use Rattle.counted_lines.specs.Counted.{bytes_of_lines}
 use Rattle.book_group.specs.declared.book_group.BookGroup.{BookGroup}
 use Rattle.groups.specs.Groups.{book_readable, opening_of_rows}
-
--- each list has its 16 places
-pub record FullLists (lists : BookLists) : Type 0 where
-  pub of_holder_kinds : length lists.holder_kinds ≡ max_places
-  pub of_sink_lines : length lists.sink_lines ≡ max_places
-  pub of_path_lines : length lists.path_lines ≡ max_places
 
 -- the opening of a head with the lists and the settings that were kept: of each as many as the head counts, or all that there are
 unfoldable pub opening_kept : Row → BookLists → Opening

@@ -6,12 +6,13 @@ use mathlib.Core.List.{List}
 use lib.ListN.{get_or}
 use borrow.Author.Tests.{eq-eqb}
 use Rattle.std.proofs.lemmas.List.{length-map}
-use Rattle.std.specs.Prelude.{Ok, Err}
+use Rattle.std.specs.Prelude.{Result, Ok, Err}
 use Rattle.tariff.specs.Sum.{tabulate, all_below}
 use Rattle.tariff.specs.Settings.{settings_legal}
 use Rattle.tariff.proofs.Tests.{and_join, and_right_false}
 use Rattle.ledger.specs.Opening.{Opening, counts_fit, lists_fit, holder_legal, sink_legal, path_legal, path_new, legal}
 use Rattle.ledger.proofs.LegalFacts.{legal_facts}
+use Rattle.records.specs.declared.refusal.Refusal.{Refusal}
 use Rattle.records.specs.declared.refusal.Refusal.TheVariants.{BreaksRules}
 use Rattle.records.specs.declared.setup.KeptOpening.{KeptOpening}
 use Rattle.records.specs.declared.setup.SinkLine.{SinkLine}
@@ -22,7 +23,7 @@ use Rattle.opening.specs.declared.book_setup.BookSetup.{BookSetup}
 use Rattle.opening.specs.Opened.{opening_asked, opened}
 
 -- an opening whose counts or lists do not fit is not legal
-unfit_counts : (o : Opening) → counts_fit o ≡ false → legal o ≡ false
+pub unfit_counts : (o : Opening) → counts_fit o ≡ false → legal o ≡ false
 unfolding legal
 unfit_counts o e = rw e
 
@@ -95,3 +96,28 @@ module _ (o : Opening) (kept : KeptOpening) (keeps : record kept { bases = path_
     pub opened_refused : (lists && lines) ≡ false → Err BreaksRules ≡ opened o
     unfolding opened
     opened_refused e = sym (ap (λ b. cond b (Ok (kept_opening o)) (Err BreaksRules)) (tested e))
+
+-- what is said of an opening that is kept, and of one that is refused
+pub opened_kept : (o : Opening) (kept : KeptOpening) → Ok kept ≡ opened o → (legal o ≡ true) × (kept ≡ kept_opening o)
+unfolding opened
+opened_kept o kept e = go (legal o) e
+  where
+    of_ok : Result KeptOpening Refusal → KeptOpening
+    of_ok (Ok a) = a
+    of_ok (Err r) = kept
+
+    go : (t : Bool) → Ok kept ≡ cond t (Ok (kept_opening o)) (Err BreaksRules) → (t ≡ true) × (kept ≡ kept_opening o)
+    go true w = (refl, ap of_ok w)
+    go false w = cc
+
+pub opened_not : (o : Opening) (refusal : Refusal) → Err refusal ≡ opened o → (legal o ≡ false) × (refusal ≡ BreaksRules)
+unfolding opened
+opened_not o refusal e = go (legal o) e
+  where
+    of_err : Result KeptOpening Refusal → Refusal
+    of_err (Ok a) = refusal
+    of_err (Err r) = r
+
+    go : (t : Bool) → Err refusal ≡ cond t (Ok (kept_opening o)) (Err BreaksRules) → (t ≡ false) × (refusal ≡ BreaksRules)
+    go true w = cc
+    go false w = (refl, ap of_err w)

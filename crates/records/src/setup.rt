@@ -109,16 +109,22 @@ impl KeptOpening {
         self.paths() <= p
     }
 
+    // The number of a holder's kind.
     #[tactic(auto, unfolding(crate::specs::Opening::opening_in, ledger::specs::Opening::holder_kind))]
+    pub fn holder_number(&self, h: u64) -> u64
+        ensures { result ≡ holder_kind (opening_of self.entry) h }
+    {
+        counted_entry(&self.holder_kinds, self.holders, h, 0)
+    }
+
     pub fn holder_kind(&self, h: u64) -> Option<HolderKind>
         ensures { result ≡ holder_kind_of (holder_kind (opening_of self.entry) h) }
     {
-        let number = counted_entry(&self.holder_kinds, self.holders, h, 0);
-        HolderKind::try_from(number).ok()
+        HolderKind::try_from(self.holder_number(h)).ok()
     }
 
-    // The line of a sink.
-    fn sink_line(&self, s: u64) -> SinkLine
+    // The line of a sink, with the number of its kind.
+    pub fn sink_line(&self, s: u64) -> SinkLine
         ensures kind { result.kind ≡ sink_kind (opening_of self.entry) s }
         ensures base { result.parent ≡ base (opening_of self.entry) s }
     {
