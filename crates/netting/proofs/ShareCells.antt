@@ -1,19 +1,31 @@
 -- The shares of a column, cell by cell, and the transfer of a column, holder by holder. Assumes nothing.
-use Prim.Native.Nat.{ℕ, ◌+◌, ◌-◌, ◌*◌, ◌/◌, ◌%◌, ◌^◌, ◌≤◌, ◌<◌}
+use Prim.Native.Nat.{ℕ, zero, suc, ◌+◌, ◌-◌, ◌*◌, ◌/◌, ◌%◌, ◌^◌, ◌≤◌, ◌<◌}
 use mathlib.Core.Path.{◌≡◌, refl, sym, ap, ◌∙◌, subst}
 use mathlib.Core.Bool.{cond}
-use mathlib.Core.List.{List}
+use mathlib.Core.List.{List, map}
 use native.Mathlib.Nat.{div-zero, mul-zero, zero-div, le_trans, le_of_eq, lt_of_le_of_lt}
+use native.Mathlib.Numerals.{add-one}
 use native.Mathlib.Omega.{arith}
+use Rattle.std.specs.List.{sum, range_with_len}
+use Rattle.std.proofs.lemmas.List.FromFn.{sum_by-map-range_with_len_more}
 use lib.ListN.{get_or}
 use borrow.Author.Tests.{lt-ltb, le-ltb}
 use Rattle.tariff.specs.Sum.{sum_to, tabulate}
 use Rattle.netting.specs.Migration.{share, shares, transferred}
 use Rattle.netting.specs.Netting.{pair_at, holder_at, pair_cells, column_cells, ProductsFit, PartsFit, share_cells, transferred_entry, transferred_cells}
-use Rattle.tariff.proofs.Sums.{sum_ext, sum_le, term_le_sum}
+use Rattle.tariff.proofs.Sums.{sum_le, term_le_sum}
 use Rattle.tariff.proofs.Lists.{length_tabulate, at_tabulate, list_is}
 use Rattle.netting.proofs.Pairs.{cell_of_pair}
 use Rattle.netting.proofs.Transfers.{transfer_sum}
+
+-- what an iterator adds up over the numbers below a count
+pub sum_range : (f : ℕ → ℕ) (n : ℕ) → sum (map f (range_with_len 0 n)) ≡ sum_to n f
+unfolding sum_to
+sum_range f zero = refl
+sum_range f (suc n) =
+    ap (λ k. sum (map f (range_with_len 0 k))) (sym (add-one n))
+    ∙ sum_by-map-range_with_len_more (λ x. x) f 0 n n (omega arith)
+    ∙ ap (λ s. s + f n) (sum_range f n)
 
 -- of no load nothing goes
 pub share_none : (v m load : ℕ) → load ≡ 0 → 0 ≡ share v m load
@@ -37,15 +49,6 @@ share_cells_lem column m load =
 pub product_fits : (column m : List ℕ) → ProductsFit column m → (k : ℕ) → k < 64 → get_or column (k / 8) 0 * get_or m k 0 < 2 ^ 64
 unfolding holder_at
 product_fits column m fits k l = subst (λ x. get_or column (k / 8) 0 * x < 2 ^ 64) (cell_of_pair m k) (fits (k / 8) (k % 8) (omega arith) (omega arith))
-
--- where the parts stand that a holder gives, and those that it gets
-pub given_sum : (parts : List ℕ) (holder n : ℕ) → sum_to n (λ j. get_or parts (holder * 8 + j * 1) 0) ≡ sum_to n (λ j. pair_at parts holder j)
-unfolding pair_at
-given_sum parts holder n = sum_ext n (λ j l. ap (λ k. get_or parts k 0) (let e : holder * 8 + j * 1 ≡ holder * 8 + j = omega arith in e))
-
-pub gained_sum : (parts : List ℕ) (holder n : ℕ) → sum_to n (λ j. get_or parts (holder + j * 8) 0) ≡ sum_to n (λ j. pair_at parts j holder)
-unfolding pair_at
-gained_sum parts holder n = sum_ext n (λ j l. ap (λ k. get_or parts k 0) (let e : holder + j * 8 ≡ j * 8 + holder = omega arith in e))
 
 module _ (n : ℕ) (column parts : List ℕ) where
   -- the entries are those of the column

@@ -1,5 +1,5 @@
 // The shares of records that a migration moves, and the columns after they have moved (01, Migration).
-ghost use Rattle.std.specs.Prelude.{◌≡◌, ℕ, ◌+◌, ◌*◌, ◌^◌, ◌<◌, ◌≤◌, length, slice_index};
+ghost use Rattle.std.specs.Prelude.{◌≡◌, ℕ, ◌+◌, ◌*◌, ◌^◌, ◌<◌, ◌≤◌, slice_index};
 ghost use Rattle.tariff.specs.Sizes.{max_holders, holder_pairs};
 ghost use Rattle.tariff.specs.Sum.{sum_to};
 ghost use Rattle.netting.specs.Migration.{share};
@@ -33,37 +33,25 @@ pub fn shares_of(
     })
 }
 
-// The sum of n parts, from the first on and so many places apart.
-fn sum_of_parts(parts: &[u64], first: usize, apart: usize, n: usize) -> u64
-    requires { ((j : ℕ) → j < n → first + j * apart < length parts.now) × (sum_to n (λ j. slice_index parts.now (first + j * apart)) < 2 ^ 64) }
-    ensures { result ≡ sum_to n (λ j. slice_index parts.now (first + j * apart)) }
-{
-    let mut sum = 0;
-    for j in 0..n {
-        sum += parts[first + j * apart];
-    }
-    sum
-}
-
 // What one holder gives to the first n.
-pub fn given_by(parts: &[u64], holder: usize, n: usize) -> u64
-    requires { (length parts.now ≡ holder_pairs) × (holder < max_holders) × (n ≤ max_holders) × (sum_to n (λ j. pair_at parts.now holder j) < 2 ^ 64) }
+pub fn given_by(parts: &[u64; HOLDER_PAIRS], holder: usize, n: usize) -> u64
+    requires { (holder < max_holders) × (n ≤ max_holders) × (sum_to n (λ j. pair_at parts.now holder j) < 2 ^ 64) }
     ensures { result ≡ sum_to n (λ j. pair_at parts.now holder j) }
 {
-    sum_of_parts(parts, holder * MAX_HOLDERS, 1, n)
+    (0..n).map(|j| parts[holder * MAX_HOLDERS + j]).sum()
 }
 
 // What one holder gets from the first n.
-fn gained_by(parts: &[u64], holder: usize, n: usize) -> u64
-    requires { (length parts.now ≡ holder_pairs) × (holder < max_holders) × (n ≤ max_holders) × (sum_to n (λ j. pair_at parts.now j holder) < 2 ^ 64) }
+fn gained_by(parts: &[u64; HOLDER_PAIRS], holder: usize, n: usize) -> u64
+    requires { (holder < max_holders) × (n ≤ max_holders) × (sum_to n (λ j. pair_at parts.now j holder) < 2 ^ 64) }
     ensures { result ≡ sum_to n (λ j. pair_at parts.now j holder) }
 {
-    sum_of_parts(parts, holder, MAX_HOLDERS, n)
+    (0..n).map(|j| parts[j * MAX_HOLDERS + holder]).sum()
 }
 
 // What a holder has after the parts were transferred between the first n: one past them has what it had.
-fn entry_after(column: &[u64; MAX_HOLDERS], parts: &[u64], n: usize, i: usize) -> u64
-    requires { (length parts.now ≡ holder_pairs) × PartsFit n column.now parts.now × (i < max_holders) }
+fn entry_after(column: &[u64; MAX_HOLDERS], parts: &[u64; HOLDER_PAIRS], n: usize, i: usize) -> u64
+    requires { PartsFit n column.now parts.now × (i < max_holders) }
     ensures { result ≡ transferred_entry n column.now parts.now i }
 {
     if n <= i {
@@ -73,8 +61,12 @@ fn entry_after(column: &[u64; MAX_HOLDERS], parts: &[u64], n: usize, i: usize) -
 }
 
 // The column after the parts were transferred between the first n holders.
-pub fn transferred_column(column: [u64; MAX_HOLDERS], parts: &[u64], n: usize) -> [u64; MAX_HOLDERS]
-    requires { (length parts.now ≡ holder_pairs) × PartsFit n column parts.now }
+pub fn transferred_column(
+    column: [u64; MAX_HOLDERS],
+    parts: &[u64; HOLDER_PAIRS],
+    n: usize,
+) -> [u64; MAX_HOLDERS]
+    requires { PartsFit n column parts.now }
     ensures { result ≡ transferred_cells n column parts.now }
 {
     std::array::from_fn(|i| entry_after(&column, parts, n, i))

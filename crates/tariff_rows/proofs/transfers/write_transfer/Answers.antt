@@ -6,4 +6,4 @@ use Rattle.tariff_rows.proofs.transfers.write_transfer.Goals as goal
 pub transferred_column-after-requires : goal.transferred_column-after-requires
 transferred_column-after-requires g c =
     let a = c.args in
-    (search rules, parts_fit a.column a.m a.load c.shares_of-parts.result (search rules) (c.moderate.ensures.0 c.if-moderate.true) (c.within_load.ensures.0 c.if-within_load.true) c.shares_of-parts.ensures)
+    parts_fit a.column a.m a.load c.shares_of-parts.result (search rules) (c.moderate.ensures.0 c.if-moderate.true) (c.within_load.ensures.0 c.if-within_load.true) c.shares_of-parts.ensures

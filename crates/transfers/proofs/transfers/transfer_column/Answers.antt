@@ -11,7 +11,7 @@ pub shares_of-parts-requires : goal.shares_of-parts-requires
 shares_of-parts-requires c = products_fit _ c.requires.1 _ (column_fits _ c.requires.1 _ _ _ _ c.column_at-column.ensures c.requires.2)
 
 pub transferred_column-next-requires : goal.transferred_column-next-requires
-transferred_column-next-requires c = (search rules, parts_fit _ c.requires.1 _ _ (column_fits _ c.requires.1 _ _ _ _ c.column_at-column.ensures c.requires.2) c.shares_of-parts.ensures)
+transferred_column-next-requires c = parts_fit _ c.requires.1 _ _ (column_fits _ c.requires.1 _ _ _ _ c.column_at-column.ensures c.requires.2) c.shares_of-parts.ensures
 
 pub returns : goal.returns
 returns c =
