@@ -1,16 +1,29 @@
 -- Class lines that are fit to be netted: the tests, and what they show. Assumes nothing.
-use Prim.Native.Nat.{ℕ}
-use mathlib.Core.Path.{◌≡◌}
+use Prim.Native.Nat.{ℕ, zero, suc}
+use mathlib.Core.Path.{◌≡◌, refl, sym, ap, ◌∙◌}
 use mathlib.Core.Bool.{Bool, true, ◌&&◌}
-use mathlib.Core.List.{List}
+use mathlib.Core.List.{List, [], ◌∷◌, ◌++◌, map}
+use native.Mathlib.Numerals.{add-one}
+use native.Mathlib.Omega.{arith}
 use lib.ListN.{length}
 use lib.Dec.{leb, eqb}
 use borrow.Author.Tests.{eq-eqb, eqb-true}
+use Rattle.std.specs.List.{list_any, range_with_len}
+use Rattle.std.proofs.lemmas.List.FromFn.{map-range_with_len_more}
 use Rattle.netting.specs.declared.netting.ClassLine.{ClassLine}
-use Rattle.tariff.specs.Sum.{any_below, any_of}
+use Rattle.tariff.specs.Sum.{any_below, any_of, tabulate}
 use Rattle.netting.specs.Netting.{same_counts, SameLengths, class_line_at, class_lines_of, unfit_line}
 use Rattle.tariff.proofs.Tests.{and_join, and_both}
-use Rattle.tariff.proofs.Lists.{any_tabulate}
+use Rattle.tariff.proofs.Lists.{any_tabulate, any_is}
+
+-- a list given by its entries, as an iterator gives it
+mapped_range : {A : Type 0} (n : ℕ) (f : ℕ → A) → map f (range_with_len 0 n) ≡ tabulate n f
+unfolding tabulate
+mapped_range zero f = refl
+mapped_range (suc n) f =
+    ap (λ k. map f (range_with_len 0 k)) (sym (add-one n))
+    ∙ map-range_with_len_more f 0 n n (omega arith)
+    ∙ ap (λ xs. xs ++ (f n ∷ [])) (mapped_range n f)
 
 module _ (froms tos classes customers watts : List ℕ) where
   -- the test on the lines, line by line
@@ -21,6 +34,13 @@ module _ (froms tos classes customers watts : List ℕ) where
   pub any_line : (passes : ClassLine → Bool) → any_of (class_lines_of froms tos classes customers watts) passes ≡ any_below (length froms) (λ k. passes (class_line_at froms tos classes customers watts k))
   unfolding class_lines_of
   any_line passes = any_tabulate (length froms) (class_line_at froms tos classes customers watts) passes
+
+  -- and where the lines that an iterator gives have one that does
+  pub found_line : (passes : ClassLine → Bool) → list_any passes (map (class_line_at froms tos classes customers watts) (range_with_len 0 (length froms))) ≡ any_of (class_lines_of froms tos classes customers watts) passes
+  unfolding class_lines_of
+  found_line passes =
+      sym (any_is passes (map (class_line_at froms tos classes customers watts) (range_with_len 0 (length froms))))
+      ∙ ap (λ lines. any_of lines passes) (mapped_range (length froms) (class_line_at froms tos classes customers watts))
 
   -- the tests on the lengths
   abbrev pub length_tests : Bool

@@ -136,12 +136,9 @@ impl<'a> ClassLines<'a> {
         requires { F.IsAlwaysCallable test }
         ensures { (passes : ClassLine → Bool) → ((line : ClassLine) (r : Bool) → F.post test line r → r ≡ passes line) → result ≡ any_of (lines_in self.entry.columns) passes }
     {
-        for k in 0..self.columns.froms.len() {
-            if test(self.line(k)) {
-                return true;
-            }
-        }
-        false
+        (0..self.columns.froms.len())
+            .map(|k| self.line(k))
+            .any(test)
     }
 
     // Whether the lines can be netted: at most 64, and no line unfit.
@@ -159,9 +156,9 @@ impl<'a> ClassLines<'a> {
     {
         let mut cells = [0u64; HOLDER_PAIRS];
         for k in 0..self.columns.froms.len() {
-            let line = line_watts(self.columns.customers[k], self.columns.watts[k]);
-            let pair = (self.columns.froms[k] * MAX_HOLDERS as u64 + self.columns.tos[k]) as usize;
-            cells[pair] += line;
+            let line = self.line(k);
+            let pair = (line.from * MAX_HOLDERS as u64 + line.to) as usize;
+            cells[pair] += line_watts(line.customers, line.watts);
         }
         cells
     }

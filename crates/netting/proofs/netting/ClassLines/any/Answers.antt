@@ -1,29 +1,16 @@
--- `netting::netting::ClassLines::any` meets its contract: no line passed so far passes the test, and the first that does ends the search. Assumes nothing.
-use Rattle.std.proofs.Common.{◌≡◌, length, refl, sym, ap, ◌∙◌, arith}
-use Rattle.tariff.specs.Sum.{any_below}
-use Rattle.tariff.proofs.Tests.{none_more, any_at}
+-- `netting::netting::ClassLines::any` meets its contract: the iterator gives the lines. Assumes nothing.
+use Rattle.std.proofs.Common.{length, refl, ◌∙◌, rules, arith}
+use Rattle.std.proofs.lemmas.Iterator.{YieldsList-from_map, YieldsList-from_range}
+use Rattle.std.proofs.lemmas.Iterator.Consumers.{YieldsList-at}
+use Rattle.std.proofs.lemmas.Iterator.Search.{any_from_yields_List}
 use Rattle.netting.specs.Columns.{line_in}
-use Rattle.netting.proofs.FitLines.{any_line}
+use Rattle.netting.proofs.FitLines.{found_line}
 use Rattle.netting.proofs.netting.ClassLines.any.Goals as goal
-
-pub loop-k-init : goal.loop-k-init
-unfolding any_below
-loop-k-init g c = λ passes is. refl
-
-pub returns-then-test : goal.returns-then-test
-returns-then-test g c =
-    λ passes is.
-    let here = is c.line.result c.test.result c.test.ensures in
-    sym (any_line _ _ _ _ _ passes ∙ any_at _ _ c.loop-k.k c.loop-k-test.true (ap passes (sym c.line.ensures) ∙ sym here ∙ c.if-test.true))
-
-pub loop-k-preserved : goal.loop-k-preserved
-loop-k-preserved g c =
-    λ passes is.
-    let here = is c.line.result c.test.result c.test.ensures in
-    none_more _ _ (c.loop-k.invariant passes is) (ap passes (sym c.line.ensures) ∙ sym here ∙ c.if-test.false)
 
 pub returns : goal.returns
 returns g c =
     λ passes is.
-    let same : length c.args.self.columns.froms.now ≡ c.loop-k.k = omega arith in
-    sym (any_line _ _ _ _ _ passes ∙ ap (λ n. any_below n (λ j. passes (line_in c.args.self.columns j))) same ∙ c.loop-k.invariant passes is)
+    let columns = c.args.self.columns in
+    let n = length columns.froms.now in
+    any_from_yields_List passes _ _ _ c.any.ensures.ran (YieldsList-from_map _ (line_in columns) (YieldsList-at c.map.ensures.source (YieldsList-from_range 0 n n refl (omega arith))) c.map.ensures.closure (λ k line q called. search rules)) (λ line b q called. (g.met.F.Fn.1.step_stays _ _ _ _ called, is line b ((g.met.F.FnMut.1.post_iff _ _ _).1 (q, called))))
+    ∙ found_line _ _ _ _ _ passes
