@@ -130,7 +130,8 @@ module _ (o : KeptOpening) (f : List ℕ) (m : List Bool) (e : List Entry) (r : 
           together p slot (λ i. L.rights.awarded i p (slot + 1 - awarded_slot)) max_figure (λ i k. ap (read_at figure_slots 0 f i p) (let s : slot ≡ awarded_slot + (slot + 1 - awarded_slot - 1) = omega arith in s) ∙ by_number f awarded_slot last_month i p (slot + 1 - awarded_slot) k place 1 (omega arith) (omega arith)) (awarded-sum p (slot + 1 - awarded_slot)) (omega arith)
 
   -- the loads are transferred, and the rights are as they were
-  pub rights_fit : (next : List ℕ) → ColumnTransfer (column_where (load_at term sink) (load_column x)) f next → RightsFit o next term sink x
+  pub rights_fit : (next : List ℕ) → ColumnTransfer (column_where (load_at term sink) (load_column x)) f next → RightsFit o next x
+  unfolding transfer_of
   rights_fit next a p place =
       record {
         bases = bases_known o f m e r;

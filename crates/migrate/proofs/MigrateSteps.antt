@@ -158,21 +158,23 @@ module _ (o : KeptOpening) (f : List ℕ) (term sink : ℕ) (columns : ClassColu
             facts : MigrateFacts O L term sink lines
             facts = migrate_facts O L term sink lines (accepted_test O L (migrate term sink lines) unrefused)
 
-            pub load_needs : HasColumn sink (load_slot + term) × LossesWithinLoads y × (y.load ≡ column_at f sink (load_slot + term))
+            pub load_needs : HasColumn y.sink (load_slot + y.term) × LossesWithinLoads y × (y.load ≡ column_at f y.sink (load_slot + y.term))
             unfolding transfer_of
-            load_needs = (load_there, subst LossesWithinLoads (sym is) (covered o f m e reach term sink _ _ _ _ _ these.same_lengths facts), ap (λ z. z.load) is)
+            load_needs = subst (λ z. HasColumn z.sink (load_slot + z.term) × LossesWithinLoads z × (z.load ≡ column_at f z.sink (load_slot + z.term))) (sym is) (load_there, covered o f m e reach term sink _ _ _ _ _ these.same_lengths facts, refl)
 
-            pub rights_needs : (one : List ℕ) → ColumnTransfer (column_where (load_at term sink) (load_column y)) f one → RightsFit o one term sink y
-            rights_needs one a = subst (RightsFit o one term sink) (sym is) (rights_fit o f m e reach term sink _ _ _ _ _ these.same_lengths facts one (subst (λ z. ColumnTransfer (column_where (load_at term sink) (load_column z)) f one) is a))
+            pub rights_needs : (one : List ℕ) → ColumnTransfer (column_where (load_at y.term y.sink) (load_column y)) f one → RightsFit o one y
+            unfolding transfer_of
+            rights_needs one = subst (λ z. ColumnTransfer (column_where (load_at z.term z.sink) (load_column z)) f one → RightsFit o one z) (sym is) (rights_fit o f m e reach term sink _ _ _ _ _ these.same_lengths facts one)
 
             stay : (posted_of L ≡ posted_of (effect O L (migrate term sink lines))) × (evidence_of L ≡ evidence_of (effect O L (migrate term sink lines)))
             unfolding posted_of posted_groups evidence_of evidence_groups effect migrated loads_after rights_after priors_after
             stay = (refl, refl)
 
-            pub migrated_steps : (one two : List ℕ) → ColumnTransfer (column_where (load_at term sink) (load_column y)) f one → ColumnTransfer (column_where (moves_at O term sink) (share_column y)) one two → Outcome (Ok tt) two
+            pub migrated_steps : (one two : List ℕ) → ColumnTransfer (column_where (load_at y.term y.sink) (load_column y)) f one → ColumnTransfer (column_where (moves_at O y.term y.sink) (share_column y)) one two → Outcome (Ok tt) two
+            unfolding transfer_of
             migrated_steps one two a b =
                 outcome (Ok tt) two
                 (steps_accepted O L (migrate term sink lines) unrefused two m e
-                (figures_migrated o f m e reach term sink _ _ _ _ _ these.same_lengths facts one two (subst (λ z. ColumnTransfer (column_where (load_at term sink) (load_column z)) f one) is a) (subst (λ z. ColumnTransfer (column_where (moves_at O term sink) (share_column z)) one two) is b))
+                (figures_migrated o f m e reach term sink _ _ _ _ _ these.same_lengths facts one two (subst (λ z. ColumnTransfer (column_where (load_at z.term z.sink) (load_column z)) f one) is a) (subst (λ z. ColumnTransfer (column_where (moves_at O z.term z.sink) (share_column z)) one two) is b))
                 (posted_known o f m e reach ∙ stay.0)
                 (evidence_known o f m e reach ∙ stay.1))

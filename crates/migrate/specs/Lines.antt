@@ -18,6 +18,8 @@ early_causes = 4
 unfoldable pub transfer_of : KeptOpening → List ℕ → ℕ → ℕ → List ℕ → List ℕ → List ℕ → List ℕ → List ℕ → Transfer
 transfer_of o f term sink froms tos classes customers watts =
     record {
+      term = term;
+      sink = sink;
       m = unwrap_or (netting_of froms tos classes customers watts) (replicate holder_pairs 0);
       load = column_at f sink (load_slot + term);
       holders = (opening_in o).holders;

@@ -78,6 +78,8 @@ fn transfer_of(o: &KeptOpening, f: &Figures, term: u64, sink: u64, lines: ClassL
     let netting = lines.net();
     let load = column_at(f, sink, LOAD_SLOT + term);
     Transfer {
+        term,
+        sink,
         m: netting.unwrap_or([0; HOLDER_PAIRS]),
         load,
         holders: o.holders(),
@@ -103,7 +105,7 @@ pub fn migrate(
     if loss_exceeds_load(x) {
         return Err(Refusal::LossAboveLoad);
     }
-    transfer_load(f, term, sink, x);
-    transfer_rights(f, o, term, sink, x);
+    transfer_load(f, x);
+    transfer_rights(f, o, x);
     Ok(())
 }

@@ -91,22 +91,22 @@ module _ (term p : ℕ) where
           go q j (inr e) = and_right_false (eqb (path_base o q) sink && slot_moves term j) e
 
 -- what the loops ask of the next slot, and of the next path
-pub next_slot_fits : (o : KeptOpening) (f f' : List ℕ) (term sink p slot base : ℕ) (x : Transfer) → PathFits o f term sink x p → base ≡ path_base (opening_in o) p → base ≡ sink → slot < nominated_slot → length f ≡ figure_count → ColumnTransfer (column_where (below (share_column x) (on_path term p) (slot_number term p) slot) (share_column x)) f f' → SlotFits f' term p slot x
+pub next_slot_fits : (o : KeptOpening) (f f' : List ℕ) (p slot base : ℕ) (x : Transfer) → PathFits o f x p → base ≡ path_base (opening_in o) p → base ≡ x.sink → slot < nominated_slot → length f ≡ figure_count → ColumnTransfer (column_where (below (share_column x) (on_path x.term p) (slot_number x.term p) slot) (share_column x)) f f' → SlotFits f' p slot x
 unfolding moves_at has_base
-next_slot_fits o f f' term sink p slot base x k is at l long a =
+next_slot_fits o f f' p slot base x k is at l long a =
     record {
       column = record { place = k.place; in_row = omega arith };
       in_term = k.in_term;
       covered = k.covered;
-      fits = λ on. still_fits x (on_path term p) (slot_number term p) slot f f' p slot long k.covered.few k.place (omega arith) (le_refl slot) a (k.fits slot l (and_join (eq-eqb (path_base (opening_in o) p) sink (sym is ∙ at)) on));
+      fits = λ on. still_fits x (on_path x.term p) (slot_number x.term p) slot f f' p slot long k.covered.few k.place (omega arith) (le_refl slot) a (k.fits slot l (and_join (eq-eqb (path_base (opening_in o) p) x.sink (sym is ∙ at)) on));
     }
 
-pub next_path_fits : (o : KeptOpening) (f f' : List ℕ) (term sink p : ℕ) (x : Transfer) → PathFits o f term sink x p → length f ≡ figure_count → ColumnTransfer (column_where (below (share_column x) (moves_at (opening_in o) term sink) path_number p) (share_column x)) f f' → PathFits o f' term sink x p
-next_path_fits o f f' term sink p x k long a =
+pub next_path_fits : (o : KeptOpening) (f f' : List ℕ) (p : ℕ) (x : Transfer) → PathFits o f x p → length f ≡ figure_count → ColumnTransfer (column_where (below (share_column x) (moves_at (opening_in o) x.term x.sink) path_number p) (share_column x)) f f' → PathFits o f' x p
+next_path_fits o f f' p x k long a =
     record {
       bases = k.bases;
       in_term = k.in_term;
       covered = k.covered;
       place = k.place;
-      fits = λ slot l on. still_fits x (moves_at (opening_in o) term sink) path_number p f f' p slot long k.covered.few k.place (omega arith) (le_refl p) a (k.fits slot l on);
+      fits = λ slot l on. still_fits x (moves_at (opening_in o) x.term x.sink) path_number p f f' p slot long k.covered.few k.place (omega arith) (le_refl p) a (k.fits slot l on);
     }

@@ -49,20 +49,20 @@ abbrev pub ColumnFits : Transfer → (ℕ → ℕ) → Type 0
 ColumnFits x v = sum_to x.holders v ≤ max_figure
 
 -- a slot of a path whose column fits, if a migration moves it
-pub record SlotFits (f : List ℕ) (term p slot : ℕ) (x : Transfer) : Type 0 where
+pub record SlotFits (f : List ℕ) (p slot : ℕ) (x : Transfer) : Type 0 where
   pub column : HasColumn p slot
-  pub in_term : term ≤ last_term
+  pub in_term : x.term ≤ last_term
   pub covered : LossesWithinLoads x
-  pub fits : slot_moves term slot ≡ true → ColumnFits x (in_column f p slot)
+  pub fits : slot_moves x.term slot ≡ true → ColumnFits x (in_column f p slot)
 
 -- a path of which the rights and allocations can move
-pub record PathFits (o : KeptOpening) (f : List ℕ) (term sink : ℕ) (x : Transfer) (p : ℕ) : Type 0 where
+pub record PathFits (o : KeptOpening) (f : List ℕ) (x : Transfer) (p : ℕ) : Type 0 where
   pub bases : KeepsBases o
-  pub in_term : term ≤ last_term
+  pub in_term : x.term ≤ last_term
   pub covered : LossesWithinLoads x
   pub place : p < max_places
-  pub fits : (slot : ℕ) → slot < nominated_slot → moves_at (opening_in o) term sink p slot ≡ true → ColumnFits x (in_column f p slot)
+  pub fits : (slot : ℕ) → slot < nominated_slot → moves_at (opening_in o) x.term x.sink p slot ≡ true → ColumnFits x (in_column f p slot)
 
 -- and every path
-abbrev pub RightsFit : (o : KeptOpening) (f : List ℕ) (term sink : ℕ) → Transfer → Type 0
-RightsFit o f term sink x = (p : ℕ) → p < max_places → PathFits o f term sink x p
+abbrev pub RightsFit : KeptOpening → List ℕ → Transfer → Type 0
+RightsFit o f x = (p : ℕ) → p < max_places → PathFits o f x p

@@ -14,10 +14,12 @@ use slots::layout::{
 };
 use tariff::sizes::{HOLDER_PAIRS, MAX_HOLDERS, MAX_PLACES};
 
-// What a migration transfers: the kW from holder i to holder j at i * 8 + j, each holder's load at the sink and term before it,
+// What a migration transfers at a term and sink: the kW from holder i to holder j at i * 8 + j, each holder's load there before it,
 // and how many holders there are.
 #[derive(Clone, Copy)]
 pub struct Transfer {
+    pub term: u64,
+    pub sink: u64,
     pub m: [u64; HOLDER_PAIRS],
     pub load: [u64; MAX_HOLDERS],
     pub holders: u64,
@@ -36,8 +38,8 @@ fn store_column(f: &mut Figures, p: u64, slot: u64, column: [u64; MAX_HOLDERS])
     requires { HasColumn p slot }
     ensures { f.new ≡ column_stored f.old p slot column max_holders }
 {
-    for h in 0..MAX_HOLDERS {
-        store(f, h as u64, p, slot, column[h]);
+    for (h, &v) in column.iter().enumerate() {
+        store(f, h as u64, p, slot, v);
     }
 }
 
@@ -76,44 +78,44 @@ fn slot_moves(term: u64, slot: u64) -> bool
 }
 
 // Transfers the shares of one slot of a path, if it is one that moves.
-fn transfer_slot(f: &mut Figures, term: u64, p: u64, slot: u64, x: Transfer)
-    requires { SlotFits f.old term p slot x }
-    ensures { ColumnTransfer (column_where (λ q j. (eqb q p && slot_moves term j) && eqb j slot) (share_column x)) f.old f.new }
+fn transfer_slot(f: &mut Figures, p: u64, slot: u64, x: Transfer)
+    requires { SlotFits f.old p slot x }
+    ensures { ColumnTransfer (column_where (λ q j. (eqb q p && slot_moves x.term j) && eqb j slot) (share_column x)) f.old f.new }
 {
-    if !slot_moves(term, slot) {
+    if !slot_moves(x.term, slot) {
         return;
     }
     transfer_column(f, p, slot, x);
 }
 
 // Transfers the shares of a path's slots, if its sink has this base. The slots that can move stand side by side: prior's, carried and awarded holdings.
-fn transfer_path(f: &mut Figures, o: &KeptOpening, term: u64, sink: u64, p: u64, x: Transfer)
-    requires { PathFits o.now f.old term sink x p }
-    ensures { ColumnTransfer (column_where (λ q j. moves_at (opening_of o.entry) term sink q j && eqb q p) (share_column x)) f.old f.new }
+fn transfer_path(f: &mut Figures, o: &KeptOpening, p: u64, x: Transfer)
+    requires { PathFits o.now f.old x p }
+    ensures { ColumnTransfer (column_where (λ q j. moves_at (opening_of o.entry) x.term x.sink q j && eqb q p) (share_column x)) f.old f.new }
 {
-    if o.path_base(p) != sink {
+    if o.path_base(p) != x.sink {
         return;
     }
     for slot in PRIOR_ALLOCATED_SLOT..NOMINATED_SLOT {
-        transfer_slot(f, term, p, slot, x);
+        transfer_slot(f, p, slot, x);
     }
 }
 
 // Transfers the shares of every slot that moves, path by path.
-pub fn transfer_rights(f: &mut Figures, o: &KeptOpening, term: u64, sink: u64, x: Transfer)
-    requires { RightsFit o.now f.old term sink x }
-    ensures { ColumnTransfer (column_where (moves_at (opening_of o.entry) term sink) (share_column x)) f.old f.new }
+pub fn transfer_rights(f: &mut Figures, o: &KeptOpening, x: Transfer)
+    requires { RightsFit o.now f.old x }
+    ensures { ColumnTransfer (column_where (moves_at (opening_of o.entry) x.term x.sink) (share_column x)) f.old f.new }
 {
     for p in 0..MAX_PLACES as u64 {
-        transfer_path(f, o, term, sink, p, x);
+        transfer_path(f, o, p, x);
     }
 }
 
 // Transfers the load m of each pair at the sink and term.
-pub fn transfer_load(f: &mut Figures, term: u64, sink: u64, x: Transfer)
-    requires { HasColumn sink (load_slot + term) × LossesWithinLoads x × (x.load ≡ column_at f.old sink (load_slot + term)) }
-    ensures { ColumnTransfer (column_where (load_at term sink) (load_column x)) f.old f.new }
+pub fn transfer_load(f: &mut Figures, x: Transfer)
+    requires { HasColumn x.sink (load_slot + x.term) × LossesWithinLoads x × (x.load ≡ column_at f.old x.sink (load_slot + x.term)) }
+    ensures { ColumnTransfer (column_where (load_at x.term x.sink) (load_column x)) f.old f.new }
 {
     let next = transferred_column(x.load, &x.m, x.holders as usize);
-    store_column(f, sink, LOAD_SLOT + term, next);
+    store_column(f, x.sink, LOAD_SLOT + x.term, next);
 }

@@ -6,4 +6,4 @@ use Rattle.migrate.proofs.migrate.transfer_of.Goals as goal
 
 pub returns : goal.returns
 unfolding transfer_of
-returns c = λ i. record { m = (c.unwrap_or.ensures ∙ ap (λ n. unwrap_or n (replicate 64 0)) c.net-netting.ensures) i; load = c.column_at-load.ensures i; holders = c.holders.ensures i }
+returns c = λ i. record { term = c.args.term; sink = c.args.sink; m = (c.unwrap_or.ensures ∙ ap (λ n. unwrap_or n (replicate 64 0)) c.net-netting.ensures) i; load = c.column_at-load.ensures i; holders = c.holders.ensures i }

@@ -9,6 +9,4 @@ unfolding column_stored
 loop-h-init c = refl
 
 pub loop-h-preserved : goal.loop-h-preserved
-loop-h-preserved c =
-    let here = c.loop-h-test.true in
-    stored_more _ _ _ _ _ _ _ _ c.loop-h.invariant refl c.store.ensures
+loop-h-preserved c = stored_more _ _ _ _ _ _ _ _ c.loop-h.invariant refl c.store.ensures

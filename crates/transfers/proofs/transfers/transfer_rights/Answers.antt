@@ -11,18 +11,18 @@ use Rattle.transfers.proofs.transfers.transfer_rights.Goals as goal
 pub loop-p-init : goal.loop-p-init
 loop-p-init c =
     let args = c.args in
-    none_yet (share_column args.x) (moves_at (opening_in args.o.now) args.term args.sink) path_number 0 args.f.now (λ p slot on. zero-le)
+    none_yet (share_column args.x) (moves_at (opening_in args.o.now) args.x.term args.x.sink) path_number 0 args.f.now (λ p slot on. zero-le)
 
 pub transfer_path-requires : goal.transfer_path-requires
-transfer_path-requires c = next_path_fits _ _ _ _ _ _ _ (c.requires _ c.loop-p-test.true) (search rules) c.loop-p.invariant
+transfer_path-requires c = next_path_fits _ _ _ _ _ (c.requires _ c.loop-p-test.true) (search rules) c.loop-p.invariant
 
 pub loop-p-preserved : goal.loop-p-preserved
 loop-p-preserved c =
     let args = c.args in
     let in-book = c.loop-p-test.true in
-    one_more (share_column args.x) (moves_at (opening_in args.o.now) args.term args.sink) path_number c.loop-p.p _ _ _ c.loop-p.invariant c.transfer_path.ensures
+    one_more (share_column args.x) (moves_at (opening_in args.o.now) args.x.term args.x.sink) path_number c.loop-p.p _ _ _ c.loop-p.invariant c.transfer_path.ensures
 
 pub returns : goal.returns
 returns c =
     let args = c.args in
-    all_moved (share_column args.x) (moves_at (opening_in args.o.now) args.term args.sink) path_number c.loop-p.p _ _ (λ p slot l on. le_trans l c.loop-p-test.false) c.loop-p.invariant
+    all_moved (share_column args.x) (moves_at (opening_in args.o.now) args.x.term args.x.sink) path_number c.loop-p.p _ _ (λ p slot l on. le_trans l c.loop-p-test.false) c.loop-p.invariant

@@ -7,4 +7,4 @@ use Rattle.transfers.proofs.PathTransfers.{path_number}
 use Rattle.transfers.proofs.transfers.transfer_rights.Given as goal
 
 abbrev pub invariant-loop-p : goal.invariant-loop-p
-invariant-loop-p l = ColumnTransfer (column_where (below (share_column l.x) (moves_at (opening_in l.o) l.term l.sink) path_number l.p) (share_column l.x)) l.initial.f l.f
+invariant-loop-p l = ColumnTransfer (column_where (below (share_column l.x) (moves_at (opening_in l.o) l.x.term l.x.sink) path_number l.p) (share_column l.x)) l.initial.f l.f
