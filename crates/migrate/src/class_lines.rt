@@ -51,9 +51,7 @@ fn taken_apart(lines: &[ClassLine]) -> Columns
 fn any_line_unknown(o: &KeptOpening, lines: &[ClassLine]) -> bool
     ensures { result ≡ unknown_holder_in (opening_of o.entry) lines.now }
 {
-    lines
-        .iter()
-        .any(|line| names_unknown(o, line.from, line.to))
+    lines.iter().any(|&line| names_unknown(o, line))
 }
 
 // Moves loads, rights and last year's allocations with the customers of the class lines lent.

@@ -8,21 +8,21 @@ ghost use Rattle.ledger.specs.Ranges.{unknown_holder, unknown_holder_in};
 ghost use Rattle.ledger.specs.Causes.{line_not_between_lses};
 ghost use Rattle.records.specs.Opening.{opening_of};
 
-use netting::netting::{ClassLines, class_fields_out_of_range};
+use netting::netting::{ClassLine, ClassLines, class_fields_out_of_range};
 use records::setup::KeptOpening;
 
 // A line that names a holder who is not in the book.
-pub(crate) fn names_unknown(o: &KeptOpening, from: u64, to: u64) -> bool
-    ensures { result ≡ (unknown_holder (opening_of o.entry) from || unknown_holder (opening_of o.entry) to) }
+pub(crate) fn names_unknown(o: &KeptOpening, line: ClassLine) -> bool
+    ensures { result ≡ (unknown_holder (opening_of o.entry) line.from || unknown_holder (opening_of o.entry) line.to) }
 {
-    o.unknown_holder(from) || o.unknown_holder(to)
+    o.unknown_holder(line.from) || o.unknown_holder(line.to)
 }
 
 // Whether some line names a holder who is not in the book.
 pub(crate) fn any_unknown(o: &KeptOpening, lines: ClassLines) -> bool
     ensures { result ≡ unknown_holder_in (opening_of o.entry) (lines_in lines.entry.columns) }
 {
-    lines.any(|line| names_unknown(o, line.from, line.to))
+    lines.any(|line| names_unknown(o, line))
 }
 
 // Whether some line has a field outside its range.
@@ -33,15 +33,16 @@ pub(crate) fn any_out_of_range(lines: ClassLines) -> bool
 }
 
 // A line from a holder to itself, or one that names an OBAALSE.
-fn not_between_lses(o: &KeptOpening, from: u64, to: u64) -> bool
-    ensures { result ≡ (eqb from to || eqb (holder_kind (opening_of o.entry) from) obaalse || eqb (holder_kind (opening_of o.entry) to) obaalse) }
+#[tactic(auto, unfolding(ledger::specs::Causes::line_not_between_lses))]
+fn not_between_lses(o: &KeptOpening, line: ClassLine) -> bool
+    ensures { result ≡ line_not_between_lses (opening_of o.entry) line }
 {
-    from == to || o.is_obaalse(from) || o.is_obaalse(to)
+    line.from == line.to || o.is_obaalse(line.from) || o.is_obaalse(line.to)
 }
 
 // Whether some line is not between two different LSEs.
 pub(crate) fn any_not_between_lses(o: &KeptOpening, lines: ClassLines) -> bool
     ensures { result ≡ any_of (lines_in lines.entry.columns) (line_not_between_lses (opening_of o.entry)) }
 {
-    lines.any(|line| not_between_lses(o, line.from, line.to))
+    lines.any(|line| not_between_lses(o, line))
 }

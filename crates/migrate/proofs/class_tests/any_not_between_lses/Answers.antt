@@ -5,5 +5,4 @@ use Rattle.ledger.specs.Causes.{line_not_between_lses}
 use Rattle.migrate.proofs.class_tests.any_not_between_lses.Goals as goal
 
 pub returns : goal.returns
-unfolding line_not_between_lses
 returns c = c.any.ensures (line_not_between_lses (opening_in c.args.o.now)) (λ line r called. search rules)
