@@ -2,4 +2,5 @@
 #![tactic(auto)]
 
 pub mod carry;
+pub mod path_posting;
 pub mod prior;

@@ -1,0 +1,2 @@
+-- What postings on a path have in common.
+pub mod PathCauses
