@@ -1,12 +1,13 @@
 -- The figures after a tier opens or closes: no nominations, and the tiers after the figures anew. Assumes nothing.
 use Prim.Native.Nat.{ℕ}
 use mathlib.Core.Path.{◌≡◌, refl, ap, ◌∙◌}
-use mathlib.Core.Bool.{Bool, cond, ◌||◌}
+use mathlib.Core.Bool.{Bool, true, false, cond, ◌||◌}
 use mathlib.Core.List.{List, ◌∷◌, ◌++◌}
 use native.Mathlib.Omega.{arith}
 use lib.ListN.{take, drop, set}
 use lib.Dec.{eqb}
 use borrow.Author.Tests.{ne_eqb}
+use mir.Val.{bool_byte}
 use Rattle.records.specs.declared.setup.KeptOpening.{KeptOpening}
 use Rattle.std.specs.Prelude.{Ok}
 use Rattle.source_evidence.specs.declared.evidence.Entry.{Entry}
@@ -28,6 +29,12 @@ use Rattle.slots.proofs.CellLaws.{shown_is}
 use Rattle.slots.proofs.Reachable.{sound, figures_shown, posted_known, evidence_known}
 use Rattle.slots.proofs.StepLaws.{accepted_test, steps_accepted}
 use Rattle.awards.proofs.ClearedGroups.{slot_cleared, shows_past}
+
+-- a test as a number is its flag
+byte_flag : (test : Bool) → bool_byte test ≡ flag test
+unfolding flag when_true
+byte_flag true = refl
+byte_flag false = refl
 
 module _ (o : KeptOpening) (f f' : List ℕ) (m : List Bool) (x : List Entry) (r : Reachable o f m x) (clear : f' ≡ cleared_to figure_slots nominated_slot f rows) where
   abbrev O : Opening
@@ -67,11 +74,11 @@ module _ (o : KeptOpening) (f f' : List ℕ) (m : List Bool) (x : List Entry) (r
     unfolding evidence_of evidence_groups effect with_tiers
     filed = evidence_known o f m x r
 
-    pub open_steps : (noted : ℕ) (c : Calendar) → c ≡ calendar_in f → noted ≡ when_true (is_long_term_step tier || c.step_held) 1 → Steps O L (open_tier tier) (Ok tt) (set (set f' current_tier_at tier) step_held_at noted) m x
+    pub open_steps : (held : Bool) → held ≡ (is_long_term_step tier || (calendar_in f).step_held) → (noted : ℕ) → noted ≡ bool_byte held → Steps O L (open_tier tier) (Ok tt) (set (set f' current_tier_at tier) step_held_at noted) m x
     unfolding ledger_in calendar_in flag
-    open_steps n c is now =
+    open_steps held is n now =
         steps_accepted O L (open_tier tier) unmet (set (set f' current_tier_at tier) step_held_at n) m x
-        ((λ i. set (set (clear i) current_tier_at tier) step_held_at ((now ∙ ap (λ t. when_true (is_long_term_step tier || t.step_held) 1) is) i)) ∙ opened)
+        ((λ i. set (set (clear i) current_tier_at tier) step_held_at ((now ∙ byte_flag held ∙ ap flag is) i)) ∙ opened)
         noted filed
 
   module _ (unmet : 0 ≡ refusal O L close_tier) where

@@ -12,7 +12,6 @@ ghost use Rattle.slots.specs.Steps.{ReachableTier, TierStep};
 use records::calendar::Calendar;
 use records::ranges::tier_out_of_range;
 use records::refusal::Refusal;
-use records::sums::when_true;
 use slots::calendar::calendar;
 use slots::cells::clear;
 use slots::layout::{CURRENT_TIER_AT, Figures, LAST_CLOSED_AT, NOMINATED_SLOT, STEP_HELD_AT};
@@ -49,7 +48,7 @@ pub fn open_tier(f: &mut Figures, tier: u64) -> Result<(), Refusal>
     ensures { TierStep f.old (open_tier tier) result f.new }
 {
     check_open(f, tier)?;
-    let held = when_true((tier == LONG_TERM_STEP) | calendar(f).step_held, 1);
+    let held = u64::from(tier == LONG_TERM_STEP || calendar(f).step_held);
     clear(f, NOMINATED_SLOT);
     f[CURRENT_TIER_AT] = tier;
     f[STEP_HELD_AT] = held;

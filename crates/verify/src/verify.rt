@@ -13,7 +13,6 @@ ghost use Rattle.verify.specs.StoredEntry.{stored_by_term, HasTerms, stored_entr
 
 use records::refusal::Refusal;
 use records::setup::KeptOpening;
-use records::sums::when_true;
 use slots::calendar::calendar;
 use slots::cells::{cell, is_posted, set_posted, store};
 use slots::coverage::coverage;
@@ -65,14 +64,14 @@ fn store_by_term(f: &mut Figures, h: u64, s: u64, from: u64, entry: Entry)
 }
 
 // An entry's coverage of each term and whether it is ten-year evidence, stored at a source in the slots of a kind.
-#[tactic(auto, unfolding(crate::specs::StoredEntry::stored_entry, slots::specs::Layout::flag))]
+#[tactic(auto, unfolding(crate::specs::StoredEntry::stored_entry, slots::specs::Layout::flag, tariff::specs::Sum::when_true))]
 fn store_entry(f: &mut Figures, h: u64, s: u64, kind: EvidenceKind, entry: Entry)
     requires { HasCell evidence_slots h s (index_of kind) }
     ensures { f.new ≡ stored_entry f.old h s (index_of kind) entry }
 {
     let slot = kind.index();
     store_by_term(f, h, s, COVERAGE_SLOT + TERMS * slot, entry);
-    let flag = when_true(entry.is_ten_year(), 1);
+    let flag = u64::from(entry.is_ten_year());
     store(f, h, s, TEN_YEAR_SLOT + slot, flag);
 }
 
