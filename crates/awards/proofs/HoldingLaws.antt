@@ -1,5 +1,5 @@
 -- What a query on holdings that meets no cause names, and how much the holdings on a path come to together. Assumes nothing.
-use Prim.Native.Nat.{ℕ, ◌+◌, ◌-◌, ◌*◌, ◌^◌, ◌≤◌, ◌<◌}
+use Prim.Native.Nat.{ℕ, ◌+◌, ◌-◌, ◌*◌, ◌≤◌, ◌<◌}
 use mathlib.Core.Path.{◌≡◌, sym, ap₂, ◌∙◌}
 use mathlib.Core.Bool.{Bool, false}
 use mathlib.Core.List.{List}
@@ -12,7 +12,7 @@ use Rattle.tariff.specs.Ranges.{month_out_of_range, within}
 use Rattle.tariff.specs.Terms.{is_month}
 use Rattle.tariff.specs.Sum.{sum_to}
 use Rattle.tariff.specs.Sizes.{last_month}
-use Rattle.tariff.proofs.Sums.{sum_add, sum_part_le}
+use Rattle.tariff.proofs.Sums.{sum_add}
 use Rattle.tariff.proofs.Tests.{or_unmet}
 use Rattle.ledger.specs.Opening.{Opening}
 use Rattle.ledger.specs.Ledger.{Ledger, empty_ledger}
@@ -70,16 +70,9 @@ module _ (o : KeptOpening) (f : List ℕ) (m : List Bool) (x : List Entry) (r : 
       }
 
   -- all holdings on a path in a month together: one carry a holder, and an award a tier at most
-  net_fits : sum_to (opening_in o).holders (λ h. held (ledger_in f m x) h p month) ≤ 11 * max_together
+  pub net_fits : sum_to (opening_in o).holders (λ h. held (ledger_in f m x) h p month) ≤ 11 * max_together
   unfolding held carried_sum awarded_sum
   net_fits =
       let carried = (fits o f m x r).carried_fit p month in
       let awarded = (fits o f m x r).awarded_fit p month path in
       le_trans (le_of_eq (sum_add (λ h. (ledger_in f m x).rights.carried h p month) (λ h. (ledger_in f m x).rights.awarded h p month) (opening_in o).holders)) (omega arith)
-
-  -- the sum so far has room for the next holder's
-  pub net_room : (h sum v : ℕ) → h < (opening_in o).holders → sum ≡ sum_to h (λ h. held (ledger_in f m x) h p month) → v ≡ held (ledger_in f m x) h p month → sum + v < 2 ^ 64
-  net_room h sum v l e y =
-      let part = sum_part_le (λ h. held (ledger_in f m x) h p month) (opening_in o).holders h l in
-      let all-of-it = net_fits in
-      omega arith

@@ -33,12 +33,7 @@ fn net_holding(o: &KeptOpening, f: &Figures, p: u64, month: u64) -> u64
     requires { ReachableFigures o.now f.now × (p < (opening_of o).paths) × (1 ≤ month) × (month ≤ last_month) }
     ensures { InFigures o.now f.now (λ O L. result ≡ net O L p month) }
 {
-    let past = o.holders();
-    let mut sum: u64 = 0;
-    for h in 0..past {
-        sum += holding(f, h, p, month);
-    }
-    sum
+    (0..o.holders()).map(|h| holding(f, h, p, month)).sum()
 }
 
 // Whether a held query meets no cause, else the first that it meets.

@@ -14,7 +14,7 @@ use Rattle.std.proofs.lemmas.Iterator.Search.{all_from_yields_List, any_from_yie
 use Rattle.tariff.specs.Sum.{all_below, any_below}
 
 -- the last number of a range, apart
-range_last : (a n j : ℕ) → a + n ≡ j → range_with_len a (suc n) ≡ range_with_len a n ++ j ∷ []
+pub range_last : (a n j : ℕ) → a + n ≡ j → range_with_len a (suc n) ≡ range_with_len a n ++ j ∷ []
 range_last a zero j e = ap (λ k. k ∷ []) (let same : a ≡ j = omega arith in same)
 range_last a (suc n) j e = ap (λ ks. a ∷ ks) (range_last (a + 1) n j (omega arith))
 

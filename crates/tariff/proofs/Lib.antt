@@ -10,3 +10,4 @@ pub mod Formulas
 pub mod Lists
 pub mod FromFn
 pub mod Counted
+pub mod CountedSums

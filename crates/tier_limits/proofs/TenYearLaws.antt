@@ -1,5 +1,5 @@
 -- A holder's ten-year evidence, read in its slots, and what it comes to over the sources. Assumes nothing.
-use Prim.Native.Nat.{ℕ, ◌+◌, ◌*◌, ◌^◌, ◌≤◌, ◌<◌}
+use Prim.Native.Nat.{ℕ, ◌+◌, ◌*◌, ◌≤◌, ◌<◌}
 use mathlib.Core.Path.{◌≡◌, ap, ◌∙◌}
 use mathlib.Core.Bool.{Bool, ◌||◌}
 use mathlib.Core.List.{List}
@@ -62,14 +62,13 @@ module _ (o : KeptOpening) (f : List ℕ) (m : List Bool) (x : List Entry) (r : 
   at_fits = let a = kw-fits ownership in let b = kw-fits contract in omega arith
 
 module _ (o : KeptOpening) (f : List ℕ) (m : List Bool) (x : List Entry) (r : Reachable o f m x) (h : ℕ) (l : h < (opening_in o).holders) where
-  -- what it comes to over the first sources has room for the next
-  pub sources_room : (s n sum more : ℕ) → n ≡ (opening_in o).sources → s < n → sum ≡ sum_to s (ten_year_at (ledger_in f m x) h) → more ≡ ten_year_at (ledger_in f m x) h s → sum + more < 2 ^ 64
-  sources_room s n sum more all k e g =
+  -- what it comes to over all sources
+  pub sources_fit : sum_to (opening_in o).sources (ten_year_at (ledger_in f m x) h) ≤ 16 * (2 * max_kw)
+  sources_fit =
       let few = (counts o f m x r).1 in
-      let before = sum_bound {f = ten_year_at (ledger_in f m x) h} (2 * max_kw) s (λ j i. at_fits o f m x r h j l (omega arith)) in
-      let here = at_fits o f m x r h s l (omega arith) in
-      let fits = mul-le-mul_right (2 * max_kw) (let s16 : s ≤ 16 = omega arith in s16) in
-      omega arith
+      le_trans
+      (sum_bound {f = ten_year_at (ledger_in f m x) h} (2 * max_kw) (opening_in o).sources (λ j i. at_fits o f m x r h j l (omega arith)))
+      (mul-le-mul_right (2 * max_kw) (let s16 : (opening_in o).sources ≤ 16 = omega arith in s16))
 
 -- in the Long Term step a limit takes it all, and in another tier nothing
 pub step_takes : (tier sum : ℕ) → tier ≡ 10 → sum ≡ when_true (is_long_term_step tier) sum

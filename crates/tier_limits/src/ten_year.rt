@@ -38,12 +38,7 @@ fn ten_year_sum(o: &KeptOpening, f: &Figures, h: u64) -> u64
     requires { HolderInputs o.now f.now h }
     ensures { InFigures o.now f.now (λ O L. result ≡ ten_year_sum O L h) }
 {
-    let past = o.sources();
-    let mut sum: u64 = 0;
-    for s in 0..past {
-        sum += ten_year_at(o, f, h, s);
-    }
-    sum
+    (0..o.sources()).map(|s| ten_year_at(o, f, h, s)).sum()
 }
 
 // What a limit takes of it: all in the Long Term step, and nothing in another tier, where it is not summed.
