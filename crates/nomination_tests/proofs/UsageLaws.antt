@@ -10,7 +10,7 @@ use Rattle.records.specs.declared.setup.KeptOpening.{KeptOpening}
 use Rattle.tariff.specs.Sizes.{long_term_step}
 use Rattle.source_evidence.specs.declared.evidence.Entry.{Entry}
 use Rattle.tariff.specs.Sum.{when_true, sum_to}
-use Rattle.tariff.proofs.Sums.{when_is_true, when_is_false, when_le, sum_ext, sum_bound, sum_part_le}
+use Rattle.tariff.proofs.Sums.{when_is_true, when_is_false, when_le, sum_ext, sum_bound}
 use Rattle.ledger.specs.Opening.{Opening, has_source}
 use Rattle.ledger.specs.Ledger.{Ledger}
 use Rattle.ledger.specs.Verification.{sum_from_source, uses_same_evidence, used_before, source_usage}
@@ -30,6 +30,11 @@ unfolding ledger_in
 nominated_now f m x h p a b =
     from_zero f nominated_slot 1 h p 0 a b (omega arith)
     ∙ sym (ap (λ t. cond t (figure_in f nominated_slot 1 0 h p 0) (figure_in f awards_slot tier_slots 0 h p (current_tier_in f))) (eq-eqb (current_tier_in f) (current_tier_in f) refl))
+
+-- what the awards of the tiers before use, tier by tier
+pub before_is : (O : Opening) (L : Ledger) (tier h s : ℕ) → sum_to tier (awards_used O L tier h s) ≡ used_before O L tier h s
+unfolding used_before awards_used
+before_is O L tier h s = refl
 
 module _ (o : KeptOpening) (f : List ℕ) (m : List Bool) (x : List Entry) (r : Reachable o f m x) (h s : ℕ) (l : h < (opening_in o).holders) where
   abbrev O : Opening
@@ -74,16 +79,8 @@ module _ (o : KeptOpening) (f : List ℕ) (m : List Bool) (x : List Entry) (r : 
     awards-fit n k = le_trans (when_le (uses_same_evidence tier n) _) (le_trans (le_of_eq (sym (awards-from n k))) (source_fits (awards_slot + n) (omega arith)))
 
     -- those of all earlier tiers
-    pub before_fits : tier ≤ long_term_step → used_before O L tier h s ≤ long_term_step * (16 * max_figure)
-    unfolding used_before awards_used
+    pub before_fits : tier ≤ long_term_step → sum_to tier (awards_used O L tier h s) ≤ long_term_step * (16 * max_figure)
     before_fits k = le_trans (sum_bound {f = awards_used O L tier h s} (16 * max_figure) tier (λ n i. awards-fit n (omega arith))) (mul-le-mul_right (16 * max_figure) k)
-
-    pub before_room : tier ≤ long_term_step → (n sum v : ℕ) → n < tier → sum ≡ sum_to n (awards_used O L tier h s) → v ≡ awards_used O L tier h s n → sum + v ≤ long_term_step * (16 * max_figure)
-    unfolding used_before awards_used
-    before_room k n sum v i e g =
-        let part = sum_part_le (awards_used O L tier h s) tier n i in
-        let all-of-it = before_fits k in
-        omega arith
 
   -- all that the holder uses in the open tier
   pub usage_fits : source_usage O L L.tiers.current_tier h s ≤ (1 + long_term_step) * (16 * max_figure)
@@ -92,6 +89,7 @@ module _ (o : KeptOpening) (f : List ℕ) (m : List Bool) (x : List Entry) (r : 
       let one = nominated_fits in
       let is = nominated_from in
       let two = before_fits L.tiers.current_tier (sound o f m x r).open_last in
+      let both = before_is O L L.tiers.current_tier h s in
       omega arith
 
   -- as code adds it up

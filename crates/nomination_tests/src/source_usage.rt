@@ -59,11 +59,7 @@ fn used_before(o: &KeptOpening, f: &Figures, h: u64, s: u64, tier: u64) -> u64
     requires { UsageInputs o.now f.now h tier }
     ensures { InFigures o.now f.now (λ O L. result ≡ used_before O L tier h s) }
 {
-    let mut sum: u64 = 0;
-    for n in 0..tier {
-        sum += awards_used(o, f, h, s, tier, n);
-    }
-    sum
+    (0..tier).map(|n| awards_used(o, f, h, s, tier, n)).sum()
 }
 
 // What a holder uses of its evidence for a source in the open tier: its nominations, and the awards that use the same evidence.
