@@ -1,9 +1,8 @@
--- Sums over the paths of a book, as a loop forms them. Assumes nothing.
+-- Sums over the paths of a book: how much they come to, and what a path that is summed has. Assumes nothing.
 use Prim.Native.Nat.{ℕ, ◌*◌, ◌≤◌, ◌<◌}
-use mathlib.Core.Path.{◌≡◌}
 use mathlib.Core.Bool.{Bool}
 use mathlib.Core.List.{List}
-use native.Mathlib.Nat.{le_trans, le_of_eq}
+use native.Mathlib.Nat.{le_trans}
 use native.Mathlib.Omega.{arith}
 use Rattle.records.specs.declared.setup.KeptOpening.{KeptOpening}
 use Rattle.tariff.specs.Sum.{when_true, sum_to}
@@ -31,14 +30,10 @@ module _ (o : KeptOpening) (f : List ℕ) (h slot place : ℕ) (s : Summable o f
   unfolding sum_from_source
   source_sum_fits = counted_fits (has_source (opening_in o) place) (on_path f h slot) (opening_in o).paths max_figure s.few s.each
 
-module _ (o : KeptOpening) (f : List ℕ) (h slot : ℕ) (s : Summable o f h slot) (p n : ℕ) (e : n ≡ (opening_in o).paths) (l : p < n) where
+module _ (o : KeptOpening) (f : List ℕ) (h slot : ℕ) (s : Summable o f h slot) (p : ℕ) (l : p < (opening_in o).paths) where
   -- the cell on a path
   pub path_cell : HasCell figure_slots h p slot
   path_cell = record { holder = s.holder; place = let a = s.few in omega arith; in_row = s.in_row }
-
-  -- what stands there, where a test counts it
-  pub counted_le : (t : Bool) (v w : ℕ) → v ≡ on_path f h slot p → w ≡ when_true t v → w ≤ max_figure
-  counted_le t v w r q = le_trans (le_of_eq q) (le_trans (when_le t v) (le_trans (le_of_eq r) (s.each p (omega arith))))
 
   -- the base of a path
   pub base_inputs : KeepsBases o × (p < 16)

@@ -22,12 +22,12 @@ sum_by-range value zero = refl
 sum_by-range value (suc n) = ap (sum_by value) (range_last 0 n n (omega arith)) ∙ sum_by_push value (range_with_len 0 n) n ∙ ap (λ k. k + value n) (sum_by-range value n)
 
 -- a call of f gives the value of a number, and leaves f as it was
-abbrev Gives : {F : Type 0} → Mut F (ℕ × Unit {0}) ℕ → F → (ℕ → ℕ) → Type 0
+abbrev pub Gives : {F : Type 0} → Mut F (ℕ × Unit {0}) ℕ → F → (ℕ → ℕ) → Type 0
 Gives {F} g f value = (k r : ℕ) (q : F) → Called g f (k, tt) r q → (q ≡ f) × (r ≡ value k)
 
--- the closure may be called at each number below n
-pub counted_can : {P : Type 0} {R : P → ℕ → P → Type 0} {Q : P → ℕ → Type 0} {s : Range ℕ} {p : P} {n past : ℕ} → s ≡ record { start = 0; end = past } → past ≡ n → ((k : ℕ) (q : P) → R p k q → q ≡ p) → ((k : ℕ) → k < n → Q p k) → CallableAtEachTurn nat_range_steps R Q s p
-counted_can {s = s} {n = n} source same keeps may = serves_from_Range keeps (λ k low high. may k (let last = ap (λ r. r.end) source in omega arith))
+-- what `sum` asks of the iterator: the closure may be called at each number below n
+pub counted_can : {P : Type 0} {R : P → ℕ → P → Type 0} {Q : P → ℕ → Type 0} {s : Range ℕ} {p : P} {n past : ℕ} → s ≡ record { start = 0; end = past } → past ≡ n → ((k : ℕ) (q : P) → R p k q → q ≡ p) → ((k : ℕ) → k < n → Q p k) → Unit {0} × CallableAtEachTurn nat_range_steps R Q s p
+counted_can {s = s} {n = n} source same keeps may = (tt, serves_from_Range keeps (λ k low high. may k (let last = ap (λ r. r.end) source in omega arith)))
 
 module _ {F : Type 0} {g : Mut F (ℕ × Unit {0}) ℕ} {s : Map (Range ℕ) F} {value : ℕ → ℕ} {n past : ℕ} (source : map_source s ≡ record { start = 0; end = past }) (same : past ≡ n) where
   given : Gives g (map_callee s) value → YieldsList (maps nat_range_steps g) (λ r. r) s (map value (range_with_len 0 n))

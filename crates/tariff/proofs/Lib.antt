@@ -11,3 +11,4 @@ pub mod Lists
 pub mod FromFn
 pub mod Counted
 pub mod CountedSums
+pub mod CountedWhere

@@ -8,7 +8,7 @@ use Rattle.awards.proofs.holdings.net_holding.Goals as goal
 pub sum-requires-clause-can : goal.sum-requires-clause-can
 sum-requires-clause-can c =
     let k = c.requires in
-    (tt, counted_can c.map.ensures.source c.holders.ensures (λ h q called. search rules) (λ h past. search (rules, has_holding _ _ _ _ k.0.reachable _ _ k.1 k.2 k.3 h past)))
+    counted_can c.map.ensures.source c.holders.ensures (λ h q called. search rules) (λ h past. search (rules, has_holding _ _ _ _ k.0.reachable _ _ k.1 k.2 k.3 h past))
 
 pub sum-requires-clause-fits : goal.sum-requires-clause-fits
 sum-requires-clause-fits c =

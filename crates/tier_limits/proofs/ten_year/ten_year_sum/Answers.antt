@@ -9,7 +9,7 @@ use Rattle.tier_limits.proofs.ten_year.ten_year_sum.Goals as goal
 pub sum-requires-clause-can : goal.sum-requires-clause-can
 sum-requires-clause-can c =
     let few = (counts _ _ _ _ c.requires.figures.reachable).1 in
-    (tt, counted_can c.map.ensures.source c.sources.ensures (λ s q called. search rules) (λ s past. search rules))
+    counted_can c.map.ensures.source c.sources.ensures (λ s q called. search rules) (λ s past. search rules)
 
 pub sum-requires-clause-fits : goal.sum-requires-clause-fits
 sum-requires-clause-fits c =
