@@ -12,3 +12,4 @@ pub mod FromFn
 pub mod Counted
 pub mod CountedSums
 pub mod CountedWhere
+pub mod CountedFold

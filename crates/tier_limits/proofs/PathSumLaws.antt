@@ -56,10 +56,10 @@ module _ (f : List ℕ) (h p : ℕ) (slots : TierSlots) (s : PathSums) where
       more sum v w q = let all-of-it = when_is_true w (not-false counts some) in omega arith
 
 module _ (O : Opening) (f : List ℕ) (h base : ℕ) (slots : TierSlots) where
-  -- the sums that a loop forms: nothing yet, one path more
-  pub sums_none : ◌≡◌ {A = PathSums} (record { carried = 0; prior = 0; tier1 = 0; tier2 = 0; tier3 = 0; before = 0 }) (sums_to O f h base slots 0)
+  -- the sums so far: nothing yet, one path more
+  pub sums_none : (s : PathSums) → (s.carried ≡ 0) × (s.prior ≡ 0) × (s.tier1 ≡ 0) × (s.tier2 ≡ 0) × (s.tier3 ≡ 0) × (s.before ≡ 0) → s ≡ sums_to O f h base slots 0
   unfolding sums_to slot_to sum_to
-  sums_none = refl
+  sums_none s e = λ i. record { carried = e.0 i; prior = e.1 i; tier1 = e.2 i; tier2 = e.3 i; tier3 = e.4 i; before = e.5 i }
 
   slot-more : (slot p : ℕ) → slot_to O f h base slot p + when_true (has_base O base p) (on_path f h slot p) ≡ slot_to O f h base slot (p + 1)
   unfolding slot_to
@@ -105,10 +105,9 @@ module _ (o : KeptOpening) (f : List ℕ) (h base : ℕ) (slots : TierSlots) (al
       }
 
   -- the next path's figures can be added
-  pub path_fits : (p n : ℕ) (sums : PathSums) → n ≡ O.paths → p < n → sums ≡ sums_to O f h base slots p → PathSummable f h p slots sums
-  path_fits p n sums e l is =
+  pub path_fits : (p : ℕ) (sums : PathSums) → p < O.paths → sums ≡ sums_to O f h base slots p → PathSummable f h p slots sums
+  path_fits p sums there is =
       let s = all.each 0 (omega arith) in
-      let there : p < O.paths = omega arith in
       record {
         holder = s.holder;
         place = le_trans there s.few;

@@ -19,7 +19,7 @@ use tariff::limit::{Sums, tier_rule};
 use tariff::terms::carried_month;
 
 // The sums of a limit that run over paths.
-#[derive(Clone, Copy)]
+#[derive(Clone, Copy, Default)]
 pub struct PathSums {
     pub carried: u64,
     pub prior: u64,
@@ -63,20 +63,10 @@ fn sum_paths(o: &KeptOpening, f: &Figures, h: u64, base: u64, slots: TierSlots) 
     requires { PathsSummable o.now f.now h slots }
     ensures { result ≡ sums_to (opening_of o.entry) f.now h base slots (opening_of o.entry).paths }
 {
-    let past = o.paths();
-    let mut sums = PathSums {
-        carried: 0,
-        prior: 0,
-        tier1: 0,
-        tier2: 0,
-        tier3: 0,
-        before: 0,
-    };
-    for p in 0..past {
-        let counts = o.path_base(p) == base;
-        sums = sums.with_path(f, h, p, slots, counts);
-    }
-    sums
+    (0..o.paths()).fold(
+        PathSums::default(),
+        |sums, p| sums.with_path(f, h, p, slots, o.path_base(p) == base),
+    )
 }
 
 // What a holder's limit at a base is made of in a tier.

@@ -1,13 +1,27 @@
--- `tier_limits::limits::sum_paths` meets its contract: before path p the sums are those of the paths below p. Assumes nothing.
+-- `tier_limits::limits::sum_paths` meets its contract: the iterator takes the sums from path to path. Assumes nothing.
+use Rattle.std.proofs.Common.{refl, arith, rules}
+use Rattle.tariff.proofs.CountedFold.{fold_can, fold_is}
+use Rattle.records.specs.Opening.{opening_in}
+use Rattle.ledger.specs.Opening.{path_base}
+use Rattle.slots.proofs.PathSums.{base_inputs}
+use Rattle.tier_limits.specs.PathSums.{sums_to}
 use Rattle.tier_limits.proofs.PathSumLaws.{sums_none, sums_more, path_fits}
-use borrow.Author.Rules.{rules}
 use Rattle.tier_limits.proofs.limits.sum_paths.Goals as goal
 
-pub loop-p-init : goal.loop-p-init
-loop-p-init c = (search rules, sums_none _ _ _ _ _)
+pub fold-requires-clause-callable : goal.fold-requires-clause-callable
+fold-requires-clause-callable c =
+    let a = c.args in
+    let O = opening_in a.o.now in
+    fold_can (sums_to O a.f.now a.h a.base a.slots) refl c.paths.ensures (sums_none _ _ _ _ _ c.default.result (search rules))
+    (λ p sums next q called. (search rules, λ is. sums_more _ _ _ _ _ _ (path_base O p) _ _ (search rules) refl is))
+    (λ p sums past is.
+    let inputs = base_inputs _ _ _ _ (c.requires.each 0 (omega arith)) p past in
+    let fits = path_fits _ _ _ a.base _ c.requires p sums past is in
+    search rules)
 
-pub with_path-sums-requires : goal.with_path-sums-requires
-with_path-sums-requires c = path_fits _ _ _ _ _ c.requires _ _ _ c.paths-past.ensures c.loop-p-test.true c.loop-p.invariant.1
-
-pub loop-p-preserved : goal.loop-p-preserved
-loop-p-preserved c = (search rules, sums_more _ _ _ _ _ _ _ _ _ c.with_path-sums.ensures c.path_base.ensures c.loop-p.invariant.1)
+pub returns : goal.returns
+returns c =
+    let a = c.args in
+    let O = opening_in a.o.now in
+    fold_is (sums_to O a.f.now a.h a.base a.slots) refl c.paths.ensures (sums_none _ _ _ _ _ c.default.result (search rules))
+    (λ p sums next q called. (search rules, λ is. sums_more _ _ _ _ _ _ (path_base O p) _ _ (search rules) refl is)) c.fold.ensures.ran
