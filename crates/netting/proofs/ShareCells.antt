@@ -1,13 +1,10 @@
 -- The shares of a column, cell by cell, and the transfer of a column, holder by holder. Assumes nothing.
-use Prim.Native.Nat.{ℕ, zero, suc, ◌+◌, ◌-◌, ◌*◌, ◌/◌, ◌%◌, ◌^◌, ◌≤◌, ◌<◌}
+use Prim.Native.Nat.{ℕ, ◌+◌, ◌-◌, ◌*◌, ◌/◌, ◌%◌, ◌^◌, ◌≤◌, ◌<◌}
 use mathlib.Core.Path.{◌≡◌, refl, sym, ap, ◌∙◌, subst}
 use mathlib.Core.Bool.{cond}
-use mathlib.Core.List.{List, map}
+use mathlib.Core.List.{List}
 use native.Mathlib.Nat.{div-zero, mul-zero, zero-div, le_trans, le_of_eq, lt_of_le_of_lt}
-use native.Mathlib.Numerals.{add-one}
 use native.Mathlib.Omega.{arith}
-use Rattle.std.specs.List.{sum, range_with_len}
-use Rattle.std.proofs.lemmas.List.FromFn.{sum_by-map-range_with_len_more}
 use lib.ListN.{get_or}
 use borrow.Author.Tests.{lt-ltb, le-ltb}
 use Rattle.tariff.specs.Sum.{sum_to, tabulate}
@@ -17,15 +14,6 @@ use Rattle.tariff.proofs.Sums.{sum_le, term_le_sum}
 use Rattle.tariff.proofs.Lists.{length_tabulate, at_tabulate, list_is}
 use Rattle.netting.proofs.Pairs.{cell_of_pair}
 use Rattle.netting.proofs.Transfers.{transfer_sum}
-
--- what an iterator adds up over the numbers below a count
-pub sum_range : (f : ℕ → ℕ) (n : ℕ) → sum (map f (range_with_len 0 n)) ≡ sum_to n f
-unfolding sum_to
-sum_range f zero = refl
-sum_range f (suc n) =
-    ap (λ k. sum (map f (range_with_len 0 k))) (sym (add-one n))
-    ∙ sum_by-map-range_with_len_more (λ x. x) f 0 n n (omega arith)
-    ∙ ap (λ s. s + f n) (sum_range f n)
 
 -- of no load nothing goes
 pub share_none : (v m load : ℕ) → load ≡ 0 → 0 ≡ share v m load
