@@ -22,7 +22,6 @@ use Rattle.slots.specs.Steps.{Reachable}
 use Rattle.slots.proofs.Reachable.{counts, sound}
 use Rattle.slots.proofs.Figures.{from_zero, summable}
 use Rattle.slots.proofs.PathSums.{source_sum_fits}
-use Rattle.nomination_tests.specs.Usage.{awards_used}
 
 -- the open tier's nominations stand by themselves
 pub nominated_now : (f : List ℕ) (m : List Bool) (x : List Entry) (h p : ℕ) → h < 8 → p < 16 → read_at figure_slots 0 f h p nominated_slot ≡ (ledger_in f m x).tiers.nominated h p (ledger_in f m x).tiers.current_tier
@@ -30,11 +29,6 @@ unfolding ledger_in
 nominated_now f m x h p a b =
     from_zero f nominated_slot 1 h p 0 a b (omega arith)
     ∙ sym (ap (λ t. cond t (figure_in f nominated_slot 1 0 h p 0) (figure_in f awards_slot tier_slots 0 h p (current_tier_in f))) (eq-eqb (current_tier_in f) (current_tier_in f) refl))
-
--- what the awards of the tiers before use, tier by tier
-pub before_is : (O : Opening) (L : Ledger) (tier h s : ℕ) → sum_to tier (awards_used O L tier h s) ≡ used_before O L tier h s
-unfolding used_before awards_used
-before_is O L tier h s = refl
 
 module _ (o : KeptOpening) (f : List ℕ) (m : List Bool) (x : List Entry) (r : Reachable o f m x) (h s : ℕ) (l : h < (opening_in o).holders) where
   abbrev O : Opening
@@ -64,23 +58,17 @@ module _ (o : KeptOpening) (f : List ℕ) (m : List Bool) (x : List Entry) (r : 
   pub nominated_fits : sum_from_source O s (on_path f h nominated_slot) ≤ 16 * max_figure
   nominated_fits = source_fits nominated_slot (omega arith)
 
-  module _ (tier : ℕ) where
-    -- the awards of an earlier tier: left out, or summed
-    pub awards_left_out : (n : ℕ) (same : Bool) → same ≡ uses_same_evidence tier n → not same ≡ true → 0 ≡ awards_used O L tier h s n
-    unfolding awards_used
-    awards_left_out n same e none = sym (when_is_false _ (sym e ∙ not-true same none))
+  module _ (tier : ℕ) (k : tier ≤ long_term_step) where
+    -- the awards of the earlier tiers that use the same evidence
+    pub before_is : sum_to tier (λ n. when_true (uses_same_evidence tier n) (sum_from_source O s (on_path f h (awards_slot + n)))) ≡ used_before O L tier h s
+    unfolding used_before
+    before_is = sum_ext tier (λ n i. ap (when_true (uses_same_evidence tier n)) (awards-from n (omega arith)))
 
-    pub awards_summed : (n sum : ℕ) (same : Bool) → n ≤ long_term_step → same ≡ uses_same_evidence tier n → not same ≡ false → sum ≡ sum_from_source O s (on_path f h (awards_slot + n)) → sum ≡ awards_used O L tier h s n
-    unfolding awards_used
-    awards_summed n sum same k e some is = is ∙ awards-from n k ∙ sym (when_is_true _ (sym e ∙ not-false same some))
-
-    awards-fit : (n : ℕ) → n ≤ long_term_step → awards_used O L tier h s n ≤ 16 * max_figure
-    unfolding awards_used
-    awards-fit n k = le_trans (when_le (uses_same_evidence tier n) _) (le_trans (le_of_eq (sym (awards-from n k))) (source_fits (awards_slot + n) (omega arith)))
-
-    -- those of all earlier tiers
-    pub before_fits : tier ≤ long_term_step → sum_to tier (awards_used O L tier h s) ≤ long_term_step * (16 * max_figure)
-    before_fits k = le_trans (sum_bound {f = awards_used O L tier h s} (16 * max_figure) tier (λ n i. awards-fit n (omega arith))) (mul-le-mul_right (16 * max_figure) k)
+    pub before_fits : sum_to tier (λ n. when_true (uses_same_evidence tier n) (sum_from_source O s (on_path f h (awards_slot + n)))) ≤ long_term_step * (16 * max_figure)
+    before_fits =
+        le_trans
+        (sum_bound {f = λ n. when_true (uses_same_evidence tier n) (sum_from_source O s (on_path f h (awards_slot + n)))} (16 * max_figure) tier (λ n i. le_trans (when_le (uses_same_evidence tier n) _) (source_fits (awards_slot + n) (omega arith))))
+        (mul-le-mul_right (16 * max_figure) k)
 
   -- all that the holder uses in the open tier
   pub usage_fits : source_usage O L L.tiers.current_tier h s ≤ (1 + long_term_step) * (16 * max_figure)
@@ -88,8 +76,9 @@ module _ (o : KeptOpening) (f : List ℕ) (m : List Bool) (x : List Entry) (r : 
   usage_fits =
       let one = nominated_fits in
       let is = nominated_from in
-      let two = before_fits L.tiers.current_tier (sound o f m x r).open_last in
-      let both = before_is O L L.tiers.current_tier h s in
+      let last = (sound o f m x r).open_last in
+      let two = before_fits L.tiers.current_tier last in
+      let both = before_is L.tiers.current_tier last in
       omega arith
 
   -- as code adds it up

@@ -5,7 +5,6 @@ ghost use Rattle.ledger.specs.Verification.{has_evidence, verified_kw, uses_same
 ghost use Rattle.slots.specs.Steps.{InFigures};
 ghost use Rattle.tier_limits.specs.Inputs.{HolderInputs, SourceInputs};
 ghost use Rattle.nomination_tests.specs.Inputs.{UsageInputs};
-ghost use Rattle.nomination_tests.specs.Usage.{awards_used};
 
 use records::setup::KeptOpening;
 use slots::calendar::current_tier;
@@ -43,23 +42,15 @@ fn uses_same_evidence(tier: u64, n: u64) -> bool
     1 <= n && (term_of(n) == term_of(tier) || n <= LAST_SEASON_TIER)
 }
 
-// What a holder's awards from a source in tier n use of its evidence for a later tier. Awards that use none are not summed.
-fn awards_used(o: &KeptOpening, f: &Figures, h: u64, s: u64, tier: u64, n: u64) -> u64
-    requires { UsageInputs o.now f.now h n }
-    ensures { InFigures o.now f.now (λ O L. result ≡ awards_used O L tier h s n) }
-{
-    if !uses_same_evidence(tier, n) {
-        return 0;
-    }
-    sum_from_source(o, f, h, AWARDS_SLOT + n, s)
-}
-
-// What a holder's awards of the tiers before use of its evidence for a source in a tier.
+// What a holder's awards of the tiers before use of its evidence for a source in a tier. Awards of a tier that use other evidence are not summed.
 fn used_before(o: &KeptOpening, f: &Figures, h: u64, s: u64, tier: u64) -> u64
     requires { UsageInputs o.now f.now h tier }
     ensures { InFigures o.now f.now (λ O L. result ≡ used_before O L tier h s) }
 {
-    (0..tier).map(|n| awards_used(o, f, h, s, tier, n)).sum()
+    (0..tier)
+        .filter(|n| uses_same_evidence(tier, *n))
+        .map(|n| sum_from_source(o, f, h, AWARDS_SLOT + n, s))
+        .sum()
 }
 
 // What a holder uses of its evidence for a source in the open tier: its nominations, and the awards that use the same evidence.
