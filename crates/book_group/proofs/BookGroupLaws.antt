@@ -11,7 +11,7 @@ use lib.Dec.{eqb}
 use borrow.Author.Tests.{eqb-true}
 use Rattle.records.specs.declared.setup.KeptOpening.{KeptOpening}
 use Rattle.tariff.proofs.Tests.{and_both}
-use Rattle.std.specs.Prelude.{Result, Ok, Err}
+use Rattle.std.specs.Prelude.{Option, Some, None, Result, Ok, Err}
 use Rattle.ledger.specs.Opening.{legal}
 use Rattle.ledger.specs.Ledger.{empty_ledger}
 use Rattle.records.specs.Opening.{kept_opening}
@@ -24,13 +24,14 @@ use Rattle.book.specs.Reachable.{Reachable}
 use Rattle.book.proofs.OpenedLaws.{opened_reachable, opened_book}
 use Rattle.lines.specs.declared.rows.Row.{Row}
 use Rattle.counted_lines.specs.declared.book_lines.BookLists.{BookLists}
+use Rattle.counted_lines.specs.declared.book_lines.BookLines.{BookLines}
 use Rattle.lines.specs.declared.lines.NextRow.{NextRow}
 use Rattle.lines.specs.declared.rows.LineKind.{LineKind}
 use Rattle.lines.specs.declared.rows.LineKind.TheVariants.{Book, Holder, Sink, Path}
 use Rattle.lines.specs.Rows.{same_kind, rows_of, field, all_of_kind, counted, holder_rows, sink_rows, path_rows, set_readable, book_line_count}
 use Rattle.lines.specs.Reading.{next_row}
 use Rattle.counted_lines.specs.Counted.{bytes_of_lines}
-use Rattle.counted_lines.specs.BookLines.{book_lines_complete, book_lists_of}
+use Rattle.counted_lines.specs.BookLines.{book_lines_complete, book_lists_of, book_lines_of}
 use Rattle.lines.proofs.FieldLaws.{rest_all}
 use Rattle.counted_lines.proofs.RowSteps.{consumed_within}
 use Rattle.counted_lines.proofs.LineBytes.{bytes_within, rows_after}
@@ -59,56 +60,47 @@ readable_parts head rows =
     let r = set_readable head rows in
     ap (λ t. (t && p) && r) (and_assoc kind h s) ∙ ap (λ t. t && r) (and_assoc kind (h && s) p) ∙ and_assoc kind ((h && s) && p) r ∙ and_comm kind (((h && s) && p) && r)
 
--- the lists of the lines that a head counts, read from what is left after it
-module _ (head : Row) (rest : List ℕ) (lists : BookLists) (e : lists ≡ book_lists_of head rest) where
+-- a book is opened where there are lists and its head is one
+unfoldable pub opened_if : Row → Bool → Option BookLists → Result KeptOpening Refusal
+opened_if head is_book (Some lists) = cond is_book (opened (opening_kept head lists)) (Err Unreadable)
+opened_if head is_book None = Err Unreadable
+
+-- the lines that a head counts, read from what is left after it
+module _ (head : Row) (rest : List ℕ) (lines : BookLines) (e : lines ≡ book_lines_of head rest) where
   abbrev rows : List Row
   rows = rows_of rest
 
-  abbrev group : ℕ → BookGroup
-  group consumed = book_group_with head rows (consumed + bytes_of_lines (book_line_count head rows) rest)
+  lines-consumed : lines.consumed ≡ bytes_of_lines (book_line_count head rows) rest
+  unfolding book_lines_of
+  lines-consumed = ap (λ l. l.consumed) e
 
-  lists-complete : lists.complete ≡ book_lines_complete head rows
-  unfolding book_lists_of
-  lists-complete = ap (λ l. l.complete) e
+  pub lines_within : lines.consumed ≤ length rest
+  lines_within = le_trans (le_of_eq lines-consumed) (bytes_within (book_line_count head rows) rest)
 
-  lists-consumed : lists.consumed ≡ bytes_of_lines (book_line_count head rows) rest
-  unfolding book_lists_of
-  lists-consumed = ap (λ l. l.consumed) e
+  all-counted : book_lines_complete head rows ≡ true → (length (holder_rows head rows) ≡ field 0 head) × (length (sink_rows head rows) ≡ field 2 head) × (length (path_rows head rows) ≡ field 3 head)
+  unfolding book_lines_complete
+  all-counted there =
+      let last = and_both _ _ (and_both _ _ there).0 in
+      let first = and_both _ _ last.0 in
+      (as_counted Holder (field 0 head) (holder_rows head rows) first.0, as_counted Sink (field 2 head) (sink_rows head rows) first.1, as_counted Path (field 3 head) (path_rows head rows) last.1)
 
-  pub lists_within : lists.consumed ≤ length rest
-  lists_within = le_trans (le_of_eq lists-consumed) (bytes_within (book_line_count head rows) rest)
+  -- what is opened where all lines are there, and what is answered where they are not
+  opened-is : opened_if head (same_kind head.kind Book) lines.lists ≡ cond (book_readable head rows) (opened (opening_of_rows head rows)) (Err Unreadable)
+  unfolding book_lines_of opened_if
+  opened-is =
+      ap (λ l. opened_if head (same_kind head.kind Book) l.lists) e
+      ∙ go (book_lines_complete head rows) (same_kind head.kind Book) refl
+      ∙ ap (λ t. cond t (opened (opening_of_rows head rows)) (Err Unreadable)) (sym (readable_parts head rows))
+    where
+      go : (complete is_book : Bool) → book_lines_complete head rows ≡ complete → opened_if head is_book (cond complete (Some (book_lists_of head rows)) None) ≡ cond (complete && is_book) (opened (opening_of_rows head rows)) (Err Unreadable)
+      go true true there = kept_opened head rows (book_lists_of head rows) refl (all-counted there)
+      go true false there = refl
+      go false true there = refl
+      go false false there = refl
 
-  is-readable : (lists.complete && same_kind head.kind Book) ≡ book_readable head rows
-  is-readable = ap (λ t. t && same_kind head.kind Book) lists-complete ∙ sym (readable_parts head rows)
-
-  -- what is opened where all lines are there
-  module _ (readable : (lists.complete && same_kind head.kind Book) ≡ true) where
-    all_counted : (length (holder_rows head rows) ≡ field 0 head) × (length (sink_rows head rows) ≡ field 2 head) × (length (path_rows head rows) ≡ field 3 head)
-    unfolding book_lines_complete
-    all_counted =
-        let there = sym lists-complete ∙ (and_both lists.complete (same_kind head.kind Book) readable).0 in
-        let last = and_both _ _ (and_both _ _ there).0 in
-        let first = and_both _ _ last.0 in
-        (as_counted Holder (field 0 head) (holder_rows head rows) first.0, as_counted Sink (field 2 head) (sink_rows head rows) first.1, as_counted Path (field 3 head) (path_rows head rows) last.1)
-
-    pub group_opened : (consumed : ℕ) (kept : Result KeptOpening Refusal) → kept ≡ opened (opening_kept head lists) → ◌≡◌ {A = BookGroup} (record { opened = kept; consumed = consumed + lists.consumed }) (group consumed)
-    unfolding book_group_with
-    group_opened consumed kept ek =
-        let o = opening_of_rows head rows in
-        let ek' = ek ∙ kept_opened head rest lists e all_counted in
-        let so = sym (sym is-readable ∙ readable) in
-        (λ i. record { opened = ek' i; consumed = consumed + lists-consumed i })
-        ∙ (λ i. record { opened = cond (so i) (opened o) (Err Unreadable); consumed = consumed + bytes_of_lines (book_line_count head rows) rest })
-
-  -- and what is answered where they are not
-  module _ (unread : (lists.complete && same_kind head.kind Book) ≡ false) where
-    pub group_refused : (consumed : ℕ) → ◌≡◌ {A = BookGroup} (record { opened = Err Unreadable; consumed = consumed + lists.consumed }) (group consumed)
-    unfolding book_group_with
-    group_refused consumed =
-        let o = opening_of_rows head rows in
-        let so = sym (sym is-readable ∙ unread) in
-        (λ i. record { opened = Err Unreadable; consumed = consumed + lists-consumed i })
-        ∙ (λ i. record { opened = cond (so i) (opened o) (Err Unreadable); consumed = consumed + bytes_of_lines (book_line_count head rows) rest })
+  pub group_opened : (consumed : ℕ) (kept : Result KeptOpening Refusal) → kept ≡ opened_if head (same_kind head.kind Book) lines.lists → ◌≡◌ {A = BookGroup} (record { opened = kept; consumed = consumed + lines.consumed }) (book_group_with head rows (consumed + bytes_of_lines (book_line_count head rows) rest))
+  unfolding book_group_with
+  group_opened consumed kept is = λ i. record { opened = (is ∙ opened-is) i; consumed = consumed + lines-consumed i }
 
 -- the head and what is left are those of the script
 group_at : NextRow → List ℕ → BookGroup
@@ -164,9 +156,9 @@ module _ (script : List ℕ) where
       subst Reachable (opened_book (opening_of_rows first (rows_of left)) opens.1 ∙ ap (λ o. book_of o empty_ledger) (sym opens.2)) (opened_reachable (opening_of_rows first (rows_of left)))
 
 -- the head's bytes and those of its lines are in the script
-pub lists_fit_lem : (script : List ℕ) (f : NextRow) (lists : BookLists) → f ≡ next_row script → lists ≡ book_lists_of f.row (take (length script - f.consumed) (drop f.consumed script)) → f.consumed + lists.consumed ≤ length script
-lists_fit_lem script f lists e el =
-    let more = lists_within f.row (take (length script - f.consumed) (drop f.consumed script)) lists el in
+pub lines_fit_lem : (script : List ℕ) (f : NextRow) (lines : BookLines) → f ≡ next_row script → lines ≡ book_lines_of f.row (take (length script - f.consumed) (drop f.consumed script)) → f.consumed + lines.consumed ≤ length script
+lines_fit_lem script f lines e el =
+    let more = lines_within f.row (take (length script - f.consumed) (drop f.consumed script)) lines el in
     let all = ap length (rest_all script f.consumed) in
     let len = length-drop f.consumed script in
     let one = le_trans (le_of_eq (ap (λ g. g.consumed) e)) (consumed_within script) in

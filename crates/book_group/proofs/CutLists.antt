@@ -22,7 +22,7 @@ use Rattle.opening.specs.Opened.{opened}
 use Rattle.opening.proofs.KeptOpening.{unfit_counts}
 use Rattle.lines.specs.declared.rows.Row.{Row}
 use Rattle.counted_lines.specs.declared.book_lines.BookLists.{BookLists}
-use Rattle.lines.specs.Rows.{rows_of, field, holder_rows, sink_rows, path_rows, settings_of_rows}
+use Rattle.lines.specs.Rows.{field, holder_rows, sink_rows, path_rows, settings_of_rows}
 use Rattle.counted_lines.specs.BookLines.{first_lines, book_lists_of}
 use Rattle.counted_lines.specs.Counted.{sink_line_of, path_line_of, with_lines}
 use Rattle.counted_lines.proofs.KeptLines.{all_kept}
@@ -84,10 +84,7 @@ module _ (head : Row) (lists : BookLists) (holders : length lists.holder_kinds �
       lists.settings
 
 -- the lists that are kept of a head's lines
-module _ (head : Row) (rest : List ℕ) (lists : BookLists) (e : lists ≡ book_lists_of head rest) where
-  abbrev rows : List Row
-  rows = rows_of rest
-
+module _ (head : Row) (rows : List Row) (lists : BookLists) (e : lists ≡ book_lists_of head rows) where
   module _ (there : (length (holder_rows head rows) ≡ field 0 head) × (length (sink_rows head rows) ≡ field 2 head) × (length (path_rows head rows) ≡ field 3 head)) where
     abbrev read : Opening
     read = opening_of_rows head rows

@@ -54,14 +54,13 @@ pub fn open_from_script(script: &[u8]) -> BookGroup
     let first = next_row(script);
     let head = first.row;
     let at_lines = first.consumed;
-    let lists = read_book_lines(&script[at_lines..], head);
-    let consumed = at_lines + lists.consumed;
-    if lists.complete && head.kind == LineKind::Book {
-        let opened = open_from_lists(head, lists);
-        return BookGroup { opened, consumed };
-    }
+    let lines = read_book_lines(&script[at_lines..], head);
+    let opened = match lines.lists {
+        Some(lists) if head.kind == LineKind::Book => open_from_lists(head, lists),
+        _ => Err(Refusal::Unreadable),
+    };
     BookGroup {
-        opened: Err(Refusal::Unreadable),
-        consumed,
+        opened,
+        consumed: at_lines + lines.consumed,
     }
 }

@@ -1,25 +1,28 @@
 -- The lines of the book group, read one kind after another, and the set line after them. Assumes nothing.
 use Prim.Native.Nat.{ℕ, ◌+◌, ◌-◌, ◌≤◌}
 use mathlib.Core.Path.{◌≡◌, refl, sym, ap, ◌∙◌}
-use mathlib.Core.Bool.{◌&&◌}
+use mathlib.Core.Bool.{Bool, true, false, cond, ◌&&◌}
 use mathlib.Core.List.{List, map}
 use native.Mathlib.Nat.{le_trans, le_of_eq, add-zero}
 use lib.ListN.{length, take, drop, get_or, replicate}
 use lib.Seq.{get_or-drop}
 use Rattle.lines.specs.declared.rows.LineKind.{LineKind}
 use Rattle.lines.specs.declared.rows.Row.{Row}
+use Rattle.std.specs.Prelude.{Option, Some, None}
 use Rattle.tariff.specs.Sizes.{max_places}
+use Rattle.tariff.specs.declared.settings.Settings.{Settings}
 use Rattle.records.specs.declared.setup.SinkLine.{SinkLine}
 use Rattle.records.specs.declared.setup.PathLine.{PathLine}
 use Rattle.counted_lines.specs.declared.counted.CountedLines.{CountedLines}
 use Rattle.counted_lines.specs.declared.book_lines.SetLine.{SetLine}
 use Rattle.counted_lines.specs.declared.book_lines.BookLists.{BookLists}
+use Rattle.counted_lines.specs.declared.book_lines.BookLines.{BookLines}
 use Rattle.lines.specs.declared.rows.LineKind.TheVariants.{Holder, Sink, Path}
 use Rattle.lines.specs.Rows.{unreadable_row, rows_of, field, counted, holder_rows, sink_rows, path_rows, head_count, set_count, not_broken, settings_on, set_row, set_readable, settings_of_rows, book_line_count}
 use Rattle.lines.specs.Reading.{next_row}
 use Rattle.counted_lines.specs.Counted.{bytes_of_lines, rows_counted, counted_of, sink_line_of, path_line_of, with_lines}
 use Rattle.records.specs.Opening.{no_sink, no_path}
-use Rattle.counted_lines.specs.BookLines.{first_lines, set_line_of, book_lines_complete, book_lists_of}
+use Rattle.counted_lines.specs.BookLines.{first_lines, settings_read, set_line_of, book_lines_complete, book_lists_of, book_lines_of}
 use Rattle.counted_lines.proofs.LineBytes.{bytes_add, bytes_within, rest_all, rest_rows}
 use Rattle.counted_lines.proofs.SetLaws.{next_first}
 
@@ -40,6 +43,18 @@ consumed_is kind n s x e = ap (λ y. y.consumed) e
 -- the bytes of lines that are read after the first n
 after : (s : List ℕ) (n u : ℕ) → u ≡ bytes_of_lines n s → (kind : LineKind) (m : ℕ) (x : CountedLines) → x ≡ counted_of kind m (take (length s - u) (drop u s)) → u + x.consumed ≡ bytes_of_lines (n + m) s
 after s n u here kind m x e = (λ i. here i + (consumed_is kind m (take (length s - u) (drop u s)) x e ∙ ap (bytes_of_lines m) (rest_all s n u here)) i) ∙ sym (bytes_add n m s)
+
+-- lists are made where the lines are complete and there are fractions
+unfoldable pub lists_if : (Settings → BookLists) → Bool → Option Settings → Option BookLists
+lists_if kept complete (Some settings) = cond complete (Some (kept settings)) None
+lists_if kept complete None = None
+
+lists_if_both : (kept : Settings → BookLists) (complete read : Bool) (settings : Settings) → lists_if kept complete (cond read (Some settings) None) ≡ cond (complete && read) (Some (kept settings)) None
+unfolding lists_if
+lists_if_both kept true true settings = refl
+lists_if_both kept true false settings = refl
+lists_if_both kept false true settings = refl
+lists_if_both kept false false settings = refl
 
 -- the three kinds together, and the set line
 module _ (s : List ℕ) (head : Row) where
@@ -99,15 +114,30 @@ module _ (s : List ℕ) (head : Row) where
             (kept_sinks : sink_lines ≡ with_lines (map sink_line_of (rows_counted n2 (take (length s - x.consumed) (drop x.consumed s)))) (replicate max_places no_sink))
             (kept_paths : path_lines ≡ with_lines (map path_line_of (rows_counted n3 (take (length s - (x.consumed + y.consumed)) (drop (x.consumed + y.consumed) s)))) (replicate max_places no_path))
           where
-            pub lists_read : ◌≡◌ {A = BookLists} (record { complete = x.complete && y.complete && z.complete && w.readable; consumed = x.consumed + y.consumed + z.consumed + w.consumed; holder_kinds = holder_kinds; sink_lines = sink_lines; path_lines = path_lines; settings = w.settings }) (book_lists_of head s)
-            unfolding book_lists_of book_lines_complete holder_rows sink_rows path_rows set_readable settings_of_rows set_line_of first_lines field left
-            lists_read =
+            abbrev kept : Settings → BookLists
+            kept settings = record { holder_kinds = holder_kinds; sink_lines = sink_lines; path_lines = path_lines; settings = settings }
+
+            settings-are : w.settings ≡ settings_read (set_row head (rows_of s))
+            unfolding set_line_of left
+            settings-are = ap (λ l. l.settings) read_w ∙ ap settings_read row_here
+
+            lists-are : cond (x.complete && y.complete && z.complete && set_readable head (rows_of s)) (Some (kept (settings_of_rows head (rows_of s)))) None ≡ cond (book_lines_complete head (rows_of s)) (Some (book_lists_of head (rows_of s))) None
+            unfolding book_lists_of book_lines_complete holder_rows sink_rows path_rows first_lines field
+            lists-are =
                 λ i.
-                record {
-                  complete = complete-is n0 s (rows_of s) refl Holder x read_x i && complete-is n2 _ _ sinks-here Sink y read_y i && complete-is n3 _ _ paths-here Path z read_z i && (ap (λ l. l.readable) read_w ∙ ap not_broken row_here) i;
-                  consumed = at-end i;
+                cond
+                (complete-is n0 s (rows_of s) refl Holder x read_x i && complete-is n2 _ _ sinks-here Sink y read_y i && complete-is n3 _ _ paths-here Path z read_z i && set_readable head (rows_of s))
+                (Some (record {
                   holder_kinds = kept-are n0 s (rows_of s) refl (field 0) (replicate max_places 0) holder_kinds kept_holders i;
                   sink_lines = kept-are n2 _ _ sinks-here sink_line_of (replicate max_places no_sink) sink_lines kept_sinks i;
                   path_lines = kept-are n3 _ _ paths-here path_line_of (replicate max_places no_path) path_lines kept_paths i;
-                  settings = (ap (λ l. l.settings) read_w ∙ ap settings_on row_here) i;
-                }
+                  settings = settings_of_rows head (rows_of s);
+                }))
+                None
+
+            pub lines_read : (lists : Option BookLists) → lists ≡ lists_if kept (x.complete && y.complete && z.complete) w.settings → ◌≡◌ {A = BookLines} (record { lists = lists; consumed = x.consumed + y.consumed + z.consumed + w.consumed }) (book_lines_of head s)
+            unfolding book_lines_of settings_read set_readable settings_of_rows
+            lines_read lists made =
+                let complete = x.complete && y.complete && z.complete in
+                let row = set_row head (rows_of s) in
+                λ i. record { lists = (made ∙ ap (lists_if kept complete) settings-are ∙ lists_if_both kept complete (not_broken row) (settings_on row) ∙ lists-are) i; consumed = at-end i }

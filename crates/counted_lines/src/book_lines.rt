@@ -1,6 +1,6 @@
 // The lines of the book group after its head: those that the head counts, read one kind after another (01, Script and host), and the set line (02, 3/14).
 ghost use Rattle.std.specs.Prelude.{◌≡◌};
-ghost use Rattle.counted_lines.specs.BookLines.{set_line_of, book_lists_of};
+ghost use Rattle.counted_lines.specs.BookLines.{set_line_of, book_lines_of};
 
 use crate::counted::read_counted;
 use lines::lines::next_row;
@@ -9,60 +9,59 @@ use records::setup::{PathLine, SinkLine};
 use tariff::settings::Settings;
 use tariff::sizes::MAX_PLACES;
 
-// The set line that may stand after the lines that a book head counts: whether there is none that cannot be read, how many bytes it takes, and its
-// fractions; where there is none, those that hold without one (02, 3/14).
+// The set line that may stand after the lines that a book head counts: its fractions, none where it cannot be read, and how many bytes it takes. Where no
+// set line stands, the fractions are those that hold without one (02, 3/14).
 #[derive(Clone, Copy)]
 pub struct SetLine {
-    pub readable: bool,
+    pub settings: Option<Settings>,
     pub consumed: usize,
-    pub settings: Settings,
 }
 
-// The lines that a book head counts and the set line after them: whether they can be read, how many bytes they take, the first 16 lines of each kind, and
-// the fractions. A book with more than 16 of anything is refused, so no more are needed.
+// What stands on the lines that a book head counts, the first 16 of each kind, and the fractions. A book with more than 16 of anything is refused, so no
+// more are needed.
 #[derive(Clone, Copy)]
 pub struct BookLists {
-    pub complete: bool,
-    pub consumed: usize,
     pub holder_kinds: [u64; MAX_PLACES],
     pub sink_lines: [SinkLine; MAX_PLACES],
     pub path_lines: [PathLine; MAX_PLACES],
     pub settings: Settings,
 }
 
+// The lines that a book head counts and the set line after them: what stands on them, none where a line is absent, of another kind or cannot be read,
+// and how many bytes they take.
+#[derive(Clone, Copy)]
+pub struct BookLines {
+    pub lists: Option<BookLists>,
+    pub consumed: usize,
+}
+
 // Reads the set line if one stands here; it is left alone where another line does.
+#[tactic(auto, unfolding(crate::specs::BookLines::set_line_of, crate::specs::BookLines::settings_read, crate::specs::Counted::bytes_of_lines, lines::specs::Rows::not_broken, lines::specs::Rows::set_count, lines::specs::Rows::settings_on))]
 fn read_set_line(rest: &[u8]) -> SetLine
     ensures { result ≡ set_line_of rest.now }
 {
     let next = next_row(rest);
     let row = next.row;
     let fields = row.fields;
-    if row.kind == LineKind::Set {
-        let settings = Settings::from(fields);
-        return SetLine {
-            readable: true,
+    match row.kind {
+        LineKind::Set => SetLine {
+            settings: Some(Settings::from(fields)),
             consumed: next.consumed,
-            settings,
-        };
-    }
-    let settings = Settings::present();
-    if row.kind == LineKind::BrokenSet {
-        return SetLine {
-            readable: false,
+        },
+        LineKind::BrokenSet => SetLine {
+            settings: None,
             consumed: next.consumed,
-            settings,
-        };
-    }
-    SetLine {
-        readable: true,
-        consumed: 0,
-        settings,
+        },
+        _ => SetLine {
+            settings: Some(Settings::present()),
+            consumed: 0,
+        },
     }
 }
 
 // Reads the lines that a book head counts, holders, then sinks, then paths, and the set line after them.
-pub fn read_book_lines(rest: &[u8], head: Row) -> BookLists
-    ensures { result ≡ book_lists_of head rest.now }
+pub fn read_book_lines(rest: &[u8], head: Row) -> BookLines
+    ensures { result ≡ book_lines_of head rest.now }
 {
     let fields = head.fields;
     let mut holder_kinds = [0u64; MAX_PLACES];
@@ -85,12 +84,17 @@ pub fn read_book_lines(rest: &[u8], head: Row) -> BookLists
     );
     let at_set = at_paths + paths.consumed;
     let set = read_set_line(&rest[at_set..]);
-    BookLists {
-        complete: holders.complete & sinks.complete & paths.complete & set.readable,
+    let lists = match set.settings {
+        Some(settings) if holders.complete & sinks.complete & paths.complete => Some(BookLists {
+            holder_kinds,
+            sink_lines,
+            path_lines,
+            settings,
+        }),
+        _ => None,
+    };
+    BookLines {
+        lists,
         consumed: at_set + set.consumed,
-        holder_kinds,
-        sink_lines,
-        path_lines,
-        settings: set.settings,
     }
 }

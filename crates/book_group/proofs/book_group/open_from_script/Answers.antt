@@ -1,15 +1,12 @@
 -- `book_group::book_group::open_from_script` meets its contract: the lines after the head are those that it counts, or the group is unreadable. Assumes nothing.
-use mathlib.Core.Path.{◌≡◌, sym, ◌∙◌}
-use mathlib.Core.Bool.{false, ◌&&◌}
-use Rattle.tariff.proofs.Tests.{and_join, and_left_false, and_right_false}
+use mathlib.Core.Path.{sym, ◌∙◌}
 use Rattle.lines.specs.declared.rows.LineKind.TheVariants.{Book}
-use Rattle.lines.specs.Rows.{same_kind}
 use Rattle.lines.proofs.KindLaws.{kinds_compared}
 use Rattle.counted_lines.proofs.LineBytes.{here_within}
-use Rattle.book_group.proofs.BookGroupLaws.{after_head, lists_fit_lem, group_opened, group_refused, whole_group}
+use Rattle.book_group.proofs.BookGroupLaws.{after_head, lines_fit_lem, opened_if, group_opened, whole_group}
 use borrow.Author.Rules.{rules}
 use Rattle.book_group.proofs.book_group.open_from_script.Goals as goal
-use Rattle.book_group.proofs.book_group.open_from_script.Goals.{else-lists-via-then-lists+else-eq, else-lists-via-else-lists}
+use Rattle.book_group.proofs.book_group.open_from_script.Goals.{in-Some, in_default-2, in_default}
 
 pub slice_bounds-read_book_lines-count : goal.slice_bounds-read_book_lines-count
 slice_bounds-read_book_lines-count c = here_within _ _ _ (after_head _ _ c.next_row-first.ensures)
@@ -17,23 +14,18 @@ slice_bounds-read_book_lines-count c = here_within _ _ _ (after_head _ _ c.next_
 pub slice_bounds-read_book_lines-start : goal.slice_bounds-read_book_lines-start
 slice_bounds-read_book_lines-start c = let within = here_within _ _ _ (after_head _ _ c.next_row-first.ensures) in search rules
 
-pub overflow_add-consumed : goal.overflow_add-consumed
-overflow_add-consumed c = let within = lists_fit_lem _ _ _ c.next_row-first.ensures c.read_book_lines-lists.ensures in search rules
-
-pub returns-then-eq : goal.returns-then-eq
-returns-then-eq c =
-    let first = c.next_row-first in
-    let lists = c.read_book_lines-lists in
-    let readable = and_join c.if-lists.true (sym (c.if-eq.ensures ∙ kinds_compared first.result.row.kind Book)) in
-    group_opened first.result.row _ lists.result lists.ensures readable first.result.consumed _ c.open_from_lists-opened.ensures ∙ whole_group _ first.result first.ensures
+pub overflow_add-result : goal.overflow_add-result
+overflow_add-result c = let within = lines_fit_lem _ _ _ c.next_row-first.ensures c.read_book_lines-lines.ensures in search rules
 
 pub returns : goal.returns
+unfolding opened_if
 returns c =
     let first = c.next_row-first in
-    let lists = c.read_book_lines-lists in
-    let unread : (lists.result.complete && same_kind first.result.row.kind Book) ≡ false =
-    elim c.else-lists.branch [
-      | else-lists-via-then-lists+else-eq w ↦ and_right_false lists.result.complete (sym (w.if-eq.ensures ∙ kinds_compared first.result.row.kind Book))
-      | else-lists-via-else-lists w ↦ and_left_false (same_kind first.result.row.kind Book) w.if-lists.false
-    ]
-    in group_refused first.result.row _ lists.result lists.ensures unread first.result.consumed ∙ whole_group _ first.result first.ensures
+    let lines = c.read_book_lines-lines in
+    group_opened first.result.row _ lines.result lines.ensures first.result.consumed _
+    (elim c.match-lines.branch [
+      | in-Some w ↦ rw w.in-Some.is (rw (sym (w.if-eq.ensures ∙ kinds_compared first.result.row.kind Book)) (w.opened-is ∙ w.open_from_lists-opened.ensures))
+      | in_default-2 w ↦ rw w.in-Some.is (rw (sym (w.if-eq.ensures ∙ kinds_compared first.result.row.kind Book)) w.opened-is)
+      | in_default w ↦ rw w.in_default.is w.opened-is
+    ])
+    ∙ whole_group _ first.result first.ensures
