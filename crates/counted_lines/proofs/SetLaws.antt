@@ -1,4 +1,4 @@
--- Laws of the set line: it is the first row of what is left, and the tests of its kind say what is taken of it. Assumes nothing.
+-- The row where a set line may stand: it is the first of what is left. Assumes nothing.
 use Prim.Native.Nat.{ℕ}
 use mathlib.Core.Path.{◌≡◌, refl}
 use mathlib.Core.List.{List, [], ◌∷◌, map}

@@ -1,9 +1,10 @@
 // What a line of a script says: its kind, by its word and count of fields, and its numbers (01, Script and host).
-ghost use Rattle.std.specs.Prelude.{◌≡◌, get_or, drop};
+ghost use Rattle.std.specs.Prelude.{◌≡◌, drop};
 ghost use Rattle.lines.specs.Rows.{begins_set, unread_row};
 ghost use Rattle.lines.specs.Reading.{fields_read};
 
 use crate::text::{LINE_FEED, read_field};
+use tariff::entries::entry_at;
 
 // The kinds of lines.
 #[derive(Clone, Copy, PartialEq, Eq)]
@@ -53,13 +54,6 @@ pub struct Fields {
     pub end: usize,
 }
 
-// The byte at a place, 0 past the last.
-fn byte_at(rest: &[u8], at: usize) -> u8
-    ensures { result ≡ get_or rest.now at 0 }
-{
-    rest.get(at).copied().unwrap_or(0)
-}
-
 // Whether a line begins with `set,` (02, 3/14).
 fn begins_set(rest: &[u8]) -> bool
     ensures { result ≡ begins_set rest.now }
@@ -90,13 +84,13 @@ pub fn read_fields(rest: &[u8], start: usize) -> Option<Fields>
     let mut numbers = [0u64; MAX_FIELDS];
     let mut count: usize = 0;
     let mut at = start;
-    let mut byte = byte_at(rest, start);
+    let mut byte = entry_at(rest, start, 0);
     while byte == COMMA && count < MAX_FIELDS {
         let field = read_field(rest, at + 1)?;
         numbers[count] = field.value;
         count += 1;
         at = field.end;
-        byte = byte_at(rest, at);
+        byte = entry_at(rest, at, 0);
     }
     if byte != LINE_FEED {
         return None;

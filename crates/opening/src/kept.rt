@@ -5,8 +5,8 @@ ghost use Rattle.records.specs.Opening.{opening_of, path_bases, kept_opening, em
 ghost use Rattle.opening.specs.Opened.{opening_asked};
 
 use crate::book_setup::BookSetup;
-use records::lists::entry_at;
 use records::setup::{KeptOpening, PathLine, SinkLine};
+use tariff::entries::entry_at;
 use tariff::settings::Settings;
 use tariff::sizes::{MAX_HOLDERS, MAX_PLACES};
 

@@ -4,7 +4,7 @@ ghost use Rattle.slots.specs.Layout.{calendar_in, current_tier_in};
 
 use crate::layout::{CURRENT_TIER_AT, LAST_CLOSED_AT, STEP_HELD_AT};
 use records::calendar::Calendar;
-use records::lists::entry_at;
+use tariff::entries::entry_at;
 
 // The open tier, 0 for none.
 #[tactic(auto, unfolding(crate::specs::Layout::current_tier_in))]

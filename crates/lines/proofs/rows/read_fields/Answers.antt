@@ -11,7 +11,7 @@ use Rattle.lines.proofs.rows.read_fields.Goals.{then-loop-byte-test+else-count-l
 
 pub loop-byte-init : goal.loop-byte-init
 unfolding zeros tabulate
-loop-byte-init c = (search rules, refl, reading_starts _ _, c.byte_at-byte.ensures)
+loop-byte-init c = (search rules, refl, reading_starts _ _, c.entry_at-byte.ensures)
 
 pub returns-in_err-field : goal.returns-in_err-field
 returns-in_err-field c =
@@ -24,7 +24,7 @@ loop-byte-preserved c =
       omega arith,
       length-set c.loop-byte.numbers c.loop-byte.count _ ∙ c.loop-byte.invariant.1,
       continues c.args.rest.now c.args.start _ _ _ c.loop-byte.invariant.2 (byte_inside c.args.rest.now c.loop-byte.at comma (omega arith) here) here _ c.in_ok-field.ensures,
-      c.byte_at-byte-in-loop-byte.ensures,
+      c.entry_at-byte-in-loop-byte.ensures,
     )
 
 pub returns-then-byte-ne-LINE_FEED : goal.returns-then-byte-ne-LINE_FEED
