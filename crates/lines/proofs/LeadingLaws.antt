@@ -7,7 +7,9 @@ use mathlib.Core.Logic.{◌⊎◌, inl, inr}
 use native.Mathlib.Omega.{arith}
 use borrow.Author.Tests.{ltb-true, ltb-false, leb-true, le-leb}
 use lib.ListN.{length, get_or, take, drop, drop_of_length-le}
+use lib.Seq.{get_or-drop}
 use lib.Dec.{eqb, leb, ltb}
+use Rattle.std.proofs.lemmas.List.{get_or-take}
 use Rattle.tariff.proofs.Tests.{decided, both_ways, and_both, and_join}
 use Rattle.lines.specs.declared.text.Token.{Token}
 use Rattle.lines.specs.Text.{line_feed, comma}
@@ -31,6 +33,10 @@ module _ (length from most : ℕ) (l : from ≤ length) where
       go : (t : Bool) → cond t (from + most) length ≤ i → (length ≤ i) ⊎ (from + most ≤ i)
       go true p = inr p
       go false p = inl p
+
+-- a byte of a part, by its place in the whole
+pub byte_of_part : (bytes : List ℕ) (from n i : ℕ) → i < n → get_or (take n (drop from bytes)) i 0 ≡ get_or bytes (from + i) 0
+byte_of_part bytes from n i l = get_or-take n (drop from bytes) i 0 l ∙ get_or-drop from bytes i 0
 
 none_leading : (test : ℕ → Bool) (bytes : List ℕ) → leading test 0 bytes ≡ []
 unfolding leading

@@ -1,10 +1,11 @@
 -- Laws of the numbers that fields write: what is a digit, how large a value of digits gets, and which fields are numbers. Assumes nothing.
-use Prim.Native.Nat.{ℕ, suc, ◌+◌, ◌-◌, ◌*◌, ◌^◌, ◌≤◌, ◌<◌}
+use Prim.Native.Nat.{ℕ, ◌+◌, ◌-◌, ◌*◌, ◌^◌, ◌≤◌, ◌<◌}
 use mathlib.Core.Path.{◌≡◌, refl, sym, ap, ◌∙◌, subst}
 use mathlib.Core.Bool.{Bool, true, false, cond, not, ◌&&◌, ◌||◌, or-true}
 use mathlib.Core.List.{List, [], ◌∷◌}
 use mathlib.Core.Logic.{◌⊎◌, inl, inr}
 use native.Mathlib.Nat.{add-zero, pow-suc}
+use native.Mathlib.Numerals.{add-one}
 use native.Mathlib.Omega.{arith}
 use borrow.Author.Tests.{le-leb, lt-leb, leb-true, eq-eqb, ne_eqb}
 use lib.ListN.{length, get_or, drop, length-drop}
@@ -27,13 +28,8 @@ unfolding within
 below_range low high x l = and_left_false (leb x high) (lt-leb low x l)
 
 -- one digit more
-pub power_more : (v d from i : ℕ) → from ≤ i → v < 10 ^ (i - from) → d ≤ 9 → v * 10 + d < 10 ^ (i + 1 - from)
-power_more v d from i q l m =
-    let next : i + 1 - from ≡ suc (i - from) = omega arith in
-    subst (λ p. v * 10 + d < p) (sym (ap (λ k. 10 ^ k) next ∙ pow-suc 10 (i - from))) (omega arith)
-
-pub power_none : (from : ℕ) → 0 < 10 ^ (from - from)
-power_none from = let none : from - from ≡ 0 = omega arith in subst (λ k. 0 < 10 ^ k) (sym none) (omega arith)
+pub power_more : (v d i : ℕ) → v < 10 ^ i → d ≤ 9 → v * 10 + d < 10 ^ (i + 1)
+power_more v d i l m = subst (λ p. v * 10 + d < p) (sym (ap (λ k. 10 ^ k) (add-one i) ∙ pow-suc 10 i)) (omega arith)
 
 -- one digit, or a first byte other than 0: no leading zero
 one_digit : (field : List ℕ) → 1 ≤ length field → length field ≤ 1 → (eqb (length field) 1 || not (eqb (get_or field 0 0) 48)) ≡ true

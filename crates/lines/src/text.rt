@@ -1,5 +1,5 @@
 // The bytes of a script: where a line or a field ends, how many lines there are, and the number that a field writes (01, Script and host).
-ghost use Rattle.std.specs.Prelude.{◌≡◌, ◌≤◌, length, drop};
+ghost use Rattle.std.specs.Prelude.{◌≡◌, ◌≤◌, ◌+◌, length, drop};
 ghost use Rattle.lines.specs.Text.{line_feed, lines_of};
 ghost use Rattle.lines.specs.Reading.{chunk_bytes, line_feeds_in, bytes_before, numeral, reading_limit, digits_at, field_at};
 
@@ -89,7 +89,10 @@ pub fn count_lines(script: &[u8]) -> u64
 #[tactic(auto, unfolding(crate::specs::Reading::reading_limit))]
 pub fn reading_limit(length: usize, from: usize, most: usize) -> usize
     requires { from ≤ length }
-    ensures { result ≡ reading_limit length from most }
+    ensures value { result ≡ reading_limit length from most }
+    ensures after_start { from ≤ result }
+    ensures within { result ≤ length }
+    ensures few { result ≤ from + most }
 {
     from + most.min(length - from)
 }
@@ -101,10 +104,12 @@ fn read_digits(bytes: &[u8], from: usize) -> Token
 {
     let limit = reading_limit(bytes.len(), from, MAX_DIGITS);
     let mut value: u64 = 0;
-    for i in from..limit {
-        let byte = bytes[i];
+    for (i, &byte) in bytes[from..limit].iter().enumerate() {
         if !byte.is_ascii_digit() {
-            return Token { value, end: i };
+            return Token {
+                value,
+                end: from + i,
+            };
         }
         value = value * 10 + (byte - b'0') as u64;
     }

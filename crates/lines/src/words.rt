@@ -59,8 +59,7 @@ pub fn read_word(rest: &[u8]) -> Token
 {
     let limit = reading_limit(rest.len(), 0, MAX_LETTERS);
     let mut key: u64 = 0;
-    for i in 0..limit {
-        let byte = rest[i];
+    for (i, &byte) in rest[..limit].iter().enumerate() {
         if !byte.is_ascii_lowercase() {
             return Token { value: key, end: i };
         }
