@@ -1,9 +1,9 @@
 // Numbers as decimal digits.
-ghost use Rattle.std.specs.Prelude.{◌+◌, ◌≤◌, ◌<◌, ◌≡◌, length};
+ghost use Rattle.std.specs.Prelude.{◌<◌, ◌≡◌};
 ghost use Rattle.lines.specs.Text.{decimal, digit};
-ghost use Rattle.lines.specs.Writing.{written_at};
+ghost use Rattle.lines.specs.Writing.{HasRoom, Wrote};
 
-use crate::output::write_bytes;
+use crate::output::Output;
 
 // The byte of a digit.
 #[tactic(auto, unfolding(crate::specs::Text::digit))]
@@ -14,11 +14,10 @@ pub fn digit_byte(d: u64) -> u8
     48 + d as u8
 }
 
-// Writes a number into the output at a place, and says where the next text goes.
-pub fn write_decimal(out: &mut [u8], at: usize, v: u64) -> usize
-    requires room { at + length (decimal v) ≤ length out.old }
-    ensures end { result ≡ at + length (decimal v) }
-    ensures written { out.new ≡ written_at out.old at (decimal v) }
+// Writes a number.
+pub fn write_decimal(out: &mut Output, v: u64)
+    requires { HasRoom out.old (decimal v) }
+    ensures { Wrote out.old out.new (decimal v) }
 {
     // The digits are found from the last to the first; a number of 64 bits has at most 20.
     let mut digits = [0u8; 20];
@@ -30,5 +29,5 @@ pub fn write_decimal(out: &mut [u8], at: usize, v: u64) -> usize
         rest /= 10;
     }
     digits[first] = digit_byte(rest);
-    write_bytes(out, at, &digits[first..])
+    out.write(&digits[first..]);
 }

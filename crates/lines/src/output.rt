@@ -1,15 +1,32 @@
-// Bytes at a place of the output.
-ghost use Rattle.std.specs.Prelude.{◌+◌, ◌≤◌, ◌≡◌, length};
-ghost use Rattle.lines.specs.Writing.{written_at};
+// A lent buffer that texts are written into, one after another.
+ghost use Rattle.std.specs.Prelude.{◌≡◌};
+ghost use Rattle.lines.specs.Writing.{HasRoom, Wrote};
 
-// Writes a text into the output at a place, and says where the next one goes.
-#[tactic(auto, unfolding(crate::specs::Writing::written_at))]
-pub fn write_bytes(out: &mut [u8], at: usize, text: &[u8]) -> usize
-    requires { at + length text.now ≤ length out.old }
-    ensures end { result ≡ at + length text.now }
-    ensures written { out.new ≡ written_at out.old at text.now }
-{
-    let end = at + text.len();
-    out[at..end].copy_from_slice(text);
-    end
+// The buffer, and how many of its bytes are written.
+#[derive(Drop)]
+pub struct Output<'a> {
+    pub bytes: &'a mut [u8],
+    pub length: usize,
+}
+
+impl<'a> Output<'a> {
+    // A buffer in which nothing is written yet.
+    pub fn new(bytes: &'a mut [u8]) -> Output<'a>
+        ensures same_buffer { result.bytes.ghost_name ≡ bytes.entry.ghost_name }
+        ensures bytes { result.bytes.now ≡ bytes.old }
+        ensures nothing_written { result.length ≡ 0 }
+    {
+        Output { bytes, length: 0 }
+    }
+
+    // Writes a text after those so far.
+    #[tactic(auto, unfolding(crate::specs::Writing::written_at))]
+    pub fn write(&mut self, text: &[u8])
+        requires { HasRoom self.old text.now }
+        ensures { Wrote self.old self.new text.now }
+    {
+        let end = self.length + text.len();
+        self.bytes[self.length..end].copy_from_slice(text);
+        self.length = end;
+    }
 }

@@ -1,7 +1,5 @@
 -- The line of each kind of answer has at most the bytes that a run needs for a line. Assumes nothing.
-use Prim.Native.Nat.{ℕ, ◌+◌, ◌≤◌, ◌<◌}
-use mathlib.Core.Path.{◌≡◌, sym, subst}
-use mathlib.Core.List.{List}
+use Prim.Native.Nat.{ℕ, ◌≤◌, ◌<◌}
 use native.Mathlib.Omega.{arith}
 use lib.ListN.{length, length-append}
 use Rattle.ledger.specs.Season.{done, value, refused}
@@ -25,7 +23,3 @@ value_writable v small = record { short = simp length-append (let few = decimal_
 pub refused_writable : (number : ℕ) → Writable (refused number)
 unfolding text_of bytes_of
 refused_writable number = record { short = omega arith }
-
--- room for a text is room for the same text
-pub room_for : (out text same : List ℕ) (at : ℕ) → at + length same ≤ length out → text ≡ same → at + length text ≤ length out
-room_for out text same at room e = subst (λ l. at + length l ≤ length out) (sym e) room

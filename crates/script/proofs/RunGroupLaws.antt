@@ -1,11 +1,10 @@
 -- A script's rest, group by group: what is answered and written so far, and what is left. Assumes nothing.
-use Prim.Native.Nat.{ℕ, ◌+◌, ◌-◌, ◌*◌, ◌≤◌, ◌<◌}
+use Prim.Native.Nat.{ℕ, ◌+◌, ◌-◌, ◌≤◌, ◌<◌}
 use mathlib.Core.Path.{◌≡◌, refl, sym, ap, ◌∙◌, subst}
 use mathlib.Core.Bool.{Bool, false}
 use mathlib.Core.List.{List, [], ◌∷◌, ◌++◌, map, append_assoc, append-nil}
 use native.Mathlib.Omega.{arith}
-use lib.ListN.{length, take, drop, replicate, length-append, length-drop, drop_of_length-le, take-append-drop}
-use native.Mathlib.Nat.{add-zero}
+use lib.ListN.{length, take, drop, replicate, length-drop, drop_of_length-le}
 use lib.Seq.{drop-drop}
 use Rattle.records.specs.declared.setup.KeptOpening.{KeptOpening}
 use Rattle.source_evidence.specs.declared.evidence.Entry.{Entry}
@@ -21,15 +20,16 @@ use Rattle.lines.specs.Rows.{rows_of}
 use Rattle.lines.specs.Text.{lines_of, max_lines}
 use Rattle.lines.specs.Reading.{next_row}
 use Rattle.counted_lines.specs.Counted.{bytes_of_lines, rows_counted}
-use Rattle.lines.specs.Writing.{written_at}
+use Rattle.lines.specs.declared.output.Output.{Output}
+use Rattle.lines.specs.Writing.{HasRoom, Wrote}
 use Rattle.counted_lines.proofs.RowSteps.{first_row_lem, consumed_some, consumed_within}
 use Rattle.counted_lines.proofs.LineBytes.{bytes_within, rows_after}
 use Rattle.lines.proofs.FieldLaws.{rest_all}
-use Rattle.lines.proofs.WritingLaws.{written_length, written_again}
+use Rattle.lines.proofs.WritingLaws.{wrote_nothing, same_length, wrote_both, wrote_as}
 use Rattle.groups.specs.Groups.{Group, unreadable_group, request, lines_counted, request_of, groups_from, groups_of}
 use Rattle.script.specs.Answers.{text_of, texts_of}
 use Rattle.script.specs.GroupTexts.{answers_of, text_from}
-use Rattle.script.specs.Writing.{Writable}
+use Rattle.script.specs.Writing.{Writable, HasRoomForLines}
 use Rattle.groups.specs.Outcome.{Answered, head_group, head_bytes, first_group, group_bytes, Answers, outcome_of_group}
 use Rattle.groups.proofs.GroupLaws.{first_group_lem, drop_shorter}
 use Rattle.script.proofs.GroupTextLaws.{group_reachable}
@@ -88,20 +88,19 @@ unfolding text_from rows_of lines_of groups_of groups_from answers_of texts_of
 text_none b = refl
 
 -- what is known when some groups have been answered
-pub record AnswersSoFar (script : List ℕ) (first : Book) (from start : ℕ) (out₀ out : List ℕ) (b : Book) (at written : ℕ) : Type 0 where
+pub record AnswersSoFar (script : List ℕ) (first : Book) (from : ℕ) (before after : Output) (b : Book) (at : ℕ) : Type 0 where
   pub reachable : Reachable b
   pub in_script : at ≤ length script
   pub few : length (rows_of (drop at script)) ≤ max_lines
-  pub room : written + 16 * length (rows_of (drop at script)) ≤ length out₀
+  pub room : HasRoomForLines after (length (rows_of (drop at script)))
   pub done : List ℕ
-  pub place : written ≡ start + length done
-  pub bytes : out ≡ written_at out₀ start done
+  pub wrote : Wrote before after done
   pub left : done ++ text_from b (drop at script) ≡ text_from first (drop from script)
 
 -- the same of the arrays that a run keeps: the book has some evidence, which a run does not keep
-pub record RunSoFar (script : List ℕ) (first : Book) (from start : ℕ) (out₀ out : List ℕ) (o : KeptOpening) (f : List ℕ) (m : List Bool) (at written : ℕ) : Type 0 where
+pub record RunSoFar (script : List ℕ) (first : Book) (from : ℕ) (before after : Output) (o : KeptOpening) (f : List ℕ) (m : List Bool) (at : ℕ) : Type 0 where
   pub evidence : List Entry
-  pub so_far : AnswersSoFar script first from start out₀ out (book_in o f m evidence) at written
+  pub so_far : AnswersSoFar script first from before after (book_in o f m evidence) at
 
 -- arrays at 0, with nothing posted, are those of the book that was opened
 opened_book : (o : KeptOpening) → book_of o empty_ledger ≡ book_in o (replicate figure_count 0) (replicate posted_count false) (evidence_of empty_ledger)
@@ -109,38 +108,17 @@ unfolding book_of
 opened_book o = λ i. book_in o (sym empty_figures i) (sym empty_posted i) (evidence_of empty_ledger)
 
 -- and nothing is answered yet
-module _ (script : List ℕ) (o : KeptOpening) (from start : ℕ) (out : List ℕ) where
+module _ (script : List ℕ) (o : KeptOpening) (from : ℕ) (out : Output) where
   abbrev opened : Book
   opened = book_of o empty_ledger
 
-  none-answered : Reachable opened → from ≤ length script → length (rows_of (drop from script)) ≤ max_lines → start + 16 * length (rows_of (drop from script)) ≤ length out → AnswersSoFar script opened from start out out opened from start
-  unfolding written_at
-  none-answered r l few room =
-      record {
-        reachable = r;
-        in_script = l;
-        few = few;
-        room = room;
-        done = [];
-        place = omega arith;
-        bytes = sym (nothing_written start out);
-        left = refl;
-      }
-    where
-      nothing_written : (at : ℕ) (out : List ℕ) → take at out ++ [] ++ drop (at + 0) out ≡ out
-      nothing_written at out = ap (λ front. front ++ drop (at + 0) out) (append-nil (take at out)) ∙ ap (λ n. take at out ++ drop n out) (add-zero at) ∙ take-append-drop at out
+  none-answered : Reachable opened → from ≤ length script → length (rows_of (drop from script)) ≤ max_lines → HasRoomForLines out (length (rows_of (drop from script))) → AnswersSoFar script opened from out out opened from
+  none-answered r l few room = record { reachable = r; in_script = l; few = few; room = room; done = []; wrote = wrote_nothing out (omega arith); left = refl }
 
-  pub none_run : Reachable opened → from ≤ length script → length (rows_of (drop from script)) ≤ max_lines → start + 16 * length (rows_of (drop from script)) ≤ length out → RunSoFar script opened from start out out o (replicate figure_count 0) (replicate posted_count false) from start
-  none_run r l few room = record { evidence = evidence_of empty_ledger; so_far = subst (λ b. AnswersSoFar script opened from start out out b from start) (opened_book o) (none-answered r l few room) }
+  pub none_run : Reachable opened → from ≤ length script → length (rows_of (drop from script)) ≤ max_lines → HasRoomForLines out (length (rows_of (drop from script))) → RunSoFar script opened from out out o (replicate figure_count 0) (replicate posted_count false) from
+  none_run r l few room = record { evidence = evidence_of empty_ledger; so_far = subst (λ b. AnswersSoFar script opened from out out b from) (opened_book o) (none-answered r l few room) }
 
-module _ (script : List ℕ) (first : Book) (from start : ℕ) (out₀ out : List ℕ) (b : Book) (at written : ℕ) (f : AnswersSoFar script first from start out₀ out b at written) where
-  -- the output keeps its length
-  pub answered_length : length out ≡ length out₀
-  answered_length = ap length f.bytes ∙ written_length out₀ start f.done (let room = f.room in let place = f.place in omega arith)
-
-  pub answered_within : written ≤ length out₀
-  answered_within = let room = f.room in omega arith
-
+module _ (script : List ℕ) (first : Book) (from : ℕ) (before after : Output) (b : Book) (at : ℕ) (f : AnswersSoFar script first from before after b at) where
   module _ (some : at < length script) where
     abbrev rest : List ℕ
     rest = drop at script
@@ -148,8 +126,8 @@ module _ (script : List ℕ) (first : Book) (from start : ℕ) (out₀ out : Lis
     rest_some : 1 ≤ length rest
     rest_some = let left = length-drop at script in omega arith
 
-    turn-room : written + 16 ≤ length out
-    turn-room = let same = answered_length in let room = f.room in let fewer = rows_fewer rest rest_some in omega arith
+    turn-room : after.length + 16 ≤ length after.bytes.now
+    turn-room = let room = f.room in let fewer = rows_fewer rest rest_some in omega arith
 
     -- the part of the script that is lent has its first group
     abbrev part : List ℕ
@@ -180,7 +158,7 @@ module _ (script : List ℕ) (first : Book) (from start : ℕ) (out₀ out : Lis
       text = text_of (answer_in a)
 
       -- what writing the answer needs
-      pub turn_writable : written + length text ≤ length out
+      pub turn_writable : HasRoom after text
       turn_writable = let room = turn-room in let short = turn-fits.short in omega arith
 
       abbrev at₁ : ℕ
@@ -189,23 +167,22 @@ module _ (script : List ℕ) (first : Book) (from start : ℕ) (out₀ out : Lis
       place-next : drop at₁ script ≡ drop (group_bytes rest) rest
       place-next = sym (drop-drop consumed at script) ∙ ap (λ n. drop n rest) consumed-is
 
-      pub group_more : (next-written : ℕ) (out₁ : List ℕ) → next-written ≡ written + length text → out₁ ≡ written_at out written text → AnswersSoFar script first from start out₀ out₁ next at₁ next-written
-      group_more next-written out₁ w o =
+      pub group_more : (last : Output) → Wrote after last text → AnswersSoFar script first from before last next at₁
+      group_more last wrote =
           let short = turn-fits.short in
           let fewer = rows_fewer rest rest_some in
           let same_rows = ap (λ s. length (rows_of s)) place-next in
           let room = f.room in
-          let place = f.place in
-          let sum = length-append f.done text in
           let few = f.few in
+          let ends = wrote.2 in
+          let same = same_length after last text wrote in
           record {
             reachable = subst (λ y. Reachable y.book) (sym as-group) (group_reachable b f.reachable (first_group rest));
             in_script = turn_within;
             few = omega arith;
             room = omega arith;
             done = f.done ++ text;
-            place = omega arith;
-            bytes = o ∙ (λ i. written_at (f.bytes i) (f.place i) text) ∙ written_again out₀ start f.done text (omega arith);
+            wrote = wrote_both before after f.done f.wrote last text wrote;
             left =
                 append_assoc f.done text (text_from next (drop at₁ script))
                 ∙ ap (λ later. f.done ++ later)
@@ -214,12 +191,8 @@ module _ (script : List ℕ) (first : Book) (from start : ℕ) (out₀ out : Lis
           }
 
   -- where no bytes are left all groups are answered
-  module _ (gone : length script ≤ at) where
-    all_done : f.done ≡ text_from first (drop from script)
-    all_done = sym (append-nil f.done) ∙ ap (λ later. f.done ++ later) (sym (ap (text_from b) (drop_of_length-le script gone) ∙ text_none b)) ∙ f.left
-
-    pub answered_number : written ≡ start + length (text_from first (drop from script))
-    answered_number = f.place ∙ ap (λ text. start + length text) all_done
-
-    pub answered_bytes : out ≡ written_at out₀ start (text_from first (drop from script))
-    answered_bytes = f.bytes ∙ ap (written_at out₀ start) all_done
+  pub all_answered : length script ≤ at → Wrote before after (text_from first (drop from script))
+  all_answered gone =
+      wrote_as before after _ _
+      (sym (append-nil f.done) ∙ ap (λ later. f.done ++ later) (sym (ap (text_from b) (drop_of_length-le script gone) ∙ text_none b)) ∙ f.left)
+      f.wrote

@@ -1,11 +1,11 @@
 -- A script that is answered: its book group first, then what is left of it. Assumes nothing.
-use Prim.Native.Nat.{ℕ, ◌+◌, ◌*◌, ◌≤◌}
+use Prim.Native.Nat.{ℕ, ◌+◌, ◌≤◌}
 use mathlib.Core.Path.{◌≡◌, sym, ap, ◌∙◌, subst}
 use mathlib.Core.Bool.{Bool, true, false, cond}
 use mathlib.Core.List.{List, ◌++◌}
 use native.Mathlib.Nat.{le_trans, le_of_eq}
 use native.Mathlib.Omega.{arith}
-use lib.ListN.{length, drop, length-append}
+use lib.ListN.{length, drop}
 use Rattle.std.specs.Prelude.{Ok, Err}
 use Rattle.records.specs.Answers.{Answer, answer_in}
 use Rattle.records.specs.Opening.{kept_opening}
@@ -21,15 +21,16 @@ use Rattle.book.specs.Reading.{book_of}
 use Rattle.book.specs.Reachable.{Reachable}
 use Rattle.lines.specs.Rows.{rows_of, book_line_count}
 use Rattle.lines.specs.Reading.{next_row}
-use Rattle.lines.specs.Writing.{written_at}
+use Rattle.lines.specs.declared.output.Output.{Output}
+use Rattle.lines.specs.Writing.{HasRoom, Wrote}
 use Rattle.counted_lines.proofs.RowSteps.{first_row_lem}
-use Rattle.lines.proofs.WritingLaws.{written_length, written_again}
+use Rattle.lines.proofs.WritingLaws.{same_length, wrote_both, wrote_as}
 use Rattle.book_group.specs.declared.book_group.BookGroup.{BookGroup}
 use Rattle.groups.specs.Groups.{book_readable, opening_of_rows, call_rows}
 use Rattle.script.specs.Answers.{text_of}
 use Rattle.script.specs.GroupTexts.{text_from}
 use Rattle.book_group.specs.BookGroup.{book_group_with, book_group_of, group_answer}
-use Rattle.script.specs.Writing.{Writable}
+use Rattle.script.specs.Writing.{Writable, HasRoomForLines}
 use Rattle.script.specs.Run.{answers_text}
 use Rattle.groups.proofs.GroupLaws.{drop_shorter}
 use Rattle.book_group.proofs.BookGroupLaws.{group_rows, group_within, book_group_reachable}
@@ -53,12 +54,12 @@ group_writable script = go (book_readable first left) (legal (opening_of_rows fi
     go true false = refused_writable 16
     go false u = refused_writable 1
 
-module _ (script out : List ℕ) (some : 1 ≤ length script) (few : length (rows_of script) ≤ max_lines) (room : 16 * length (rows_of script) ≤ length out) (x : BookGroup) (is : x ≡ book_group_of script) where
+module _ (script : List ℕ) (out : Output) (some : 1 ≤ length script) (few : length (rows_of script) ≤ max_lines) (room : HasRoomForLines out (length (rows_of script))) (x : BookGroup) (is : x ≡ book_group_of script) where
   abbrev rest : List ℕ
   rest = drop x.consumed script
 
   -- the script has a row, so there is room for an answer
-  first-room : 16 ≤ length out
+  first-room : out.length + 16 ≤ length out.bytes.now
   first-room = let all = ap length (first_row_lem script some) in omega arith
 
   -- what writing the group's answer needs
@@ -66,7 +67,7 @@ module _ (script out : List ℕ) (some : 1 ≤ length script) (few : length (row
     first_fits : Writable (answer_in a)
     first_fits = subst (λ y. Writable (answer_in y)) (sym (given ∙ ap (λ y. group_answer y.opened) is)) (group_writable script)
 
-    pub first_writable : 0 + length (text_of (answer_in a)) ≤ length out
+    pub first_writable : HasRoom out (text_of (answer_in a))
     first_writable = let room = first-room in let short = first_fits.short in omega arith
 
   -- at least the head is not among the rows that are left
@@ -82,8 +83,8 @@ module _ (script out : List ℕ) (some : 1 ≤ length script) (few : length (row
       omega arith
 
   -- a refused book group is all that is answered
-  pub stopped : (refusal : Refusal) → x.opened ≡ Err refusal → answers_text script ≡ text_of (answer_in (Err refusal))
-  stopped refusal e = run_stops script some refusal (sym (ap (λ y. y.opened) is) ∙ e)
+  pub stopped : (refusal : Refusal) → x.opened ≡ Err refusal → text_of (answer_in (Err refusal)) ≡ answers_text script
+  stopped refusal e = sym (run_stops script some refusal (sym (ap (λ y. y.opened) is) ∙ e))
 
   -- after any other the groups that are left are answered
   module _ (kept : KeptOpening) (opens : x.opened ≡ Ok kept) where
@@ -105,19 +106,17 @@ module _ (script out : List ℕ) (some : 1 ≤ length script) (few : length (row
     abbrev later : List ℕ
     later = text_from (book_of kept empty_ledger) rest
 
-    module _ (w : ℕ) (out₁ : List ℕ) (place : w ≡ 0 + length text) (bytes : out₁ ≡ written_at out 0 text) where
-      short : length text ≤ 16
-      short = done_writable.short
+    module _ (first : Output) (wrote : Wrote out first text) where
+      pub left_room : HasRoomForLines first (length (rows_of rest))
+      left_room =
+          let left = rows_left in
+          let short = done_writable.short in
+          let ends = wrote.2 in
+          let same = same_length out first text wrote in
+          omega arith
 
-      same_length : length out₁ ≡ length out
-      same_length = ap length bytes ∙ written_length out 0 text (let s = short in let r = first-room in omega arith)
-
-      pub left_room : w + 16 * length (rows_of rest) ≤ length out₁
-      left_room = let left = rows_left in let s = short in let same = same_length in omega arith
-
-      pub gone_on : (w₂ : ℕ) (out₂ : List ℕ) → w₂ ≡ w + length later → out₂ ≡ written_at out₁ w later → w₂ ≤ length out₁ → (w₂ ≡ length (answers_text script)) × (out₂ ≡ written_at out 0 (answers_text script))
-      gone_on w₂ out₂ n b within =
-          let all = run_continues script some kept of_script ∙ ap (λ y. text ++ text_from (book_of kept empty_ledger) (drop y.consumed script)) (sym is) in
-          let sum = length-append text later in
-          let same = same_length in
-          (n ∙ omega arith ∙ ap length (sym all), b ∙ (λ i. written_at (bytes i) (place i) later) ∙ written_again out 0 text later (omega arith) ∙ ap (written_at out 0) (sym all))
+      pub gone_on : (last : Output) → Wrote first last later → Wrote out last (answers_text script)
+      gone_on last ended =
+          wrote_as out last _ _
+          (sym (run_continues script some kept of_script ∙ ap (λ y. text ++ text_from (book_of kept empty_ledger) (drop y.consumed script)) (sym is)))
+          (wrote_both out first text wrote last later ended)

@@ -1,13 +1,15 @@
 // A run over a lent script and a lent output buffer (01, Script and host).
-ghost use Rattle.std.specs.Prelude.{◌≡◌, ◌*◌, ◌≤◌, length};
+ghost use Rattle.std.specs.Prelude.{◌≡◌, ◌≤◌, length};
 ghost use Rattle.lines.specs.Rows.{rows_of};
-ghost use Rattle.lines.specs.Writing.{written_at};
+ghost use Rattle.lines.specs.Writing.{Wrote};
+ghost use Rattle.script.specs.Writing.{HasRoomForLines};
 ghost use Rattle.script.specs.Run.{answers_text, run_number, output_after};
-ghost use Rattle.lines.specs.Text.{max_lines, max_bytes, bytes_per_line};
+ghost use Rattle.lines.specs.Text.{max_lines, max_bytes};
 
 use crate::answers::write_answer;
 use crate::run_groups::run_groups;
 use book_group::book_group::open_from_script;
+use lines::output::Output;
 use lines::text::{BYTES_PER_LINE, MAX_BYTES, MAX_LINES, count_lines};
 use records::refusal::Refusal;
 
@@ -18,21 +20,20 @@ const SCRIPT_TOO_LONG_RESULT: u64 = Refusal::Unreadable as u64 * REFUSAL_UNIT;
 
 const OUTPUT_TOO_SHORT_RESULT: u64 = Refusal::OutputTooShort as u64 * REFUSAL_UNIT;
 
-// Answers a script that is neither too long for a run nor too long for the buffer; says how many bytes were written. A refused book group ends the run.
-fn answer_script(script: &[u8], out: &mut [u8]) -> usize
+// Answers a script that is neither too long for a run nor too long for the buffer. A refused book group ends the run.
+fn answer_script(script: &[u8], out: &mut Output)
     requires some { 1 ≤ length script.now }
     requires short { length script.now ≤ max_bytes }
     requires few { length (rows_of script.now) ≤ max_lines }
-    requires room { bytes_per_line * length (rows_of script.now) ≤ length out.old }
-    ensures end { result ≡ length (answers_text script.now) }
-    ensures written { out.new ≡ written_at out.old 0 (answers_text script.now) }
+    requires room { HasRoomForLines out.old (length (rows_of script.now)) }
+    ensures { Wrote out.old out.new (answers_text script.now) }
 {
     let group = open_from_script(script);
     match group.opened {
-        Err(refusal) => write_answer(out, 0, Err(refusal)),
+        Err(refusal) => write_answer(out, Err(refusal)),
         Ok(opening) => {
-            let written = write_answer(out, 0, Ok(None));
-            run_groups(script, group.consumed, &opening, out, written)
+            write_answer(out, Ok(None));
+            run_groups(script, group.consumed, &opening, out);
         }
     }
 }
@@ -55,5 +56,7 @@ pub fn run(script: &[u8], out: &mut [u8]) -> u64
     if script.len() == 0 {
         return 0;
     }
-    answer_script(script, out) as u64
+    let mut output = Output::new(out);
+    answer_script(script, &mut output);
+    output.length as u64
 }

@@ -1,44 +1,36 @@
 // The groups of a script, answered one after another (01, Script and host).
-ghost use Rattle.std.specs.Prelude.{◌≡◌, ◌+◌, ◌*◌, ◌≤◌, length, drop};
+ghost use Rattle.std.specs.Prelude.{◌≤◌, length, drop};
 ghost use Rattle.ledger.specs.Ledger.{empty_ledger};
 ghost use Rattle.book.specs.Reading.{book_of};
 ghost use Rattle.book.specs.Reachable.{Reachable};
 ghost use Rattle.lines.specs.Rows.{rows_of};
-ghost use Rattle.lines.specs.Writing.{written_at};
+ghost use Rattle.lines.specs.Writing.{Wrote};
+ghost use Rattle.script.specs.Writing.{HasRoomForLines};
 ghost use Rattle.script.specs.GroupTexts.{text_from};
-ghost use Rattle.lines.specs.Text.{max_lines, max_bytes, bytes_per_line};
+ghost use Rattle.lines.specs.Text.{max_lines, max_bytes};
 
 use crate::answers::write_answer;
 use heads::heads::run_group;
+use lines::output::Output;
 use records::setup::KeptOpening;
 use slots::layout::{FIGURE_COUNT, POSTED_COUNT};
 
-// Puts what is left of a script to the book that was opened and writes the answers from a place on; says where they end.
+// Puts what is left of a script to the book that was opened and writes the answers.
 // The book's arrays stay here and are lent to each group, so that nothing of the book is copied for a line.
-pub fn run_groups(
-    script: &[u8],
-    from: usize,
-    o: &KeptOpening,
-    out: &mut [u8],
-    start: usize,
-) -> usize
+pub fn run_groups(script: &[u8], from: usize, o: &KeptOpening, out: &mut Output)
     requires reachable { Reachable (book_of o.now empty_ledger) }
     requires in_script { from ≤ length script.now }
     requires short { length script.now ≤ max_bytes }
     requires few { length (rows_of (drop from script.now)) ≤ max_lines }
-    requires room { start + bytes_per_line * length (rows_of (drop from script.now)) ≤ length out.old }
-    ensures end { result ≡ start + length (text_from (book_of o.now empty_ledger) (drop from script.now)) }
-    ensures written { out.new ≡ written_at out.old start (text_from (book_of o.now empty_ledger) (drop from script.now)) }
-    ensures within { result ≤ length out.old }
+    requires room { HasRoomForLines out.old (length (rows_of (drop from script.now))) }
+    ensures { Wrote out.old out.new (text_from (book_of o.now empty_ledger) (drop from script.now)) }
 {
     let mut f = [0u64; FIGURE_COUNT];
     let mut m = [false; POSTED_COUNT];
     let mut at = from;
-    let mut written = start;
     while at < script.len() {
         let outcome = run_group(o, &mut f, &mut m, &script[at..]);
-        written = write_answer(out, written, outcome.answer);
+        write_answer(out, outcome.answer);
         at += outcome.consumed;
     }
-    written
 }

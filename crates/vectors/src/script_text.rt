@@ -3,7 +3,6 @@ ghost use Rattle.std.specs.Prelude.{◌≤◌};
 ghost use Rattle.vectors.specs.declared.script_text.TheConstants.{ROOM};
 
 use crate::reading::number_of;
-use lines::output::write_bytes;
 
 // The bytes that a script is built up in.
 const ROOM: usize = 65_600;
@@ -31,7 +30,9 @@ impl ScriptText {
     // Puts bytes after those so far, as many as find room.
     pub fn append(&mut self, bytes: &[u8]) {
         let count = bytes.len().min(ROOM - self.filled);
-        self.filled = write_bytes(&mut self.bytes, self.filled, &bytes[..count]);
+        let end = self.filled + count;
+        self.bytes[self.filled..end].copy_from_slice(&bytes[..count]);
+        self.filled = end;
     }
 
     // What `N LINE` asks for: so many copies of a line, which starts after the blank that follows the number.

@@ -1,13 +1,13 @@
 -- `digits::write_decimal` meets its contract. The loop's invariant: the digits of what is left, and then those found, are the number's, and there is a place for each that is left. Assumes nothing.
 use Prim.Native.Nat.{ℕ, ◌+◌, ◌-◌, ◌≤◌, ◌<◌}
-use mathlib.Core.Path.{◌≡◌, refl, ap, ◌∙◌}
+use mathlib.Core.Path.{◌≡◌, refl, ◌∙◌}
 use mathlib.Core.List.{List, ◌++◌, append-nil}
 use native.Mathlib.Omega.{arith}
 use lib.ListN.{length, set, take, drop, length-set, length-drop}
 use lib.Seq.{take_all}
 use Rattle.lines.specs.Text.{digit, digits_of, decimal}
 use Rattle.lines.proofs.DigitLaws.{place_left, digit_found, first_found}
-use Rattle.lines.proofs.WritingLaws.{written_as}
+use Rattle.lines.proofs.WritingLaws.{wrote_as, room_for}
 use Rattle.lines.proofs.digits.write_decimal.Goals as goal
 
 part_is : (digits : List ℕ) (v first rest d : ℕ) → first ≤ 19 → length digits ≡ 20 → rest < 10 → d ≡ digit rest → digits_of (first + 1) rest ++ drop (first + 1) digits ≡ decimal v → take (20 - first) (drop first (set digits first d)) ≡ decimal v
@@ -32,19 +32,14 @@ loop-rest-preserved c =
       digit_found loop.digits loop.first loop.rest c.digit_byte.result left.0 (omega arith) (omega arith) c.digit_byte.ensures ∙ loop.invariant.3,
     )
 
-pub write_bytes-requires : goal.write_bytes-requires
-write_bytes-requires c =
+pub write-requires : goal.write-requires
+write-requires c =
     let loop = c.loop-rest in
     let found = c.digit_byte-2 in
-    let part = part_is loop.digits c.args.v loop.first loop.rest found.result loop.invariant.0 loop.invariant.1 (omega arith) found.ensures loop.invariant.3 in
-    let same = ap length part in
-    omega arith
+    room_for c.args.out.now _ _ (part_is loop.digits c.args.v loop.first loop.rest found.result loop.invariant.0 loop.invariant.1 (omega arith) found.ensures loop.invariant.3) c.requires
 
 pub returns : goal.returns
 returns c =
     let loop = c.loop-rest in
-    let wrote = c.write_bytes in
     let found = c.digit_byte-2 in
-    let part = part_is loop.digits c.args.v loop.first loop.rest found.result loop.invariant.0 loop.invariant.1 (omega arith) found.ensures loop.invariant.3 in
-    let done = written_as c.args.out.now wrote.new.out _ _ c.args.at wrote.result part (wrote.ensures.end, wrote.ensures.written) in
-    record { end = done.0; written = done.1 }
+    wrote_as c.args.out.now c.write.new.self _ _ (part_is loop.digits c.args.v loop.first loop.rest found.result loop.invariant.0 loop.invariant.1 (omega arith) found.ensures loop.invariant.3) c.write.ensures

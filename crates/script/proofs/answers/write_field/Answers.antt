@@ -1,24 +1,19 @@
--- `answers::write_field` meets its contract. Assumes nothing.
+-- `answers::write_field` meets its contract: a comma and digits, one after the other. Assumes nothing.
 use mathlib.Core.List.{[], ◌∷◌}
-use native.Mathlib.Omega.{arith}
 use borrow.Author.Rules.{rules}
 use Rattle.lines.specs.Text.{comma, decimal}
-use Rattle.lines.proofs.WritingLaws.{written_both}
+use Rattle.lines.proofs.WritingLaws.{room_left, wrote_both}
 use Rattle.script.specs.Answers.{value_field}
 use Rattle.script.proofs.answers.write_field.Goals as goal
 
-pub write_bytes-digits_at-requires : goal.write_bytes-digits_at-requires
+pub write-requires : goal.write-requires
 unfolding value_field
-write_bytes-digits_at-requires c = search rules
+write-requires c = search rules
 
 pub write_decimal-requires : goal.write_decimal-requires
 unfolding value_field
-write_decimal-requires c = record { room = (search rules) }
+write_decimal-requires c = room_left c.args.out.now c.write.new.self (comma ∷ []) c.write.ensures (decimal c.args.v) c.requires
 
 pub returns : goal.returns
 unfolding value_field
-returns c =
-    let first = c.write_bytes-digits_at in
-    let digits = c.write_decimal in
-    let room = c.requires.room in
-    let done = written_both c.args.out.now first.new.out digits.new.out (comma ∷ []) (decimal c.args.v) c.args.at first.result digits.result (omega arith) (first.ensures.end, first.ensures.written) (digits.ensures.end, digits.ensures.written) in record { end = done.0; written = done.1 }
+returns c = wrote_both c.args.out.now c.write.new.self (comma ∷ []) c.write.ensures c.write_decimal.new.out (decimal c.args.v) c.write_decimal.ensures

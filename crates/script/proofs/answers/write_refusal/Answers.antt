@@ -5,7 +5,7 @@ use mathlib.Core.List.{[], ◌∷◌}
 use borrow.Author.Rules.{rules}
 use Rattle.ledger.specs.Season.{refused}
 use Rattle.lines.specs.Text.{bytes_of, digit}
-use Rattle.lines.proofs.WritingLaws.{written_as}
+use Rattle.lines.proofs.WritingLaws.{wrote_as}
 use Rattle.script.specs.Answers.{text_of}
 use Rattle.script.proofs.answers.write_refusal.Goals as goal
 
@@ -13,14 +13,12 @@ line-is : (number told tens ones : ℕ) → told ≡ number → tens ≡ digit (
 unfolding text_of bytes_of
 line-is number told tens ones same t o = (λ i. 110 ∷ 111 ∷ 44 ∷ t i ∷ o i ∷ 10 ∷ []) ∙ ap (λ n. text_of (refused n)) same
 
-pub write_bytes-requires : goal.write_bytes-requires
+pub write-requires : goal.write-requires
 unfolding text_of bytes_of
-write_bytes-requires c = search rules
+write-requires c = search rules
 
 pub returns : goal.returns
 returns c =
-    let wrote = c.write_bytes in
     let ones = c.digit_byte-ones in
     let tens = c.digit_byte-tens in
-    let line = line-is _ c.number-number.result tens.result ones.result c.number-number.ensures.number tens.ensures ones.ensures in
-    let done = written_as c.args.out.now wrote.new.out _ _ c.args.at wrote.result line (wrote.ensures.end, wrote.ensures.written) in record { end = done.0; written = done.1 }
+    wrote_as c.args.out.now c.write.new.self _ _ (line-is _ c.number-number.result tens.result ones.result c.number-number.ensures.number tens.ensures ones.ensures) c.write.ensures

@@ -1,12 +1,14 @@
 -- `answers::write_value` meets its contract: three texts written one after the other are one. Assumes nothing.
-use Prim.Native.Nat.{ℕ, ◌+◌}
+use Prim.Native.Nat.{ℕ}
 use mathlib.Core.Path.{◌≡◌, sym, ap}
 use mathlib.Core.List.{List, [], ◌∷◌, ◌++◌, append-nil}
 use native.Mathlib.Omega.{arith}
-use lib.ListN.{length, length-append}
+use lib.ListN.{length-append}
 use Rattle.ledger.specs.Season.{value}
+use Rattle.lines.specs.declared.output.Output.{Output}
 use Rattle.lines.specs.Text.{bytes_of, line_feed}
-use Rattle.lines.proofs.WritingLaws.{written_both, written_as}
+use Rattle.lines.specs.Writing.{HasRoom}
+use Rattle.lines.proofs.WritingLaws.{room_for, room_left, wrote_both, wrote_as}
 use Rattle.script.specs.Answers.{value_field, value_fields, text_of}
 use Rattle.script.proofs.answers.write_value.Goals as goal
 
@@ -17,27 +19,24 @@ line-is : (v : ℕ) → (ok_bytes ++ value_field v) ++ (line_feed ∷ []) ≡ te
 unfolding text_of value_fields bytes_of
 line-is v = ap (λ field. ok_bytes ++ field ++ (line_feed ∷ [])) (sym (append-nil (value_field v)))
 
-line-length : (v : ℕ) → length (text_of (value v)) ≡ 3 + length (value_field v)
-unfolding text_of value_fields bytes_of
-line-length v = simp length-append (omega arith)
+-- there is room for the word and the field
+most-room : (out : Output) (v : ℕ) → HasRoom out (text_of (value v)) → HasRoom out (ok_bytes ++ value_field v)
+most-room out v room = let all = room_for out _ _ (line-is v) room in let sum = length-append (ok_bytes ++ value_field v) (line_feed ∷ []) in omega arith
 
-pub write_bytes-field_at-requires : goal.write_bytes-field_at-requires
-write_bytes-field_at-requires c = let long = line-length c.args.v in omega arith
+pub write-requires : goal.write-requires
+write-requires c = let most = most-room c.args.out.now c.args.v c.requires in omega arith
 
-pub write_field-end-requires : goal.write_field-end-requires
-write_field-end-requires c = record { room = (let long = line-length c.args.v in omega arith) }
+pub write_field-requires : goal.write_field-requires
+write_field-requires c = room_left c.args.out.now c.write.new.self ok_bytes c.write.ensures (value_field c.args.v) (most-room c.args.out.now c.args.v c.requires)
 
-pub write_bytes-requires : goal.write_bytes-requires
-write_bytes-requires c = let long = line-length c.args.v in omega arith
+pub write-requires-2 : goal.write-requires-2
+write-requires-2 c =
+    let out = c.args.out.now in
+    let most = wrote_both out c.write.new.self ok_bytes c.write.ensures c.write_field.new.out (value_field c.args.v) c.write_field.ensures in
+    room_left out c.write_field.new.out (ok_bytes ++ value_field c.args.v) most (line_feed ∷ []) (room_for out _ _ (line-is c.args.v) c.requires)
 
 pub returns : goal.returns
 returns c =
-    let word = c.write_bytes-field_at in
-    let field = c.write_field-end in
-    let line-end = c.write_bytes in
-    let room = c.requires.room in
-    let long = line-length c.args.v in
-    let sum = length-append ok_bytes (value_field c.args.v) in
-    let begun = written_both c.args.out.now word.new.out field.new.out ok_bytes (value_field c.args.v) c.args.at word.result field.result (omega arith) (word.ensures.end, word.ensures.written) (field.ensures.end, field.ensures.written) in
-    let all = written_both c.args.out.now field.new.out line-end.new.out (ok_bytes ++ value_field c.args.v) (line_feed ∷ []) c.args.at field.result line-end.result (omega arith) begun (line-end.ensures.end, line-end.ensures.written) in
-    let done = written_as c.args.out.now line-end.new.out _ _ c.args.at line-end.result (line-is c.args.v) all in record { end = done.0; written = done.1 }
+    let out = c.args.out.now in
+    let most = wrote_both out c.write.new.self ok_bytes c.write.ensures c.write_field.new.out (value_field c.args.v) c.write_field.ensures in
+    wrote_as out c.write-2.new.self _ _ (line-is c.args.v) (wrote_both out c.write_field.new.out (ok_bytes ++ value_field c.args.v) most c.write-2.new.self (line_feed ∷ []) c.write-2.ensures)

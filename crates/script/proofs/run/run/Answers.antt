@@ -1,7 +1,12 @@
 -- `script::run::run` meets its contract: the two limits, the empty script, and a run. Assumes nothing.
 use Prim.Native.Nat.{◌*◌}
-use mathlib.Core.Path.{sym, ap}
+use mathlib.Core.Path.{sym, ap, ◌∙◌}
 use native.Mathlib.Nat.{le_trans, le_of_eq}
+use native.Mathlib.Omega.{arith}
+use borrow.Author.Rules.{rules}
+use lib.ListN.{length}
+use Rattle.lines.specs.Writing.{written_at}
+use Rattle.script.specs.Run.{answers_text}
 use Rattle.lines.proofs.NextRowLaws.{row_count}
 use Rattle.script.proofs.RunLaws.{long_bytes, long_lines, short_output, a_run, no_bytes, some_bytes}
 use Rattle.script.proofs.run.run.Goals as goal
@@ -30,8 +35,11 @@ answer_script-requires c =
     let n = c.count_lines-lines.ensures in
     let lines = le_trans (le_of_eq (sym n)) c.if-lines.false in
     let bytes = c.if-script-gt-MAX_BYTES.false in
-    let room = le_trans (le_of_eq (ap (λ k. 16 * k) (sym n))) c.if-out-lines.false in
-    let rows = row_count c.args.script.now in record { some = some_bytes _ c.if-script-eq0.false; short = bytes; few = le_trans (le_of_eq rows) lines; room = le_trans (le_of_eq (ap (λ k. 16 * k) rows)) room }
+    let room = c.if-out-lines.false in
+    let rows = row_count c.args.script.now in
+    let begun = c.new-output.ensures in
+    let same = ap length begun.bytes in
+    record { some = some_bytes _ c.if-script-eq0.false; short = bytes; few = le_trans (le_of_eq rows) lines; room = omega arith }
 
 pub returns : goal.returns
 returns c =
@@ -39,7 +47,8 @@ returns c =
     let lines = le_trans (le_of_eq (sym n)) c.if-lines.false in
     let bytes = c.if-script-gt-MAX_BYTES.false in
     let room = le_trans (le_of_eq (ap (λ k. 16 * k) (sym n))) c.if-out-lines.false in
-    let done = c.answer_script.ensures in
-    let end = done.end in
-    let written = done.written in
-    let done = a_run _ _ bytes lines room _ _ end written in record { number = done.0; output = done.1 }
+    let begun = c.new-output.ensures in
+    let wrote = c.answer_script.ensures in
+    let end = wrote.2 in
+    let done = a_run c.args.script.now c.args.out.now bytes lines room c.answer_script.new.out.length c.answer_script.new.out.bytes.now (omega arith) (wrote.3 ∙ (λ i. written_at (begun.bytes i) (begun.nothing_written i) (answers_text c.args.script.now))) in
+    record { number = done.0; output = search (rules, done.1) }

@@ -2,13 +2,13 @@
 use native.Mathlib.Omega.{arith}
 use borrow.Author.Rules.{rules}
 use Rattle.book.specs.Reading.{book_in}
-use Rattle.script.proofs.RunGroupLaws.{none_run, answered_length, answered_within, part_few, turn_some, turn_within, turn_writable, group_more, answered_number, answered_bytes}
+use Rattle.script.proofs.RunGroupLaws.{none_run, part_few, turn_some, turn_within, turn_writable, group_more, all_answered}
 use Rattle.script.proofs.run_groups.run_groups.Goals as goal
 
 pub loop-at-init : goal.loop-at-init
 loop-at-init c =
     let k = c.requires in
-    none_run _ _ _ _ _ k.reachable k.in_script k.few k.room
+    none_run _ _ _ _ k.reachable k.in_script k.few k.room
 
 pub slice_bounds-run_group-count : goal.slice_bounds-run_group-count
 slice_bounds-run_group-count c = c.loop-at.invariant.so_far.in_script
@@ -19,16 +19,16 @@ slice_bounds-run_group-start c = let within = c.loop-at.invariant.so_far.in_scri
 pub run_group-outcome-requires : goal.run_group-outcome-requires
 unfolding book_in
 run_group-outcome-requires c =
-    let inv = c.loop-at.invariant in record { reachable = record { evidence = inv.evidence; reachable = inv.so_far.reachable }; few = part_few _ _ _ _ _ _ _ _ _ inv.so_far c.loop-at-test.true }
+    let inv = c.loop-at.invariant in record { reachable = record { evidence = inv.evidence; reachable = inv.so_far.reachable }; few = part_few _ _ _ _ _ _ _ inv.so_far c.loop-at-test.true }
 
-pub write_answer-written-requires : goal.write_answer-written-requires
+pub write_answer-requires : goal.write_answer-requires
 unfolding book_in
-write_answer-written-requires c =
+write_answer-requires c =
     let inv = c.loop-at.invariant in
     let some = c.loop-at-test.true in
     let ran = c.run_group-outcome.ensures in
     let answered = ran.answer _ inv.so_far.reachable in
-    record { room = turn_writable _ _ _ _ _ _ _ _ _ inv.so_far some _ _ _ answered ran.consumed }
+    turn_writable _ _ _ _ _ _ _ inv.so_far some _ _ _ answered ran.consumed
 
 pub overflow_add-at : goal.overflow_add-at
 unfolding book_in
@@ -37,7 +37,7 @@ overflow_add-at c =
     let some = c.loop-at-test.true in
     let ran = c.run_group-outcome.ensures in
     let answered = ran.answer _ inv.so_far.reachable in
-    let within = turn_within _ _ _ _ _ _ _ _ _ inv.so_far some _ _ _ answered ran.consumed in
+    let within = turn_within _ _ _ _ _ _ _ inv.so_far some _ _ _ answered ran.consumed in
     let short = c.requires.short in
     omega arith
 
@@ -48,8 +48,8 @@ loop-at-smaller c =
     let some = c.loop-at-test.true in
     let ran = c.run_group-outcome.ensures in
     let answered = ran.answer _ inv.so_far.reachable in
-    let within = turn_within _ _ _ _ _ _ _ _ _ inv.so_far some _ _ _ answered ran.consumed in
-    let more = turn_some _ _ _ _ _ _ _ _ _ inv.so_far some _ _ _ answered ran.consumed in
+    let within = turn_within _ _ _ _ _ _ _ inv.so_far some _ _ _ answered ran.consumed in
+    let more = turn_some _ _ _ _ _ _ _ inv.so_far some _ _ _ answered ran.consumed in
     omega arith
 
 pub loop-at-preserved : goal.loop-at-preserved
@@ -59,13 +59,7 @@ loop-at-preserved c =
     let some = c.loop-at-test.true in
     let ran = c.run_group-outcome.ensures in
     let answered = ran.answer _ inv.so_far.reachable in
-    let wrote = c.write_answer-written.ensures in
-    record { evidence = _; so_far = group_more _ _ _ _ _ _ _ _ _ inv.so_far some _ _ _ answered ran.consumed _ _ wrote.end wrote.written }
-
-pub shape_of-out : goal.shape_of-out
-shape_of-out c = answered_length _ _ _ _ _ _ _ _ _ c.loop-at.invariant.so_far
+    record { evidence = _; so_far = group_more _ _ _ _ _ _ _ inv.so_far some _ _ _ answered ran.consumed c.write_answer.new.out c.write_answer.ensures }
 
 pub returns : goal.returns
-returns c =
-    let f = c.loop-at.invariant.so_far in
-    let gone = c.loop-at-test.false in record { end = answered_number _ _ _ _ _ _ _ _ _ f gone; written = answered_bytes _ _ _ _ _ _ _ _ _ f gone; within = answered_within _ _ _ _ _ _ _ _ _ f }
+returns c = all_answered _ _ _ c.args.out.now c.loop-at.out _ _ c.loop-at.invariant.so_far c.loop-at-test.false

@@ -8,7 +8,7 @@ use Rattle.script.proofs.run_groups.run_groups.Given as goal
 
 abbrev pub invariant-loop-at : goal.invariant-loop-at
 invariant-loop-at l =
-    RunSoFar l.script (book_of l.o empty_ledger) l.from l.start l.initial.out l.out l.o l.f l.m l.at l.written
+    RunSoFar l.script (book_of l.o empty_ledger) l.from l.initial.out l.out l.o l.f l.m l.at
 
 abbrev pub decreases-loop-at : goal.decreases-loop-at
 decreases-loop-at l = length l.script - l.at
