@@ -9,7 +9,8 @@ use lib.ListN.{length, take, drop, replicate, length-replicate, length-map, leng
 use lib.Dec.{eqb}
 use borrow.Author.Tests.{eqb-true}
 use Rattle.records.specs.declared.setup.KeptOpening.{KeptOpening}
-use Rattle.tariff.proofs.Tests.{and_both, both_ways}
+use mathlib.Core.Logic.{◌⊎◌, inl, inr}
+use Rattle.tariff.proofs.Tests.{decided, and_both, both_ways}
 use Rattle.std.specs.Prelude.{Err}
 use Rattle.ledger.specs.Season.{Request}
 use Rattle.book.specs.declared.book.Book.{Book}
@@ -34,11 +35,11 @@ use Rattle.groups.specs.Outcome.{of_one_line, head_group, head_bytes, first_grou
 use Rattle.groups.proofs.HeadLaws.{by_unreadable}
 
 -- counted lines are at most those that are left, and at most as many as are counted
-rows_few : (n : ℕ) (s : List ℕ) → length (rows_counted n s) ≤ length (rows_of s)
+pub rows_few : (n : ℕ) (s : List ℕ) → length (rows_counted n s) ≤ length (rows_of s)
 unfolding rows_counted
 rows_few n s = let len = length-take n (rows_of s) in omega arith
 
-rows_counted_lem : (n : ℕ) (s : List ℕ) → length (rows_counted n s) ≤ n
+pub rows_counted_lem : (n : ℕ) (s : List ℕ) → length (rows_counted n s) ≤ n
 unfolding rows_counted
 rows_counted_lem n s = let len = length-take n (rows_of s) in omega arith
 
@@ -46,19 +47,19 @@ module _ (kind : LineKind) (n : ℕ) (s : List ℕ) (x : CountedLines) (read : x
   abbrev rows : List Row
   rows = rows_counted n s
 
-  complete-is : x.complete ≡ counted kind n rows
+  pub complete_is : x.complete ≡ counted kind n rows
   unfolding counted_of
-  complete-is = ap (λ y. y.complete) read
+  complete_is = ap (λ y. y.complete) read
 
-  consumed-is : x.consumed ≡ bytes_of_lines n s
+  pub consumed_is : x.consumed ≡ bytes_of_lines n s
   unfolding counted_of
-  consumed-is = ap (λ y. y.consumed) read
+  consumed_is = ap (λ y. y.consumed) read
 
   -- where the lines are complete there are as many as counted, and an array with a place for each has them in its front
   module _ (all : x.complete ≡ true) where
     pub rows_many : length rows ≡ n
     unfolding counted
-    rows_many = eqb-true (length rows) n (and_both (eqb (length rows) n) (all_of_kind kind rows) (sym complete-is ∙ all)).0
+    rows_many = eqb-true (length rows) n (and_both (eqb (length rows) n) (all_of_kind kind rows) (sym complete_is ∙ all)).0
 
     pub count_fits : (places : ℕ) → length rows ≤ places → n ≤ places
     count_fits places = subst (λ k. k ≤ places) rows_many
@@ -70,35 +71,25 @@ module _ (kind : LineKind) (n : ℕ) (s : List ℕ) (x : CountedLines) (read : x
         (λ i. take (sym (many ∙ rows_many) i) (is i)) ∙ all_kept (map of rows) (replicate places none) (omega arith)
 
 -- a head that makes a request if the lines it counts are complete
-module _ (head : Row) (s : List ℕ) (kind : LineKind) (n : ℕ) (req : Request) (x : CountedLines) (read : x ≡ counted_of kind n s) (counts : lines_counted head ≡ n) (requests : request_of head (rows_counted n s) ≡ when_complete (counted kind n (rows_counted n s)) req) where
-  pub outcome_bytes : x.consumed ≡ head_bytes head s
-  unfolding head_bytes
-  outcome_bytes = consumed-is kind n s x read ∙ ap (λ k. bytes_of_lines k s) (sym counts)
-
-  what : (t : Bool) → x.complete ≡ t → head_group head s ≡ when_complete t req
+module _ (head : Row) (s : List ℕ) (kind : LineKind) (n : ℕ) (req : Request) (counts : lines_counted head ≡ n) (requests : request_of head (rows_counted n s) ≡ when_complete (counted kind n (rows_counted n s)) req) where
+  what : (t : Bool) → counted kind n (rows_counted n s) ≡ t → head_group head s ≡ when_complete t req
   unfolding head_group
-  what t e = ap (λ k. request_of head (rows_counted k s)) counts ∙ requests ∙ ap (λ u. when_complete u req) (sym (complete-is kind n s x read) ∙ e)
+  what t e = ap (λ k. request_of head (rows_counted k s)) counts ∙ requests ∙ ap (λ u. when_complete u req) e
 
   -- lines that are not complete are unreadable, and the group is passed over
-  pub incomplete_outcome : (b : Book) → x.complete ≡ false → Answers b (head_group head s) (Err Unreadable) b
+  pub counted_outcome : (b : Book) (a : Answer) (next : Book) → (counted kind n (rows_counted n s) ≡ true → Answers b (request req) a next) → (counted kind n (rows_counted n s) ≡ false → (a ≡ Err Unreadable) × (next ≡ b)) → Answers b (head_group head s) a next
   unfolding when_complete
-  incomplete_outcome b e = by_unreadable b (head_group head s) (what false e)
+  counted_outcome b a next read unread = go (decided (counted kind n (rows_counted n s)))
+    where
+      go : (counted kind n (rows_counted n s) ≡ true) ⊎ (counted kind n (rows_counted n s) ≡ false) → Answers b (head_group head s) a next
+      go (inl e) = read e ∙ ap (outcome_of_group b) (sym (what true e))
+      go (inr e) = let u = unread e in (λ i. record { answer = u.0 i; book = u.1 i }) ∙ by_unreadable b (head_group head s) (what false e)
 
-  pub complete_outcome : (b : Book) → x.complete ≡ true → (a : Answer) (next : Book) → Answers b (request req) a next → Answers b (head_group head s) a next
-  unfolding when_complete
-  complete_outcome b e a next is = is ∙ ap (outcome_of_group b) (sym (what true e))
-
--- as many lines as a head counts: in the buffer there is place for them, and it keeps them
+-- the bytes that as many lines take as a head counts
 module _ (head : Row) (s : List ℕ) (n : ℕ) (counts : lines_counted head ≡ n) where
-  pub fits_counted : (most : ℕ) → length (rows_counted (lines_counted head) s) ≤ most → length (rows_counted n s) ≤ most
-  fits_counted most = subst (λ k. length (rows_counted k s) ≤ most) counts
-
-  -- an array that is made for so many lines, or for all that a script has
-  pub few_fit : (size : ℕ) → n ≤ size → length (rows_counted (lines_counted head) s) ≤ size
-  few_fit size few = let most = rows_counted_lem (lines_counted head) s in let same = counts in omega arith
-
-  pub all_fit : (size : ℕ) → length (rows_of s) ≤ size → length (rows_counted (lines_counted head) s) ≤ size
-  all_fit size few = let most = rows_few (lines_counted head) s in omega arith
+  pub outcome_bytes : bytes_of_lines n s ≡ head_bytes head s
+  unfolding head_bytes
+  outcome_bytes = ap (λ k. bytes_of_lines k s) (sym counts)
 
 module _ (head : Row) where
   pub load_counts : head.kind ≡ Load → lines_counted head ≡ field 5 head

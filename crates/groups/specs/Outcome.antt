@@ -1,8 +1,11 @@
 -- The first group of a script's rest: its request, the bytes that it takes, and its outcome.
 use Rattle.records.specs.declared.setup.KeptOpening.{KeptOpening}
-use Rattle.std.specs.Prelude.{ℕ, ◌+◌, ◌≡◌, Bool, List, drop, Err}
+use Rattle.std.specs.Prelude.{ℕ, ◌+◌, ◌≡◌, Bool, List, drop, Result, Err}
+use Rattle.std.specs.Fn.{Mut, CalledAt}
+use Rattle.std.specs.Borrow.{Bor}
 use Rattle.source_evidence.specs.declared.evidence.Entry.{Entry}
 use Rattle.ledger.specs.Season.{call, query}
+use Rattle.records.specs.declared.refusal.Refusal.{Refusal}
 use Rattle.records.specs.declared.refusal.Refusal.TheVariants.{Unreadable}
 use Rattle.records.specs.Answers.{Answer, of_call, of_query}
 use Rattle.slots.specs.Steps.{Reachable}
@@ -59,3 +62,9 @@ PostingsAnswers o f m g answer f' m' = (x : List Entry) → Reachable o f m x �
 -- and where the evidence, which is never lent, may change: it is that of the book that the group leads to
 abbrev pub GroupAnswers : (o : KeptOpening) (f : List ℕ) (m : List Bool) → Group → Answer → List ℕ → List Bool → Type 0
 GroupAnswers o f m g answer f' m' = (x : List Entry) → Reachable o f m x → Answers (book_in o f m x) g answer (book_in o f' m' (outcome_of_group (book_in o f m x) g).book.evidence)
+
+-- lines put to a call, and the answer of the call
+pub record AnswersLines {F T : Type 0} (g : Mut F (Bor T × Unit {0}) (Result (Unit {0}) Refusal)) (call : F) (lines : T) (answer : Answer) (call' : F) : Type 0 where
+  pub called : Result (Unit {0}) Refusal
+  pub put : CalledAt g call lines called call'
+  pub answered : answer ≡ of_call called

@@ -1,15 +1,17 @@
 // The calls that count lines: a load with its blocks, and a migrate with its class lines (01, Script and host).
-ghost use Rattle.std.specs.Prelude.{◌≡◌, ◌≤◌, length};
+ghost use Rattle.std.specs.Prelude.{◌≡◌, ◌≤◌, ◌<◌, ◌*◌, ◌^◌, true, false, map, length, Err};
+ghost use Rattle.std.specs.Mem.{type_size};
+ghost use Rattle.records.specs.declared.refusal.Refusal.TheVariants.{Unreadable};
 ghost use Rattle.slots.specs.Steps.{ReachableFigures, ReachablePostings};
 ghost use Rattle.lines.specs.declared.rows.LineKind.TheVariants.{Load, Migrate};
-ghost use Rattle.lines.specs.Rows.{rows_of};
-ghost use Rattle.counted_lines.specs.Counted.{rows_counted};
+ghost use Rattle.lines.specs.Rows.{rows_of, counted};
+ghost use Rattle.counted_lines.specs.Counted.{bytes_of_lines, rows_counted};
 ghost use Rattle.lines.specs.Text.{max_lines};
 ghost use Rattle.groups.specs.Groups.{lines_counted};
-ghost use Rattle.groups.specs.Outcome.{head_group, head_bytes, FiguresAnswers, PostingsAnswers};
+ghost use Rattle.groups.specs.Outcome.{head_group, head_bytes, FiguresAnswers, PostingsAnswers, AnswersLines};
 
 use crate::outcome::GroupOutcome;
-use counted_lines::counted::read_counted;
+use counted_lines::counted::{CountedLine, read_counted};
 use lines::rows::{LineKind, Row};
 use lines::text::MAX_LINES;
 use load::load::load;
@@ -26,86 +28,54 @@ use slots::layout::{Figures, Postings};
 // the large one keeps, MAX_LINES.
 const FEW_LINES: usize = 64;
 
-// A load with its block lines, in an array that has a place for each of them.
-fn load_with_room<const N: usize>(
-    o: &KeptOpening,
-    f: &mut Figures,
-    m: &mut Postings,
-    head: Row,
+// Reads the lines that a head counts into an array that has a place for each of them, and puts them to a call, if they can be read. The call is lent, so
+// that what it leaves in the arrays that it writes is known.
+fn answer_with_room<T: CountedLine, const N: usize, F: FnMut(&[T]) -> Result<(), Refusal>>(
     rest: &[u8],
+    kind: LineKind,
+    count: u64,
+    none: T,
+    call: &mut F,
 ) -> GroupOutcome
-    requires reachable { ReachablePostings o.now f.old m.old }
-    requires load { head.kind ≡ Load }
-    requires room { length (rows_counted (lines_counted head) rest.now) ≤ N }
-    requires few { N ≤ max_lines }
-    ensures answer { PostingsAnswers o.now f.old m.old (head_group head rest.now) result.answer f.new m.new }
-    ensures consumed { result.consumed ≡ head_bytes head rest.now }
+    requires callable { (lines : _) → F.pre call.old lines }
+    requires room { length (rows_counted count rest.now) ≤ N }
+    requires memory { N * type_size T.row < 2 ^ 63 }
+    ensures read { counted kind count (rows_counted count rest.now) ≡ true → AnswersLines F.FnMut call.old (map T.line_of (rows_counted count rest.now)) result.answer call.new }
+    ensures unread { counted kind count (rows_counted count rest.now) ≡ false → (result.answer ≡ Err Unreadable) × (call.new ≡ call.old) }
+    ensures consumed { result.consumed ≡ bytes_of_lines count rest.now }
 {
-    let n = head.fields;
-    let count = n[5];
-    let none = Block {
-        first: 0,
-        hours: 0,
-        kw: 0,
+    let mut lines = [none; N];
+    let read = read_counted(rest, kind, count, &mut lines);
+    let answer = if read.complete {
+        of_call(call(&lines[..count as usize]))
+    } else {
+        Err(Refusal::Unreadable)
     };
-    let mut blocks = [none; N];
-    let read = read_counted(rest, LineKind::Block, count, &mut blocks);
-    if !read.complete {
-        return GroupOutcome {
-            answer: Err(Refusal::Unreadable),
-            consumed: read.consumed,
-        };
-    }
-    let metered = Metered {
-        term: n[2],
-        contract: n[3],
-        n: n[4],
-        blocks: &blocks[..count as usize],
-    };
-    let called = load(o, f, m, n[0], n[1], metered);
     GroupOutcome {
-        answer: of_call(called),
+        answer,
         consumed: read.consumed,
     }
 }
 
-// A migrate with its class lines, in an array that has a place for each of them.
-fn migrate_with_room<const N: usize>(
-    o: &KeptOpening,
-    f: &mut Figures,
-    head: Row,
+// The same in the small array or the large one.
+fn answer_counted<T: CountedLine, F: FnMut(&[T]) -> Result<(), Refusal>>(
     rest: &[u8],
+    kind: LineKind,
+    count: u64,
+    none: T,
+    call: &mut F,
 ) -> GroupOutcome
-    requires reachable { ReachableFigures o.now f.old }
-    requires migrate { head.kind ≡ Migrate }
-    requires room { length (rows_counted (lines_counted head) rest.now) ≤ N }
-    requires few { N ≤ max_lines }
-    ensures answer { FiguresAnswers o.now f.old (head_group head rest.now) result.answer f.new }
-    ensures consumed { result.consumed ≡ head_bytes head rest.now }
+    requires callable { (lines : _) → F.pre call.old lines }
+    requires few { length (rows_of rest.now) ≤ max_lines }
+    requires memory { max_lines * type_size T.row < 2 ^ 63 }
+    ensures read { counted kind count (rows_counted count rest.now) ≡ true → AnswersLines F.FnMut call.old (map T.line_of (rows_counted count rest.now)) result.answer call.new }
+    ensures unread { counted kind count (rows_counted count rest.now) ≡ false → (result.answer ≡ Err Unreadable) × (call.new ≡ call.old) }
+    ensures consumed { result.consumed ≡ bytes_of_lines count rest.now }
 {
-    let n = head.fields;
-    let count = n[2];
-    let none = ClassLine {
-        from: 0,
-        to: 0,
-        class: 0,
-        customers: 0,
-        watts: 0,
-    };
-    let mut lines = [none; N];
-    let read = read_counted(rest, LineKind::Class, count, &mut lines);
-    if !read.complete {
-        return GroupOutcome {
-            answer: Err(Refusal::Unreadable),
-            consumed: read.consumed,
-        };
+    if count <= FEW_LINES as u64 {
+        return answer_with_room::<T, FEW_LINES, F>(rest, kind, count, none, call);
     }
-    let moved = &lines[..count as usize];
-    let called = migrate_lines(o, f, n[0], n[1], moved);
-    GroupOutcome {
-        answer: of_call(called),
-        consumed: read.consumed,
-    }
+    answer_with_room::<T, MAX_LINES, F>(rest, kind, count, none, call)
 }
 
 // A load with its block lines.
@@ -123,10 +93,26 @@ pub fn run_load(
     ensures consumed { result.consumed ≡ head_bytes head rest.now }
 {
     let n = head.fields;
-    if n[5] <= FEW_LINES as u64 {
-        return load_with_room::<FEW_LINES>(o, f, m, head, rest);
-    }
-    load_with_room::<MAX_LINES>(o, f, m, head, rest)
+    let none = Block {
+        first: 0,
+        hours: 0,
+        kw: 0,
+    };
+    answer_counted(
+        rest,
+        LineKind::Block,
+        n[5],
+        none,
+        &mut |blocks| {
+            let metered = Metered {
+                term: n[2],
+                contract: n[3],
+                n: n[4],
+                blocks,
+            };
+            load(o, f, m, n[0], n[1], metered)
+        },
+    )
 }
 
 // A migrate with its class lines.
@@ -138,8 +124,18 @@ pub fn run_migrate(o: &KeptOpening, f: &mut Figures, head: Row, rest: &[u8]) -> 
     ensures consumed { result.consumed ≡ head_bytes head rest.now }
 {
     let n = head.fields;
-    if n[2] <= FEW_LINES as u64 {
-        return migrate_with_room::<FEW_LINES>(o, f, head, rest);
-    }
-    migrate_with_room::<MAX_LINES>(o, f, head, rest)
+    let none = ClassLine {
+        from: 0,
+        to: 0,
+        class: 0,
+        customers: 0,
+        watts: 0,
+    };
+    answer_counted(
+        rest,
+        LineKind::Class,
+        n[2],
+        none,
+        &mut |lines| migrate_lines(o, f, n[0], n[1], lines),
+    )
 }
