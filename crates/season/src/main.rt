@@ -2,33 +2,16 @@
 // A read or a write that fails is said in one line on standard error; where a read fails, nothing is answered.
 #![tactic(auto)]
 
-ghost use Rattle.std.specs.Prelude.{◌≤◌, length, IfOk};
-
+use input::read::read_into;
 use lines::text::{BYTES_PER_LINE, MAX_BYTES, MAX_LINES};
 use script::run::{REFUSAL_UNIT, run};
 use std::io;
-use std::io::Read;
 
 // One byte more than a script may have shows that there are too many.
 const SCRIPT_ROOM: usize = MAX_BYTES + 1;
 
 // The most bytes of output that a run needs.
 const OUTPUT_ROOM: usize = MAX_LINES * BYTES_PER_LINE as usize;
-
-// Reads the script until it ends or the buffer is full, and says how many bytes it has.
-fn read_script<R: Read>(reader: &mut R, script: &mut [u8]) -> io::Result<usize>
-    ensures { IfOk result (λ read. read ≤ length script.new) }
-{
-    let mut length = 0;
-    while length < script.len() {
-        let more = reader.read(&mut script[length..])?;
-        if more == 0 {
-            break;
-        }
-        length += more;
-    }
-    Ok(length)
-}
 
 // Writes answers to standard output, and says where that fails.
 fn write_answers(rt: &(impl Print + Eprint), answers: &[u8]) -> io::Result<()> {
@@ -50,9 +33,9 @@ fn answer(rt: &(impl Print + Eprint), script: &[u8]) -> io::Result<()> {
 
 fn main(rt: HostRuntime) -> io::Result<()> {
     let mut script = [0u8; SCRIPT_ROOM];
-    let mut reader = rt.stdin();
-    let Ok(length) = read_script(&mut reader, &mut script) else {
+    let read = read_into(&mut rt.stdin(), &mut script);
+    if read.end.is_err() {
         return eprintln!(rt; "season: the script cannot be read");
-    };
-    answer(&rt, &script[..length])
+    }
+    answer(&rt, &script[..read.length])
 }

@@ -20,13 +20,11 @@
 // every line.
 #![tactic(auto)]
 
-ghost use Rattle.std.specs.Prelude.{◌≤◌, length};
-
 use crate::reading::Line;
 use crate::vector::Vector;
+use input::read::read_into;
 use lines::text::LINE_FEED;
 use std::io;
-use std::io::Read;
 
 mod reading;
 mod script_text;
@@ -34,21 +32,6 @@ mod vector;
 
 // The most bytes of vectors that are read.
 const ROOM: usize = 262_144;
-
-// Reads until the text is full, the input ends or a read fails, and says how many bytes stand at the start of the text.
-fn read_full(input: &mut impl Read, text: &mut [u8]) -> usize
-    ensures { result ≤ length text.new }
-{
-    let mut done = 0;
-    while done < text.len() {
-        let more = input.read(&mut text[done..]).unwrap_or(0);
-        if more == 0 {
-            break;
-        }
-        done += more;
-    }
-    done
-}
 
 // Runs a vector that has begun.
 fn run_begun(rt: &impl Print, vector: &Option<Vector>) -> io::Result<()> {
@@ -72,10 +55,9 @@ fn run_vectors(rt: &impl Print, text: &[u8]) -> io::Result<()> {
     run_begun(rt, &vector)
 }
 
-// Reads the vectors, and runs them.
+// Reads the vectors until the text is full, the input ends or a read fails, and runs those that were read.
 fn main(rt: HostRuntime) -> io::Result<()> {
     let mut text = [0u8; ROOM];
-    let mut input = rt.stdin();
-    let length = read_full(&mut input, &mut text);
-    run_vectors(&rt, &text[..length])
+    let read = read_into(&mut rt.stdin(), &mut text);
+    run_vectors(&rt, &text[..read.length])
 }
