@@ -6,7 +6,7 @@ use mathlib.Core.List.{List, map}
 use mathlib.Core.Logic.{◌⊎◌, inl, inr}
 use native.Mathlib.Omega.{arith}
 use lib.ListN.{length, take, get_or, replicate, length-map}
-use lib.Seq.{length-take-le, take_all}
+use lib.Seq.{take_all}
 use lib.Dec.{leb}
 use borrow.Author.Tests.{leb-true, leb-false}
 use Rattle.tariff.specs.Sizes.{max_places}
@@ -54,11 +54,7 @@ lines_are_all of blank n rows long few =
 numbers_are_all : {T : Type 0} (of : Row → T) (number : T → ℕ) (blank : T) (n : ℕ) (rows : List Row) → length rows ≡ n → n ≤ max_places → map number (take n (first_lines blank (map of rows))) ≡ map (λ r. number (of r)) rows
 numbers_are_all of number blank n rows long few = ap (map number) (lines_are_all of blank n rows long few) ∙ map-map number of rows
 
--- what is lent of a full list is what is counted, or all of it
 module _ (n r : ℕ) (lent : r ≡ min n max_places) {T : Type 0} (xs : List T) (full : length xs ≡ max_places) where
-  pub lent_long : r ≡ length (take r xs)
-  lent_long = sym (length-take-le r xs (omega arith))
-
   lent_cut : take r xs ≡ take n xs
   lent_cut = go (decided (leb n max_places))
     where

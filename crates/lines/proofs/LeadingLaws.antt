@@ -5,7 +5,7 @@ use mathlib.Core.Bool.{Bool, true, false, cond, ◌&&◌, ◌||◌}
 use mathlib.Core.List.{List, [], ◌∷◌}
 use mathlib.Core.Logic.{◌⊎◌, inl, inr}
 use native.Mathlib.Omega.{arith}
-use borrow.Author.Tests.{ltb-true, ltb-false, leb-true, le-leb}
+use borrow.Author.Tests.{leb-true, le-leb}
 use lib.ListN.{length, get_or, take, drop, drop_of_length-le}
 use lib.Seq.{get_or-drop}
 use lib.Dec.{eqb, leb, ltb}
@@ -18,14 +18,6 @@ use Rattle.lines.proofs.TextLaws.{at_byte}
 use Rattle.lines.proofs.LineFields.{field_length, first_field, first_length, field_ended}
 
 module _ (length from most : ℕ) (l : from ≤ length) where
-  pub limit_within : (from ≤ reading_limit length from most) × (reading_limit length from most ≤ length) × (reading_limit length from most ≤ from + most)
-  unfolding reading_limit
-  limit_within = go (ltb most (length - from)) refl
-    where
-      go : (t : Bool) → ltb most (length - from) ≡ t → (from ≤ cond t (from + most) length) × (cond t (from + most) length ≤ length) × (cond t (from + most) length ≤ from + most)
-      go true e = let more = ltb-true most (length - from) e in (omega arith, omega arith, omega arith)
-      go false e = let below = ltb-false most (length - from) e in (omega arith, omega arith, omega arith)
-
   limit-met : (i : ℕ) → reading_limit length from most ≤ i → (length ≤ i) ⊎ (from + most ≤ i)
   unfolding reading_limit
   limit-met i = go (ltb most (length - from))

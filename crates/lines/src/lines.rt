@@ -14,6 +14,7 @@ pub struct NextRow {
 }
 
 // A line that cannot be read: it is passed over with its LF, or to the end where none is left.
+#[tactic(auto, using(crate::proofs::NextRowLaws::ended_bytes, crate::proofs::NextRowLaws::unended_bytes), unfolding(crate::specs::Reading::unreadable_line))]
 fn unreadable_line(rest: &[u8]) -> NextRow
     ensures { result ≡ unreadable_line rest.now }
 {

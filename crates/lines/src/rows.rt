@@ -55,6 +55,7 @@ pub struct Fields {
 }
 
 // Whether a line begins with `set,` (02, 3/14).
+#[tactic(auto, using(crate::proofs::BeginLaws::starts_set))]
 fn begins_set(rest: &[u8]) -> bool
     ensures { result ≡ begins_set rest.now }
 {

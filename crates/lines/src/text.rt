@@ -71,6 +71,7 @@ fn count_line_feeds(script: &[u8]) -> u64
 }
 
 // How many lines a script has: one to each LF, and one more if bytes follow the last LF.
+#[tactic(auto, using(crate::proofs::FeedLaws::feeds_few, crate::proofs::FeedLaws::no_bytes, crate::proofs::FeedLaws::feed_last, crate::proofs::FeedLaws::other_last))]
 pub fn count_lines(script: &[u8]) -> u64
     ensures { result ≡ length (lines_of script.now) }
 {
@@ -134,6 +135,7 @@ pub fn read_field(bytes: &[u8], from: usize) -> Option<Token>
 }
 
 // The number that the bytes of a field write, if they are one.
+#[tactic(auto, using(crate::proofs::NumberLaws::numeral_none, crate::proofs::NumberLaws::numeral_part, crate::proofs::NumberLaws::numeral_read))]
 pub fn read_number(field: &[u8]) -> Option<u64>
     ensures { result ≡ numeral field.now }
 {

@@ -101,6 +101,7 @@ fn kind_numbered(form: u64) -> LineKind
 }
 
 // The kind of a word with so many fields after it.
+#[tactic(auto, using(crate::proofs::WordLaws::kind_is))]
 pub fn kind_of(key: u64, count: u64) -> LineKind
     requires { (key < key_limit) × (count ≤ max_fields) }
     ensures { (word : List ℕ) → key ≡ word_key word → result ≡ kind_of word count }

@@ -11,7 +11,7 @@ use Rattle.load_metric.specs.declared.block.Block.{Block}
 use Rattle.tariff.specs.Sum.{sum_over, any_of}
 use Rattle.load_metric.specs.Load.{in_order, present_hours}
 use Rattle.load_metric.specs.Levels.{ordered_hours, EachHasHours}
-use Rattle.tariff.proofs.Tests.{and_both, and_left_false}
+use Rattle.tariff.proofs.Tests.{and_both}
 
 module _ (n from : ℕ) (b : Block) (bs : List Block) where
   -- the tests of a block, taken apart
@@ -27,22 +27,6 @@ module _ (n from : ℕ) (b : Block) (bs : List Block) where
   -- what is tested of a block
   abbrev pub stands : Bool
   stands = leb from b.first && leb 1 b.hours && leb (b.first + b.hours) n
-
-  -- a block in order leaves the order to the rest
-  pub order_next : stands ≡ true → in_order n from (b ∷ bs) ≡ in_order n (b.first + b.hours) bs
-  unfolding in_order
-  order_next e = rw e
-
-  -- and one that is not breaks it
-  pub order_broken : stands ≡ false → in_order n from (b ∷ bs) ≡ false
-  unfolding in_order
-  order_broken e = and_left_false _ e
-
-  pub stands_parts : stands ≡ true → (from ≤ b.first) × (1 ≤ b.hours) × (b.first + b.hours ≤ n)
-  stands_parts e =
-      let q = and_both (leb from b.first && leb 1 b.hours) (leb (b.first + b.hours) n) e in
-      let p = and_both (leb from b.first) (leb 1 b.hours) q.0 in
-      (leb-true from b.first p.0, leb-true 1 b.hours p.1, leb-true (b.first + b.hours) n q.1)
 
 -- blocks in order cover no more hours than there are, and each of them one or more
 pub order_within : (n from : ℕ) (bs : List Block) → from ≤ n → in_order n from bs ≡ true → from + present_hours bs ≤ n

@@ -24,6 +24,7 @@ struct Level {
 }
 
 // The hours that blocks cover, where they ascend, do not overlap, have an hour or more and end by hour n. `from` is where the last one ended.
+#[tactic(auto, using(crate::proofs::Blocks::blocks_left, crate::proofs::Blocks::no_blocks_left, crate::proofs::Ordered::ordered_broken, crate::proofs::Ordered::ordered_present), unfolding(crate::specs::Load::present_hours, tariff::specs::Sum::sum_over, crate::specs::Load::in_order))]
 fn present_in_order(blocks: &[Block], n: u64) -> Option<u64>
     ensures { result ≡ ordered_hours n blocks.now }
 {
@@ -40,6 +41,7 @@ fn present_in_order(blocks: &[Block], n: u64) -> Option<u64>
 }
 
 // The highest kW, 0 if there is none.
+#[tactic(auto, unfolding(crate::specs::Levels::highest_kw))]
 fn highest(blocks: &[Block]) -> u64
     ensures { result ≡ highest_kw (kws_of blocks.now) }
 {
@@ -51,6 +53,7 @@ fn highest(blocks: &[Block]) -> u64
 }
 
 // One pass over the blocks: a kW below the cap may be the next one, and a block at or above the cap adds its hours.
+#[tactic(auto, using(crate::proofs::Blocks::blocks_left, crate::proofs::Levels::from_within_present, crate::proofs::Levels::pass_below, crate::proofs::Levels::pass_from), unfolding(crate::specs::Levels::level_below, crate::specs::Levels::highest_below, crate::specs::Levels::hours_at_least, tariff::specs::Sum::sum_over))]
 fn level_below(blocks: &[Block], cap: u64) -> Level
     requires { Countable blocks.now }
     ensures { result ≡ level_below cap blocks.now }
@@ -86,6 +89,7 @@ fn metric_of_blocks(blocks: &[Block], present: u64, exceedance_hours: u64) -> u6
 }
 
 // The load metric of a block list over n hours. The blocks may have any numbers.
+#[tactic(auto, using(crate::proofs::Refusals::broken_empty, crate::proofs::Refusals::broken_blocks_lem, crate::proofs::Refusals::present_within, crate::proofs::Refusals::missing_hours_lem, crate::proofs::Refusals::covering, crate::proofs::Refusals::metered))]
 pub fn load_metric(settings: LegalSettings, blocks: &[Block], n: u64) -> Result<u64, BlockError>
     ensures { result ≡ metric_or_cause settings.settings blocks.now n }
 {

@@ -3,7 +3,7 @@ use Prim.Native.Nat.{ℕ, ◌+◌, ◌-◌, ◌*◌, ◌/◌, ◌%◌, ◌^◌, 
 use mathlib.Core.Path.{◌≡◌, refl, sym, ap, ◌∙◌, subst}
 use mathlib.Core.Bool.{cond}
 use mathlib.Core.List.{List}
-use native.Mathlib.Nat.{div-zero, mul-zero, zero-div, le_trans, le_of_eq, lt_of_le_of_lt}
+use native.Mathlib.Nat.{mul-zero, zero-div, le_trans, le_of_eq, lt_of_le_of_lt}
 use native.Mathlib.Omega.{arith}
 use lib.ListN.{get_or}
 use borrow.Author.Tests.{lt-ltb, le-ltb}
@@ -14,11 +14,6 @@ use Rattle.tariff.proofs.Sums.{sum_le, term_le_sum}
 use Rattle.tariff.proofs.Lists.{length_tabulate, at_tabulate, list_is}
 use Rattle.netting.proofs.Pairs.{cell_of_pair}
 use Rattle.netting.proofs.Transfers.{transfer_sum}
-
--- of no load nothing goes
-pub share_none : (v m load : ℕ) → load ≡ 0 → 0 ≡ share v m load
-unfolding share
-share_none v m load e = sym (ap (λ l. v * m / l) e ∙ div-zero (v * m))
 
 pub share_with_nothing : (v m load : ℕ) → m ≡ 0 → 0 ≡ share v m load
 unfolding share

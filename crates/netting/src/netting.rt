@@ -142,7 +142,7 @@ impl<'a> ClassLines<'a> {
     }
 
     // Whether the lines can be netted: at most 64, and no line unfit.
-    #[tactic(auto, unfolding(crate::specs::Netting::lines_fit))]
+    #[tactic(auto, using(crate::proofs::FitLines::counted), unfolding(crate::specs::Netting::lines_fit))]
     fn fit(self) -> bool
         ensures { result ≡ fit_in self.entry.columns }
     {

@@ -8,6 +8,7 @@ ghost use Rattle.netting.specs.Netting.{pair_at, ProductsFit, PartsFit, share_ce
 use tariff::sizes::{HOLDER_PAIRS, MAX_HOLDERS};
 
 // The share of a record that goes with m of a load: 0 where m or the load is 0.
+#[tactic(auto, unfolding(crate::specs::Migration::share))]
 fn share_of(v: u64, m: u64, load: u64) -> u64
     requires { v * m < 2 ^ 64 }
     ensures { result ≡ share v m load }

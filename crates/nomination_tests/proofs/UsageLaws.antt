@@ -1,16 +1,16 @@
 -- What a holder uses of its evidence for a source: sums over the paths and over the tiers before, and their bounds. Assumes nothing.
 use Prim.Native.Nat.{ℕ, ◌+◌, ◌*◌, ◌≤◌, ◌<◌}
 use mathlib.Core.Path.{◌≡◌, refl, sym, ap, ◌∙◌}
-use mathlib.Core.Bool.{Bool, true, false, not, cond}
+use mathlib.Core.Bool.{Bool, cond}
 use mathlib.Core.List.{List}
-use native.Mathlib.Nat.{le_trans, le_of_eq, mul-le-mul_right}
+use native.Mathlib.Nat.{le_trans, mul-le-mul_right}
 use native.Mathlib.Omega.{arith}
-use borrow.Author.Tests.{eq-eqb, not-true, not-false}
+use borrow.Author.Tests.{eq-eqb}
 use Rattle.records.specs.declared.setup.KeptOpening.{KeptOpening}
 use Rattle.tariff.specs.Sizes.{long_term_step}
 use Rattle.source_evidence.specs.declared.evidence.Entry.{Entry}
 use Rattle.tariff.specs.Sum.{when_true, sum_to}
-use Rattle.tariff.proofs.Sums.{when_is_true, when_is_false, when_le, sum_ext, sum_bound}
+use Rattle.tariff.proofs.Sums.{when_le, sum_ext, sum_bound}
 use Rattle.ledger.specs.Opening.{Opening, has_source}
 use Rattle.ledger.specs.Ledger.{Ledger}
 use Rattle.ledger.specs.Verification.{sum_from_source, uses_same_evidence, used_before, source_usage}

@@ -11,6 +11,7 @@ use tariff::settings::Settings;
 use tariff::sizes::{MAX_HOLDERS, MAX_PLACES};
 
 // An opening with nothing in it, by the present figures.
+#[tactic(auto, unfolding(records::specs::Opening::with_room, records::specs::Opening::kept_opening, records::specs::Opening::empty_opening, records::specs::Opening::path_bases, ledger::specs::Opening::path_base, ledger::specs::Opening::base, tariff::specs::Sum::tabulate))]
 pub fn keep_nothing() -> KeptOpening
     ensures { result ≡ kept_opening empty_opening }
 {

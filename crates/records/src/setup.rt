@@ -173,6 +173,7 @@ impl KeptOpening {
     }
 
     // The base of a path's sink, as it is kept.
+    #[tactic(auto, using(crate::proofs::OpeningLaws::base_at))]
     pub fn path_base(&self, p: u64) -> u64
         requires { KeepsBases self.now × (p < max_places) }
         ensures { result ≡ path_base (opening_of self.entry) p }

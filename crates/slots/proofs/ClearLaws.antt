@@ -4,20 +4,14 @@ use mathlib.Core.Path.{◌≡◌, refl, sym, ap, ◌∙◌}
 use mathlib.Core.Bool.{Bool, true, false, cond, ◌&&◌}
 use mathlib.Core.List.{List}
 use mathlib.Core.Logic.{◌⊎◌, inl, inr}
-use native.Mathlib.Numerals.{add-one}
 use native.Mathlib.Omega.{arith}
-use lib.ListN.{length, set, length-set}
+use lib.ListN.{set}
 use lib.Dec.{ltb, eqb}
 use borrow.Author.Tests.{ltb-true, ltb-false, lt-ltb, le-ltb, eqb-true, eqb-false, eq-eqb, ne_eqb}
 use Rattle.tariff.proofs.Tests.{decided, and_join, and_left_false, and_right_false}
 use Rattle.ledger.specs.Effects.{same3}
 use Rattle.slots.specs.Cells.{rows, cell_of, HasCell, stored_at, cleared_to, Shows}
 use Rattle.slots.proofs.CellLaws.{shows_stored, shows_agree}
-
--- one row more
-pub cleared_more : (width slot : ℕ) (cells so_far : List ℕ) (n long : ℕ) → so_far ≡ cleared_to width slot cells n → length so_far ≡ long → (set so_far (n * width + slot) 0 ≡ cleared_to width slot cells (n + 1)) × (length (set so_far (n * width + slot) 0) ≡ long)
-unfolding cleared_to
-cleared_more width slot cells so_far n long e l = (ap (λ z. set z (n * width + slot) 0) e ∙ ap (cleared_to width slot cells) (sym (add-one n)), length-set so_far (n * width + slot) 0 ∙ l)
 
 module _ (width slot : ℕ) (f : ℕ → ℕ → ℕ → ℕ) (cells rest : List ℕ) (in_row : slot < width) where
   -- after so many rows

@@ -19,7 +19,7 @@ use Rattle.records.specs.Opening.{opening_in, KeepsBases}
 use Rattle.records.proofs.OpeningLaws.{opening_back, bases_kept}
 use Rattle.slots.specs.Cells.{Shows}
 use Rattle.slots.specs.Groups.{in_slot}
-use Rattle.slots.specs.Layout.{figure_slots, figure_count, posted_slots, posted_count, figure_groups, posted_groups, calendar_of, figures_of, posted_of, evidence_of, ledger_in}
+use Rattle.slots.specs.Layout.{figure_slots, figure_count, posted_slots, figure_groups, posted_groups, calendar_of, figures_of, posted_of, evidence_of, ledger_in}
 use Rattle.slots.specs.Steps.{Reachable}
 use Rattle.slots.proofs.CellLaws.{array_shows}
 use Rattle.slots.proofs.Confined.{confined}
@@ -77,6 +77,3 @@ module _ (o : KeptOpening) (f : List ℕ) (m : List Bool) (x : List Entry) (r : 
   pub figures_long : length f ≡ figure_count
   unfolding calendar_of
   figures_long = figures_shown.sized
-
-  pub posted_long : length m ≡ posted_count
-  posted_long = posted_shown.sized

@@ -64,6 +64,7 @@ pub fn set_posted(posted: &mut Postings, h: u64, p: u64, slot: u64)
 }
 
 // A slot of the figures put to 0 for every holder at every place.
+#[tactic(auto, unfolding(crate::specs::Cells::cleared_to))]
 pub fn clear(f: &mut Figures, slot: u64)
     requires { slot < figure_slots }
     ensures { f.new ≡ cleared_to figure_slots slot f.old rows }

@@ -1,5 +1,5 @@
 -- What an iterator over the numbers below a count folds to, where a call takes the total so far to the next one. Assumes nothing.
-use Rattle.std.proofs.Common.{◌≡◌, ℕ, zero, suc, ◌+◌, ◌<◌, ◌≤◌, List, [], ◌∷◌, ◌++◌, map, length, get_or, refl, ap, sym, ◌∙◌, subst, length-append, length-take, get_or-take, take_all, arith}
+use Rattle.std.proofs.Common.{◌≡◌, ℕ, ◌+◌, ◌<◌, ◌≤◌, List, [], ◌∷◌, ◌++◌, map, length, get_or, refl, ap, sym, ◌∙◌, subst, length-append, length-take, get_or-take, take_all, arith}
 use lib.ListN.{get_or-append, take}
 use mathlib.Core.List.{map-id}
 use denote.Param.Members.{Mut, Called}
@@ -12,7 +12,7 @@ use Rattle.std.specs.List.{range_with_len}
 use Rattle.std.proofs.lemmas.Fn.{serves_by, chained_keeps}
 use Rattle.std.proofs.lemmas.List.{get_or_at}
 use Rattle.std.proofs.lemmas.List.FromFn.{get_or-range_with_len, length-range_with_len}
-use Rattle.std.proofs.lemmas.Iterator.{YieldsList, YieldsList-from_range, items_from_drains}
+use Rattle.std.proofs.lemmas.Iterator.{YieldsList, YieldsList-from_range}
 use Rattle.std.proofs.lemmas.Iterator.Consumers.{YieldsList-so_far, YieldsList-turn, YieldsList-end}
 
 -- the numbers of a list are 0, 1 and so on
@@ -51,12 +51,12 @@ module _ {F B : Type 0} {g : Mut F (B × (ℕ × Unit {0})) B} {f : F} {init : B
   fold_can may =
       serves_by (FoldTurn g) So keeps nat_range_steps (λ p x. Takes g p.0 (p.1, (x, tt))) s (f, init) (refl, λ up. first)
       (λ xs t q x u yields step so.
-          let next = YieldsList-turn road xs t yields (Some x) u x refl step in
-          let long = length-range_with_len 0 n in
-          let up = counts_up xs (length xs) n (omega arith) (YieldsList-so_far road xs t yields) in
-          let at = get_or-range_with_len 0 n (length xs) x (omega arith) in
-          let here : x ≡ length xs = omega arith in
-          subst (λ e. Takes g e (q.1, (x, tt))) (sym so.0) (may x q.1 (omega arith) (so.1 up ∙ ap total (sym here))))
+      let next = YieldsList-turn road xs t yields (Some x) u x refl step in
+      let long = length-range_with_len 0 n in
+      let up = counts_up xs (length xs) n (omega arith) (YieldsList-so_far road xs t yields) in
+      let at = get_or-range_with_len 0 n (length xs) x (omega arith) in
+      let here : x ≡ length xs = omega arith in
+      subst (λ e. Takes g e (q.1, (x, tt))) (sym so.0) (may x q.1 (omega arith) (so.1 up ∙ ap total (sym here))))
 
   pub fold_is : {r : B} → FoldsItems nat_range_steps g s f init r → r ≡ total n
   fold_is {r} ran =

@@ -2,7 +2,7 @@
 use Prim.Native.Nat.{ℕ, ◌+◌, ◌*◌, ◌/◌, ◌%◌, ◌≤◌, ◌<◌}
 use mathlib.Core.Path.{◌≡◌, sym, ap, ◌∙◌}
 use mathlib.Core.Bool.{true}
-use native.Mathlib.Nat.{le_trans, le_of_lt, mul_comm, mul_assoc, mul-add, mul-le-mul, mul-le-mul_left, mul-le-mul_right, mod-lt, div-add-mod', div-mul-le_self, mul-add-div_right, div-le_of_le-mul}
+use native.Mathlib.Nat.{mul_comm, mul_assoc, mul-add, mul-le-mul_right, div-add-mod', mul-add-div_right, div-le_of_le-mul}
 use native.Mathlib.Omega.{arith}
 use borrow.Author.Tests.{leb-true}
 use Rattle.tariff.specs.declared.settings.Fraction.{Fraction}
@@ -49,14 +49,6 @@ module _ (f : Fraction) (e : fraction_legal f ≡ true) (x : ℕ) where
   pub part_le : part_of f x ≤ x
   unfolding part_of
   part_le = div-le_of_le-mul f.denominator (mul-le-mul_right x facts.not_above)
-
-  -- the whole denominators' part
-  pub whole_le : x / f.denominator * f.numerator ≤ x
-  whole_le = le_trans (mul-le-mul_left (x / f.denominator) facts.not_above) (div-mul-le_self x f.denominator)
-
-  -- the product of what is left is small
-  pub left_small : x % f.denominator * f.numerator ≤ max_fraction * max_fraction
-  left_small = mul-le-mul (le_trans (le_of_lt (mod-lt x facts.some)) facts.denominator_fits) facts.numerator_fits
 
 -- every fraction of legal settings is legal
 pub record EachLegal (s : Settings) : Type 0 where

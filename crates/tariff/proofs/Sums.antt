@@ -106,9 +106,6 @@ pub sum_more : (f : ℕ → ℕ) (j s v : ℕ) → s ≡ sum_to j f → v ≡ f 
 unfolding sum_to
 sum_more f j s v p q = rw add-one (omega arith)
 
-pub sum_whole : (f : ℕ → ℕ) (j n s : ℕ) → j ≤ n → n ≤ j → s ≡ sum_to j f → s ≡ sum_to n f
-sum_whole f j n s below above e = e ∙ ap (λ k. sum_to k f) (let same : j ≡ n = omega arith in same)
-
 -- a part of a sum is at most the sum
 pub sum_part_le : (f : ℕ → ℕ) (n j : ℕ) → j < n → sum_to j f + f j ≤ sum_to n f
 unfolding sum_to

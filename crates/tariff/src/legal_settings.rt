@@ -27,7 +27,7 @@ impl Settings {
 
 impl LegalSettings {
     // S of a load.
-    #[tactic(auto, unfolding(crate::specs::Eligible::seasonal_eligible))]
+    #[tactic(auto, unfolding(crate::specs::Eligible::seasonal_eligible, crate::specs::Settings::settings_legal))]
     pub fn seasonal_eligible(self, load: u64) -> u64
         ensures { result ≡ seasonal_eligible self.settings load }
     {
@@ -35,7 +35,7 @@ impl LegalSettings {
     }
 
     // P of a load, by its S.
-    #[tactic(auto, unfolding(crate::specs::Eligible::priority_eligible))]
+    #[tactic(auto, unfolding(crate::specs::Eligible::priority_eligible, crate::specs::Settings::settings_legal))]
     pub fn priority_eligible(self, load: u64) -> u64
         ensures { result ≡ priority_eligible self.settings load }
     {
@@ -43,7 +43,7 @@ impl LegalSettings {
     }
 
     // What the Long Term step needs no ten-year evidence for.
-    #[tactic(auto, unfolding(crate::specs::Eligible::eligible_without_evidence))]
+    #[tactic(auto, unfolding(crate::specs::Eligible::eligible_without_evidence, crate::specs::Settings::settings_legal))]
     pub fn eligible_without_evidence(self, load: u64) -> u64
         ensures { result ≡ eligible_without_evidence self.settings load }
     {
@@ -51,7 +51,7 @@ impl LegalSettings {
     }
 
     // What the Long Term step can come to with such evidence, and the most of tier 1.
-    #[tactic(auto, unfolding(crate::specs::Eligible::eligible_with_evidence))]
+    #[tactic(auto, unfolding(crate::specs::Eligible::eligible_with_evidence, crate::specs::Settings::settings_legal))]
     pub fn eligible_with_evidence(self, load: u64) -> u64
         ensures { result ≡ eligible_with_evidence self.settings load }
     {
@@ -59,6 +59,7 @@ impl LegalSettings {
     }
 
     // How many of the present hours may lie above the metric.
+    #[tactic(auto, unfolding(crate::specs::Settings::settings_legal))]
     pub fn hours_above_metric(self, present: u64) -> u64
         ensures { result ≡ part_of self.settings.exceedance present }
     {
@@ -66,6 +67,7 @@ impl LegalSettings {
     }
 
     // How many of the hours may be missing.
+    #[tactic(auto, unfolding(crate::specs::Settings::settings_legal))]
     pub fn hours_missing(self, hours: u64) -> u64
         ensures { result ≡ part_of self.settings.missing hours }
     {

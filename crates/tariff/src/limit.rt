@@ -46,6 +46,7 @@ pub struct TierRule {
 }
 
 // The formula and the term, by the tier's number. Tiers 1 to 3 are the season's, and so is the Long Term step.
+#[tactic(auto, unfolding(crate::specs::Limit::rule_of, crate::specs::Limit::formula_of, crate::specs::Terms::is_long_term_step, crate::specs::Terms::term_of, crate::specs::Terms::term_table, crate::specs::Ranges::within))]
 pub fn tier_rule(tier: u64) -> TierRule
     ensures { result ≡ rule_of tier }
 {

@@ -29,6 +29,7 @@ pub struct Settings {
 
 impl Fraction {
     // A fraction of a number, rounded down. By whole denominators and by what is left, so that no product wraps.
+    #[tactic(auto, using(crate::proofs::Fractions::fraction_facts, crate::proofs::Fractions::by_whole, crate::proofs::Fractions::part_le), unfolding(crate::specs::Settings::part_of))]
     pub fn part_of(self, x: u64) -> u64
         requires { fraction_legal self ≡ true }
         ensures { result ≡ part_of self x }

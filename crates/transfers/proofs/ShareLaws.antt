@@ -128,9 +128,6 @@ module _ (x : Transfer) (ok : LossesWithinLoads x) where
       ∙ transferred_entry x.holders x.load x.m (pair_at x.m) ok.few (λ i j li lj. refl) ok.others h l
       ∙ load_ext x (holder_at x.load) (in_column f p slot) h ok.few l (λ i b. ap (λ c. holder_at c i) read ∙ column_holder f p slot i b)
 
-  pub loads_fit_lem : PartsFit x.holders x.load x.m
-  loads_fit_lem = record { few = ok.few; given = ok.covered; together = let all = ok.loads in omega arith }
-
   -- of a column that holds nothing, nothing goes over
   pub nothing_shared : (v : ℕ → ℕ) (h : ℕ) → h < 8 → ((i : ℕ) → i < 8 → v i ≡ 0) → share_column x v h ≡ v h
   unfolding share_column

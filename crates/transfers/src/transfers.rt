@@ -34,6 +34,7 @@ pub fn column_at(f: &Figures, p: u64, slot: u64) -> [u64; MAX_HOLDERS]
 }
 
 // A column stored in a slot at a place.
+#[tactic(auto, using(crate::proofs::ColumnLaws::stored_more), unfolding(crate::specs::Columns::column_stored))]
 fn store_column(f: &mut Figures, p: u64, slot: u64, column: [u64; MAX_HOLDERS])
     requires { HasColumn p slot }
     ensures { f.new ≡ column_stored f.old p slot column max_holders }

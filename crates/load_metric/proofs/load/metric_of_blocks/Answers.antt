@@ -16,14 +16,8 @@ most_is c =
 countable : (c : Start) → Countable c.args.blocks.now
 countable c = omega (arith, c.requires.covered, c.ranges.present.fits)
 
-pub level_below-below-requires : goal.level_below-below-requires
-level_below-below-requires c = countable (goal.at.level_below-below-requires c).Start
-
 pub loop-below-init : goal.loop-below-init
 loop-below-init c = (rw c.highest-kw.ensures (stand_highest c.args.exceedance_hours c.args.blocks.now c.requires.some), c.level_below-below.ensures)
-
-pub level_below-below-requires-in-loop-below : goal.level_below-below-requires-in-loop-below
-level_below-below-requires-in-loop-below c = countable (goal.at.level_below-below-requires-in-loop-below c).Start
 
 pub loop-below-smaller : goal.loop-below-smaller
 loop-below-smaller c =
