@@ -34,13 +34,13 @@ use Rattle.slots.proofs.StepLaws.{accepted_test, steps_accepted}
 use Rattle.postings.specs.PathCauses.{path_causes}
 
 -- the first cause of a posting that is a carry is its refusal
-pub carry_refusal : (o : KeptOpening) (f : List ℕ) (m : List Bool) (x : List Entry) (h p kw : ℕ) (beyond : Bool) → beyond ≡ kw_out_of_range kw → first_met (path_causes (opening_in o) (ledger_in f m x) h p beyond (look_at posted_slots false m h p carry_posted_slot)) ≡ refusal (opening_in o) (ledger_in f m x) (carry h p kw)
+pub carry_refusal : (o : KeptOpening) (f : List ℕ) (m : List Bool) (x : List Entry) (h p kw : ℕ) (outside : Bool) → outside ≡ kw_out_of_range kw → first_met (path_causes (opening_in o) (ledger_in f m x) h p outside (look_at posted_slots false m h p carry_posted_slot)) ≡ refusal (opening_in o) (ledger_in f m x) (carry h p kw)
 unfolding path_causes refusal call_causes carry_causes ledger_in
-carry_refusal o f m x h p kw beyond is = ap₂ (λ b t. first_met (path_causes (opening_in o) (ledger_in f m x) h p b t)) is (posted_one m h p carry_posted_slot (omega arith))
+carry_refusal o f m x h p kw outside is = ap₂ (λ b t. first_met (path_causes (opening_in o) (ledger_in f m x) h p b t)) is (posted_one m h p carry_posted_slot (omega arith))
 
-module _ (o : KeptOpening) (f : List ℕ) (m : List Bool) (x : List Entry) (h p kw : ℕ) (r : Reachable o f m x) (beyond : Bool) (is : beyond ≡ kw_out_of_range kw) (none : 0 ≡ first_met (path_causes (opening_in o) (ledger_in f m x) h p beyond (look_at posted_slots false m h p carry_posted_slot))) where
+module _ (o : KeptOpening) (f : List ℕ) (m : List Bool) (x : List Entry) (h p kw : ℕ) (r : Reachable o f m x) (outside : Bool) (is : outside ≡ kw_out_of_range kw) (none : 0 ≡ first_met (path_causes (opening_in o) (ledger_in f m x) h p outside (look_at posted_slots false m h p carry_posted_slot))) where
   unmet : 0 ≡ refusal (opening_in o) (ledger_in f m x) (carry h p kw)
-  unmet = none ∙ carry_refusal o f m x h p kw beyond is
+  unmet = none ∙ carry_refusal o f m x h p kw outside is
 
   abbrev O : Opening
   O = opening_in o

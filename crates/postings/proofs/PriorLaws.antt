@@ -33,13 +33,13 @@ use Rattle.slots.proofs.StepLaws.{accepted_test, steps_accepted}
 use Rattle.postings.specs.PathCauses.{path_causes}
 
 -- the first cause of a posting that is a prior is its refusal
-pub prior_refusal : (o : KeptOpening) (f : List ℕ) (m : List Bool) (x : List Entry) (h p a l : ℕ) (beyond : Bool) → beyond ≡ prior_out_of_range a l → first_met (path_causes (opening_in o) (ledger_in f m x) h p beyond (look_at posted_slots false m h p prior_posted_slot)) ≡ refusal (opening_in o) (ledger_in f m x) (prior h p a l)
+pub prior_refusal : (o : KeptOpening) (f : List ℕ) (m : List Bool) (x : List Entry) (h p a l : ℕ) (outside : Bool) → outside ≡ prior_out_of_range a l → first_met (path_causes (opening_in o) (ledger_in f m x) h p outside (look_at posted_slots false m h p prior_posted_slot)) ≡ refusal (opening_in o) (ledger_in f m x) (prior h p a l)
 unfolding path_causes refusal call_causes prior_causes ledger_in
-prior_refusal o f m x h p a l beyond is = ap₂ (λ b t. first_met (path_causes (opening_in o) (ledger_in f m x) h p b t)) is (posted_one m h p prior_posted_slot (omega arith))
+prior_refusal o f m x h p a l outside is = ap₂ (λ b t. first_met (path_causes (opening_in o) (ledger_in f m x) h p b t)) is (posted_one m h p prior_posted_slot (omega arith))
 
-module _ (o : KeptOpening) (f : List ℕ) (m : List Bool) (x : List Entry) (h p a l : ℕ) (r : Reachable o f m x) (beyond : Bool) (is : beyond ≡ prior_out_of_range a l) (none : 0 ≡ first_met (path_causes (opening_in o) (ledger_in f m x) h p beyond (look_at posted_slots false m h p prior_posted_slot))) where
+module _ (o : KeptOpening) (f : List ℕ) (m : List Bool) (x : List Entry) (h p a l : ℕ) (r : Reachable o f m x) (outside : Bool) (is : outside ≡ prior_out_of_range a l) (none : 0 ≡ first_met (path_causes (opening_in o) (ledger_in f m x) h p outside (look_at posted_slots false m h p prior_posted_slot))) where
   unmet : 0 ≡ refusal (opening_in o) (ledger_in f m x) (prior h p a l)
-  unmet = none ∙ prior_refusal o f m x h p a l beyond is
+  unmet = none ∙ prior_refusal o f m x h p a l outside is
 
   abbrev O : Opening
   O = opening_in o
