@@ -1,9 +1,10 @@
 // Block lists: the load posted, or the refusal.
-use crate::rows::{at, part, settings_at};
+use crate::rows::{part, settings_at};
 use crate::{load_rows, write};
 use load_metric::block::Block;
 use load_metric::load::{BlockError, load_posted};
 use std::io;
+use tariff::entries::entry_at;
 use tariff::legal_settings::LegalSettings;
 
 // The most blocks that a row has.
@@ -12,9 +13,9 @@ const MAX_BLOCKS: usize = 2_209;
 // The blocks of three parts of the tables, side by side as far as the shortest goes, and how many they are.
 fn paired(firsts: &[u64], hours: &[u64], kws: &[u64]) -> [Block; MAX_BLOCKS] {
     std::array::from_fn(|k| Block {
-        first: at(firsts, k),
-        hours: at(hours, k),
-        kw: at(kws, k),
+        first: entry_at(firsts, k, 0),
+        hours: entry_at(hours, k, 0),
+        kw: entry_at(kws, k, 0),
     })
 }
 

@@ -1,18 +1,12 @@
 // What stands in a table. A place past its end holds 0, and a part that goes past its end is empty.
-ghost use Rattle.std.specs.Prelude.{◌≡◌, get_or};
+ghost use Rattle.std.specs.Prelude.{◌≡◌};
 ghost use Rattle.tariff.specs.Sizes.{setting_count};
 ghost use Rattle.tariff.specs.Settings.{settings_of};
 ghost use Rattle.tariff_rows.specs.Tables.{part_of};
 
+use tariff::entries::entry_at;
 use tariff::settings::Settings;
 use tariff::sizes::SETTING_COUNT;
-
-// The number at a place.
-pub fn at(table: &[u64], place: usize) -> u64
-    ensures { result ≡ get_or table.now place 0 }
-{
-    table.get(place).copied().unwrap_or(0)
-}
 
 // The numbers from a start on.
 #[tactic(auto, unfolding(crate::specs::Tables::part_of))]
@@ -30,5 +24,5 @@ pub fn settings_at(table: &[u64], place: u64) -> Settings
     ensures { result ≡ settings_of (part_of table.now place setting_count) }
 {
     let pairs = part(table, place, SETTING_COUNT as u64);
-    Settings::from(std::array::from_fn(|k| at(pairs, k)))
+    Settings::from(std::array::from_fn(|k| entry_at(pairs, k, 0)))
 }

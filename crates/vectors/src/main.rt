@@ -45,7 +45,7 @@ fn run_begun(rt: &impl Print, vector: &Option<Vector>) -> io::Result<()> {
 fn run_vectors(rt: &impl Print, text: &[u8]) -> io::Result<()> {
     let mut vector: Option<Vector> = None;
     for line in text.split_inclusive(|&byte| byte == LINE_FEED) {
-        if Line::from(line) == Line::Vector {
+        if matches!(Line::from(line), Line::Vector) {
             run_begun(rt, &vector)?;
             vector = Some(Vector::new(line));
         } else if let Some(begun) = &mut vector {

@@ -1,24 +1,32 @@
 // Lines and numbers of the vectors' format.
 use lines::text::read_number;
 
+// Where N starts in `#times N LINE`, `#cut N` and `#lend N`.
+const TIMES_AT: usize = 7;
+
+const CUT_AT: usize = 5;
+
+const LEND_AT: usize = 6;
+
 // What a line says to the program.
-#[derive(Clone, Copy, PartialEq, Eq)]
-pub enum Line {
+#[derive(Clone, Copy)]
+pub enum Line<'a> {
     Script,
     Vector,
-    Times,
-    Cut,
-    Lend,
+    // What stands after the word: how often, and the line.
+    Times(&'a [u8]),
+    Cut(usize),
+    Lend(usize),
     Note,
 }
 
-impl From<&[u8]> for Line {
-    fn from(line: &[u8]) -> Self {
+impl<'a> From<&'a [u8]> for Line<'a> {
+    fn from(line: &'a [u8]) -> Self {
         match line {
             [b'#', b' ', ..] => Line::Vector,
-            [b'#', b't', ..] => Line::Times,
-            [b'#', b'c', ..] => Line::Cut,
-            [b'#', b'l', ..] => Line::Lend,
+            [b'#', b't', ..] => Line::Times(line.get(TIMES_AT..).unwrap_or(&[])),
+            [b'#', b'c', ..] => Line::Cut(number_from(line, CUT_AT)),
+            [b'#', b'l', ..] => Line::Lend(number_from(line, LEND_AT)),
             [b'#', ..] => Line::Note,
             _ => Line::Script,
         }

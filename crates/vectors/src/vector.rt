@@ -2,20 +2,13 @@
 ghost use Rattle.std.specs.Prelude.{◌≤◌};
 ghost use Rattle.vectors.specs.declared.vector.TheConstants.{MAX_LENT};
 
-use crate::reading::{Line, number_from};
+use crate::reading::Line;
 use crate::script_text::ScriptText;
 use script::run::{REFUSAL_UNIT, run};
 use std::io;
 
 // The most bytes that are lent for the output.
 const MAX_LENT: usize = 65_536;
-
-// Where N starts in `#times N LINE`, `#cut N` and `#lend N`.
-const TIMES_AT: usize = 7;
-
-const CUT_AT: usize = 5;
-
-const LEND_AT: usize = 6;
 
 // The line that begins a vector, its script so far, and how many bytes are lent for the output.
 #[derive(Drop)]
@@ -39,11 +32,9 @@ impl<'a> Vector<'a> {
     pub fn take(&mut self, line: &[u8]) {
         match Line::from(line) {
             Line::Script => self.script.append(line),
-            Line::Times => self
-                .script
-                .append_copies(line.get(TIMES_AT..).unwrap_or(&[])),
-            Line::Cut => self.script.cut(number_from(line, CUT_AT)),
-            Line::Lend => self.lent = number_from(line, LEND_AT).min(MAX_LENT),
+            Line::Times(said) => self.script.append_copies(said),
+            Line::Cut(count) => self.script.cut(count),
+            Line::Lend(count) => self.lent = count.min(MAX_LENT),
             Line::Vector | Line::Note => {}
         }
     }
