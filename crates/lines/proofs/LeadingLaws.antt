@@ -7,7 +7,7 @@ use mathlib.Core.Logic.{◌⊎◌, inl, inr}
 use native.Mathlib.Omega.{arith}
 use borrow.Author.Tests.{leb-true, le-leb}
 use lib.ListN.{length, get_or, take, drop, drop_of_length-le}
-use lib.Seq.{get_or-drop}
+use lib.Seq.{get_or-drop, length-take-le}
 use lib.Dec.{eqb, leb, ltb}
 use Rattle.std.proofs.lemmas.List.{get_or-take}
 use Rattle.tariff.proofs.Tests.{decided, both_ways, and_both, and_join}
@@ -26,7 +26,11 @@ module _ (length from most : ℕ) (l : from ≤ length) where
       go true p = inr p
       go false p = inl p
 
--- a byte of a part, by its place in the whole
+-- a byte of a part stands before the part's end
+pub below_limit : (bytes : List ℕ) (limit i : ℕ) → limit ≤ length bytes → i < length (take limit bytes) → i < limit
+below_limit bytes limit i within there = let long = length-take-le limit bytes within in omega arith
+
+-- and is the whole's, by its place there
 pub byte_of_part : (bytes : List ℕ) (from n i : ℕ) → i < n → get_or (take n (drop from bytes)) i 0 ≡ get_or bytes (from + i) 0
 byte_of_part bytes from n i l = get_or-take n (drop from bytes) i 0 l ∙ get_or-drop from bytes i 0
 

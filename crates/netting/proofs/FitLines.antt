@@ -1,29 +1,18 @@
 -- Class lines that are fit to be netted: the tests, and what they show. Assumes nothing.
-use Prim.Native.Nat.{ℕ, zero, suc}
-use mathlib.Core.Path.{◌≡◌, refl, sym, ap, ◌∙◌}
+use Prim.Native.Nat.{ℕ}
+use mathlib.Core.Path.{◌≡◌, sym, ap, ◌∙◌}
 use mathlib.Core.Bool.{Bool, true, ◌&&◌}
-use mathlib.Core.List.{List, [], ◌∷◌, ◌++◌, map}
-use native.Mathlib.Numerals.{add-one}
-use native.Mathlib.Omega.{arith}
+use mathlib.Core.List.{List, map}
 use lib.ListN.{length}
 use lib.Dec.{leb, eqb}
 use borrow.Author.Tests.{eq-eqb, eqb-true}
 use Rattle.std.specs.List.{list_any, range_with_len}
-use Rattle.std.proofs.lemmas.List.FromFn.{map-range_with_len_more}
 use Rattle.netting.specs.declared.netting.ClassLine.{ClassLine}
-use Rattle.tariff.specs.Sum.{any_below, any_of, tabulate}
+use Rattle.tariff.specs.Sum.{any_below, any_of}
 use Rattle.netting.specs.Netting.{same_counts, SameLengths, class_line_at, class_lines_of, unfit_line}
 use Rattle.tariff.proofs.Tests.{and_join, and_both}
 use Rattle.tariff.proofs.Lists.{any_tabulate, any_is}
-
--- a list given by its entries, as an iterator gives it
-mapped_range : {A : Type 0} (n : ℕ) (f : ℕ → A) → map f (range_with_len 0 n) ≡ tabulate n f
-unfolding tabulate
-mapped_range zero f = refl
-mapped_range (suc n) f =
-    ap (λ k. map f (range_with_len 0 k)) (sym (add-one n))
-    ∙ map-range_with_len_more f 0 n n (omega arith)
-    ∙ ap (λ xs. xs ++ (f n ∷ [])) (mapped_range n f)
+use Rattle.tariff.proofs.Counted.{mapped_range}
 
 module _ (froms tos classes customers watts : List ℕ) where
   -- the test on the lines, line by line

@@ -1,6 +1,6 @@
 -- What an accepted carry needs of the arrays, and what it leaves in them. Assumes nothing.
 use Prim.Native.Nat.{ℕ, ◌+◌, ◌<◌}
-use mathlib.Core.Path.{◌≡◌, refl, ap₂, ◌∙◌}
+use mathlib.Core.Path.{◌≡◌, refl, ◌∙◌}
 use mathlib.Core.Bool.{Bool, true, false}
 use mathlib.Core.List.{List, []}
 use native.Mathlib.Nat.{le_trans}
@@ -13,35 +13,23 @@ use Rattle.tariff.specs.Sizes.{last_month}
 use Rattle.ledger.specs.Opening.{Opening}
 use Rattle.ledger.specs.Ledger.{Ledger, with_rights}
 use Rattle.ledger.specs.Call.{carry}
-use Rattle.ledger.specs.Causes.{refusal, call_causes, carry_causes}
-use Rattle.ledger.specs.Numbers.{first_met}
-use Rattle.tariff.specs.Ranges.{kw_out_of_range}
+use Rattle.ledger.specs.Causes.{refusal}
 use Rattle.ledger.specs.Effects.{after_carry, effect}
 use Rattle.ledger.proofs.PostingFacts.{CarryFacts, carry_facts}
 use Rattle.records.specs.Opening.{opening_in}
-use Rattle.slots.specs.Cells.{HasCell, look_at, stored_at}
+use Rattle.slots.specs.Cells.{HasCell, stored_at}
 use Rattle.slots.specs.Groups.{slots_of}
 use Rattle.slots.specs.Layout.{figure_slots, posted_slots, figure_groups, posted_groups, evidence_groups, calendar_of, figures_of, posted_of, evidence_of, ledger_in, carried_slot, carry_posted_slot}
 use Rattle.slots.specs.Months.{added_in_term, HasRoom}
 use Rattle.slots.specs.Steps.{Reachable, Steps}
-use Rattle.slots.proofs.PostedLaws.{posted_one}
 use Rattle.slots.proofs.CellLaws.{shown_is}
 use Rattle.slots.proofs.StoreLaws.{slot_stored, single_posted}
 use Rattle.slots.proofs.MonthLaws.{term_added}
 use Rattle.slots.proofs.Reachable.{counts, figures_shown, posted_shown, evidence_known}
 use Rattle.slots.proofs.Figures.{figure_fits, room_for_more}
 use Rattle.slots.proofs.StepLaws.{accepted_test, steps_accepted}
-use Rattle.postings.specs.PathCauses.{path_causes}
 
--- the first cause of a posting that is a carry is its refusal
-pub carry_refusal : (o : KeptOpening) (f : List ℕ) (m : List Bool) (x : List Entry) (h p kw : ℕ) (outside : Bool) → outside ≡ kw_out_of_range kw → first_met (path_causes (opening_in o) (ledger_in f m x) h p outside (look_at posted_slots false m h p carry_posted_slot)) ≡ refusal (opening_in o) (ledger_in f m x) (carry h p kw)
-unfolding path_causes refusal call_causes carry_causes ledger_in
-carry_refusal o f m x h p kw outside is = ap₂ (λ b t. first_met (path_causes (opening_in o) (ledger_in f m x) h p b t)) is (posted_one m h p carry_posted_slot (omega arith))
-
-module _ (o : KeptOpening) (f : List ℕ) (m : List Bool) (x : List Entry) (h p kw : ℕ) (r : Reachable o f m x) (outside : Bool) (is : outside ≡ kw_out_of_range kw) (none : 0 ≡ first_met (path_causes (opening_in o) (ledger_in f m x) h p outside (look_at posted_slots false m h p carry_posted_slot))) where
-  unmet : 0 ≡ refusal (opening_in o) (ledger_in f m x) (carry h p kw)
-  unmet = none ∙ carry_refusal o f m x h p kw outside is
-
+module _ (o : KeptOpening) (f : List ℕ) (m : List Bool) (x : List Entry) (h p kw : ℕ) (r : Reachable o f m x) (unmet : 0 ≡ refusal (opening_in o) (ledger_in f m x) (carry h p kw)) where
   abbrev O : Opening
   O = opening_in o
 

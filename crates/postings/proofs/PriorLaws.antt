@@ -1,6 +1,6 @@
 -- What an accepted prior needs of the arrays, and what it leaves in them. Assumes nothing.
 use Prim.Native.Nat.{ℕ, ◌-◌, ◌≤◌, ◌<◌}
-use mathlib.Core.Path.{◌≡◌, refl, ap, ap₂, ◌∙◌}
+use mathlib.Core.Path.{◌≡◌, refl, ap, ◌∙◌}
 use mathlib.Core.Bool.{Bool, true, false}
 use mathlib.Core.List.{List, []}
 use native.Mathlib.Nat.{le_trans}
@@ -12,35 +12,23 @@ use Rattle.source_evidence.specs.declared.evidence.Entry.{Entry}
 use Rattle.ledger.specs.Opening.{Opening}
 use Rattle.ledger.specs.Ledger.{Ledger, with_priors}
 use Rattle.ledger.specs.Call.{Call, prior}
-use Rattle.ledger.specs.Causes.{refusal, call_causes, prior_causes}
-use Rattle.ledger.specs.Numbers.{first_met}
-use Rattle.ledger.specs.Ranges.{prior_out_of_range}
+use Rattle.ledger.specs.Causes.{refusal}
 use Rattle.ledger.specs.Effects.{plus_at2, after_prior, effect}
 use Rattle.ledger.proofs.PostingFacts.{PriorFacts, prior_facts}
 use Rattle.records.specs.Opening.{opening_in}
-use Rattle.slots.specs.Cells.{HasCell, look_at, stored_at, added_at}
+use Rattle.slots.specs.Cells.{HasCell, stored_at, added_at}
 use Rattle.slots.specs.Groups.{slots_of}
 use Rattle.slots.specs.Layout.{figure_slots, posted_slots, figure_groups, posted_groups, evidence_groups, calendar_of, figures_of, posted_of, evidence_of, ledger_in, prior_allocated_slot, prior_remaining_slot, carried_slot, prior_posted_slot}
 use Rattle.slots.specs.Months.{HasRoom}
 use Rattle.slots.specs.Steps.{Reachable, Steps}
-use Rattle.slots.proofs.PostedLaws.{posted_one}
 use Rattle.slots.proofs.CellLaws.{shown_is}
 use Rattle.slots.proofs.StoreLaws.{slot_stored, slot_added, single_added, single_posted}
 use Rattle.slots.proofs.RoomLaws.{room_next}
 use Rattle.slots.proofs.Reachable.{counts, figures_shown, posted_shown, evidence_known}
 use Rattle.slots.proofs.Figures.{figure_fits, room_for_more}
 use Rattle.slots.proofs.StepLaws.{accepted_test, steps_accepted}
-use Rattle.postings.specs.PathCauses.{path_causes}
 
--- the first cause of a posting that is a prior is its refusal
-pub prior_refusal : (o : KeptOpening) (f : List ℕ) (m : List Bool) (x : List Entry) (h p a l : ℕ) (outside : Bool) → outside ≡ prior_out_of_range a l → first_met (path_causes (opening_in o) (ledger_in f m x) h p outside (look_at posted_slots false m h p prior_posted_slot)) ≡ refusal (opening_in o) (ledger_in f m x) (prior h p a l)
-unfolding path_causes refusal call_causes prior_causes ledger_in
-prior_refusal o f m x h p a l outside is = ap₂ (λ b t. first_met (path_causes (opening_in o) (ledger_in f m x) h p b t)) is (posted_one m h p prior_posted_slot (omega arith))
-
-module _ (o : KeptOpening) (f : List ℕ) (m : List Bool) (x : List Entry) (h p a l : ℕ) (r : Reachable o f m x) (outside : Bool) (is : outside ≡ prior_out_of_range a l) (none : 0 ≡ first_met (path_causes (opening_in o) (ledger_in f m x) h p outside (look_at posted_slots false m h p prior_posted_slot))) where
-  unmet : 0 ≡ refusal (opening_in o) (ledger_in f m x) (prior h p a l)
-  unmet = none ∙ prior_refusal o f m x h p a l outside is
-
+module _ (o : KeptOpening) (f : List ℕ) (m : List Bool) (x : List Entry) (h p a l : ℕ) (r : Reachable o f m x) (unmet : 0 ≡ refusal (opening_in o) (ledger_in f m x) (prior h p a l)) where
   abbrev O : Opening
   O = opening_in o
 

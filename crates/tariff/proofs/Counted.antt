@@ -1,5 +1,5 @@
 -- A test of each number that an iterator counts from 0 on is the rules' test of the numbers below a count. Assumes nothing.
-use Rattle.std.proofs.Common.{◌≡◌, ℕ, zero, suc, ◌+◌, Bool, ◌&&◌, ◌||◌, [], ◌∷◌, ◌++◌, refl, ap, ◌∙◌, arith}
+use Rattle.std.proofs.Common.{◌≡◌, ℕ, zero, suc, ◌+◌, Bool, ◌&&◌, ◌||◌, [], ◌∷◌, ◌++◌, map, refl, ap, ◌∙◌, arith}
 use mathlib.Core.Path.{ap₂}
 use mathlib.Core.Bool.{and-true, or-false}
 use denote.Param.Members.{Mut}
@@ -8,15 +8,22 @@ use Rattle.std.proofs.iter.Yields.{nat_range_steps}
 use Rattle.std.specs.Fn.{Called}
 use Rattle.std.specs.Iterator.{ChecksAll, ChecksAny}
 use Rattle.std.specs.List.{range_with_len, list_all, list_any}
+use Rattle.std.proofs.lemmas.List.{map-append}
 use Rattle.std.proofs.lemmas.List.Folds.{list_all-append, list_any-append}
 use Rattle.std.proofs.lemmas.Iterator.{YieldsList-from_range}
 use Rattle.std.proofs.lemmas.Iterator.Search.{all_from_yields_List, any_from_yields_List}
-use Rattle.tariff.specs.Sum.{all_below, any_below}
+use Rattle.tariff.specs.Sum.{all_below, any_below, tabulate}
 
 -- the last number of a range, apart
 pub range_last : (a n j : ℕ) → a + n ≡ j → range_with_len a (suc n) ≡ range_with_len a n ++ j ∷ []
 range_last a zero j e = ap (λ k. k ∷ []) (let same : a ≡ j = omega arith in same)
 range_last a (suc n) j e = ap (λ ks. a ∷ ks) (range_last (a + 1) n j (omega arith))
+
+-- the list that an iterator makes of the numbers below a count is the list given by its entries
+pub mapped_range : {A : Type 0} (n : ℕ) (f : ℕ → A) → map f (range_with_len 0 n) ≡ tabulate n f
+unfolding tabulate
+mapped_range zero f = refl
+mapped_range (suc n) f = ap (map f) (range_last 0 n n (omega arith)) ∙ map-append f (range_with_len 0 n) (n ∷ []) ∙ ap (λ xs. xs ++ f n ∷ []) (mapped_range n f)
 
 module _ (test : ℕ → Bool) where
   pub list_all-range : (n : ℕ) → list_all test (range_with_len 0 n) ≡ all_below n test

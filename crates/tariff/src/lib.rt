@@ -1,4 +1,4 @@
-// The tariff's rules on numbers. Each function equals a definition of specs/.
+// The tariff's rules on numbers, each function equal to a definition of specs/; and one entry of a list, which the crates above read by one function.
 #![tactic(auto)]
 
 pub mod entries;

@@ -1,11 +1,12 @@
 -- `lines::words::read_word` meets its contract: the number of the letters read so far is below a power of 32, so that eight of them fit. Assumes nothing.
 use mathlib.Core.Path.{◌≡◌, sym, ap, ◌∙◌}
-use Prim.Native.Nat.{◌<◌, zero-le}
+use Prim.Native.Nat.{zero-le}
 use native.Mathlib.Omega.{arith}
 use lib.Seq.{length-take-le}
 use Rattle.std.proofs.lemmas.List.{get_or-take}
 use Rattle.tariff.specs.Ranges.{within}
 use Rattle.lines.specs.Words.{is_letter}
+use Rattle.lines.proofs.LeadingLaws.{below_limit}
 use Rattle.lines.proofs.WordLaws.{key_room, key_grows, no_letters_yet, letter_more, letters_stop, letters_end}
 use Rattle.lines.proofs.words.read_word.Goals as goal
 
@@ -15,26 +16,26 @@ loop-i-init c = (zero-le, omega arith, omega arith, omega arith, no_letters_yet 
 pub returns-then-not-is_ascii_lowercase : goal.returns-then-not-is_ascii_lowercase
 unfolding is_letter within
 returns-then-not-is_ascii_lowercase c =
-    let reached : c.loop-i.i < c.reading_limit-limit.result = omega (arith, length-take-le c.reading_limit-limit.result c.args.rest.now (omega arith)) in
+    let reached = below_limit _ _ _ (omega arith) c.loop-i-test.true in
     let part = get_or-take c.reading_limit-limit.result c.args.rest.now c.loop-i.i 0 reached in
     letters_stop _ _ _ c.loop-i.invariant.4 (ap is_letter (sym part) ∙ sym c.if-not-is_ascii_lowercase.ensures.value) (omega arith) (omega arith)
 
 pub overflow_mul-key : goal.overflow_mul-key
 overflow_mul-key c =
-    let reached : c.loop-i.i < c.reading_limit-limit.result = omega (arith, length-take-le c.reading_limit-limit.result c.args.rest.now (omega arith)) in
+    let reached = below_limit _ _ _ (omega arith) c.loop-i-test.true in
     let room = key_room _ _ c.loop-i.invariant.3 (omega arith) in
     omega (arith, room)
 
 pub overflow_add-key : goal.overflow_add-key
 overflow_add-key c =
-    let reached : c.loop-i.i < c.reading_limit-limit.result = omega (arith, length-take-le c.reading_limit-limit.result c.args.rest.now (omega arith)) in
+    let reached = below_limit _ _ _ (omega arith) c.loop-i-test.true in
     let room = key_room _ _ c.loop-i.invariant.3 (omega arith) in
     omega (arith, room)
 
 pub loop-i-preserved : goal.loop-i-preserved
 unfolding is_letter within
 loop-i-preserved c =
-    let reached : c.loop-i.i < c.reading_limit-limit.result = omega (arith, length-take-le c.reading_limit-limit.result c.args.rest.now (omega arith)) in
+    let reached = below_limit _ _ _ (omega arith) c.loop-i-test.true in
     let part = get_or-take c.reading_limit-limit.result c.args.rest.now c.loop-i.i 0 reached in
     rw part (
       omega arith,

@@ -1,2 +1,0 @@
--- What postings on a path have in common.
-pub mod PathCauses
