@@ -1,16 +1,13 @@
 -- Room for kW in the slots of a holder at a path: what a book's figures have, and what an addition by month leaves of it. Assumes nothing.
 use Prim.Native.Nat.{ℕ, ◌+◌, ◌≤◌, ◌<◌}
-use mathlib.Core.Path.{◌≡◌, refl, sym, ◌∙◌}
-use mathlib.Core.Bool.{Bool, false}
+use mathlib.Core.Path.{◌≡◌, refl}
+use mathlib.Core.Bool.{Bool}
 use mathlib.Core.List.{List}
 use native.Mathlib.Nat.{le_trans}
 use native.Mathlib.Omega.{arith}
-use borrow.Author.Tests.{leb-false}
 use Rattle.records.specs.declared.setup.KeptOpening.{KeptOpening}
 use Rattle.source_evidence.specs.declared.evidence.Entry.{Entry}
-use Rattle.tariff.specs.Ranges.{max_kw, kw_out_of_range}
-use Rattle.ledger.specs.Ranges.{unknown_holder, unknown_path}
-use Rattle.ledger.proofs.Unmet.{kw_in_range}
+use Rattle.tariff.specs.Ranges.{max_kw}
 use Rattle.records.specs.Opening.{opening_in}
 use Rattle.slots.specs.Layout.{figure_slots}
 use Rattle.slots.specs.Months.{added_in_term, HasRoom}
@@ -28,12 +25,6 @@ row_room o f m x h p kw first past r holder path high in_row =
       in_row = in_row;
       room = λ slot above below. room_for_more _ kw (figure_fits o f m x r h p slot holder path (omega arith)) high;
     }
-
--- the same where code has found that the holder and the path are in the book, and the kW in its range
-pub known_room : (o : KeptOpening) (f : List ℕ) (m : List Bool) (x : List Entry) (h p kw first past : ℕ) {no_h no_p wrong : Bool} → Reachable o f m x → no_h ≡ unknown_holder (opening_in o) h → no_p ≡ unknown_path (opening_in o) p → no_h ≡ false → no_p ≡ false → wrong ≡ kw_out_of_range kw → wrong ≡ false → past ≤ figure_slots → HasRoom f h p first past kw
-unfolding unknown_holder unknown_path
-known_room o f m x h p kw first past r holders paths holder path range within in_row =
-    row_room o f m x h p kw first past r (leb-false _ _ (sym holders ∙ holder)) (leb-false _ _ (sym paths ∙ path)) (kw_in_range kw (sym range ∙ within)).1 in_row
 
 -- an addition in the months of a term leaves it to the slots after them
 pub room_after_term : (f next : List ℕ) (h p from past term kw v later : ℕ) → HasRoom f h p from past kw → from + 2 < past → from + 2 < later → next ≡ added_in_term f h p from term v → HasRoom next h p later past kw

@@ -9,13 +9,13 @@ ghost use Rattle.slots.specs.Layout.{current_tier_in, ledger_in, nominated_slot,
 ghost use Rattle.slots.specs.Months.{HasRoom};
 ghost use Rattle.slots.specs.Steps.{ReachableFigures, InFigures, FiguresStep};
 
-use records::ranges::kw_out_of_range;
 use records::refusal::Refusal;
 use records::setup::KeptOpening;
-use slots::calendar::{calendar, current_tier};
+use slots::calendar::current_tier;
 use slots::cells::{add, read};
 use slots::layout::{AWARDED_SLOT, AWARDS_SLOT, Figures, NOMINATED_SLOT};
 use slots::months::add_in_term;
+use slots::tier_call::check_tier_call;
 use tariff::terms::{entering_kw, term_of};
 
 // Cause 14: with kw more, a holder's awards on a path exceed its nominations in the open tier.
@@ -29,20 +29,12 @@ fn exceeds_nominated(f: &Figures, tier: u64, h: u64, p: u64, kw: u64) -> bool
 }
 
 // Whether an award meets no cause, else the first that it meets.
-#[tactic(auto, using(slots::proofs::CalendarLaws::open_as_ledger), unfolding(ledger::specs::Causes::refusal, ledger::specs::Causes::call_causes, ledger::specs::Causes::award_causes, ledger::specs::Numbers::first_met, slots::specs::Layout::ledger_in))]
+#[tactic(auto, unfolding(ledger::specs::Causes::refusal, ledger::specs::Causes::call_causes, ledger::specs::Causes::award_causes, ledger::specs::Numbers::first_met, slots::specs::Layout::ledger_in))]
 fn check_award(o: &KeptOpening, f: &Figures, h: u64, p: u64, kw: u64) -> Result<(), Refusal>
     requires { ReachableFigures o.now f.now }
     ensures { InFigures o.now f.now (λ O L. refused_by result ≡ refusal O L (award h p kw)) }
 {
-    if o.unknown_holder(h) || o.unknown_path(p) {
-        return Err(Refusal::NotInBook);
-    }
-    if kw_out_of_range(kw) {
-        return Err(Refusal::OutOfRange);
-    }
-    if !calendar(f).tier_is_open() {
-        return Err(Refusal::NotAtThisTime);
-    }
+    check_tier_call(o, f, h, p, kw)?;
     if exceeds_nominated(f, current_tier(f), h, p, kw) {
         return Err(Refusal::AboveNominated);
     }

@@ -36,18 +36,15 @@ fn net_holding(o: &KeptOpening, f: &Figures, p: u64, month: u64) -> u64
     (0..o.holders()).map(|h| holding(f, h, p, month)).sum()
 }
 
-// Whether a held query meets no cause, else the first that it meets.
+// Whether a held query meets no cause, else the first that it meets: past the holder it is refused as a net query on the path is.
 #[tactic(auto, unfolding(ledger::specs::Causes::query_refusal, ledger::specs::Causes::query_causes, ledger::specs::Causes::held_causes, ledger::specs::Numbers::first_met))]
 fn check_held(o: &KeptOpening, h: u64, p: u64, month: u64) -> Result<(), Refusal>
     ensures { (L : Ledger) → refused_by result ≡ query_refusal (opening_of o.entry) L (held_on h p month) }
 {
-    if o.unknown_holder(h) || o.unknown_path(p) {
+    if o.unknown_holder(h) {
         return Err(Refusal::NotInBook);
     }
-    if month_out_of_range(month) {
-        return Err(Refusal::OutOfRange);
-    }
-    Ok(())
+    check_net(o, p, month)
 }
 
 // Whether a net query meets no cause, else the first that it meets.

@@ -9,6 +9,8 @@ use lib.Dec.{leb, ltb}
 use borrow.Author.Tests.{ltb-true, ltb-false, lt-leb, ne_eqb}
 use lib.ListN.{get_or, replicate, length-replicate, get_or-replicate, get_or-eq_default}
 use Rattle.tariff.specs.Sum.{when_true}
+use Rattle.source_evidence.specs.declared.evidence.Entry.{Entry}
+use Rattle.source_evidence.specs.declared.evidence.Evidence.TheVariants.{Empty}
 use Rattle.source_evidence.specs.Evidence.{empty_entry, counts_for, is_ten_year}
 use Rattle.tariff.proofs.Sums.{when_is_false}
 use Rattle.tariff.proofs.Tests.{decided, and_right_false}
@@ -79,8 +81,13 @@ empty_posted =
     (filled-shows false posted_slots posted_count 0 (posted_groups empty_ledger) refl
     (λ h p k. refl, (λ h p k. refl, (λ h p k. refl, (λ h p k. refl, tt)))))
 
-pub empty_evidence : replicate evidence_count empty_entry ≡ evidence_of empty_ledger
+nothing_shown : replicate evidence_count empty_entry ≡ evidence_of empty_ledger
 unfolding evidence_of evidence_groups empty_ledger
-empty_evidence =
+nothing_shown =
     shown_is evidence_slots empty_entry (in_slot empty_entry (evidence_groups empty_ledger)) (replicate evidence_count empty_entry) [] (omega arith)
     (filled-shows empty_entry evidence_slots evidence_count 0 (evidence_groups empty_ledger) refl (λ h p k. refl, tt))
+
+-- the entry is told by its fields, as code makes it
+pub empty_evidence : (none : Entry) → none.evidence ≡ Empty → none.first ≡ 0 → none.last ≡ 0 → none.ten_year ≡ false → replicate evidence_count none ≡ evidence_of empty_ledger
+unfolding empty_entry
+empty_evidence none evidence first last mark = ap (replicate evidence_count) (λ i. record { evidence = evidence i; first = first i; last = last i; ten_year = mark i }) ∙ nothing_shown

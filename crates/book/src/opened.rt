@@ -19,7 +19,7 @@ use source_evidence::evidence::Entry;
 pub fn no_evidence() -> [Entry; EVIDENCE_COUNT]
     ensures { result ≡ evidence_of empty_ledger }
 {
-    [Entry::EMPTY; EVIDENCE_COUNT]
+    [Entry::default(); EVIDENCE_COUNT]
 }
 
 // The book of an opening and no calls.

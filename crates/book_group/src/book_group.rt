@@ -31,18 +31,15 @@ fn lent_length(count: u64) -> usize
 fn open_from_lists(head: Row, lists: BookLists) -> Result<KeptOpening, Refusal>
     ensures { result ≡ opened (opening_kept head lists) }
 {
-    let counts = head.fields;
-    let holders = lent_length(counts[0]);
-    let sinks = lent_length(counts[2]);
-    let paths = lent_length(counts[3]);
+    let [holders, sources, sinks, paths, ..] = head.fields;
     open(BookSetup {
-        holders: counts[0],
-        sources: counts[1],
-        sinks: counts[2],
-        paths: counts[3],
-        holder_kinds: &lists.holder_kinds[..holders],
-        sink_lines: &lists.sink_lines[..sinks],
-        path_lines: &lists.path_lines[..paths],
+        holders,
+        sources,
+        sinks,
+        paths,
+        holder_kinds: &lists.holder_kinds[..lent_length(holders)],
+        sink_lines: &lists.sink_lines[..lent_length(sinks)],
+        path_lines: &lists.path_lines[..lent_length(paths)],
         settings: lists.settings,
     })
 }

@@ -1,19 +1,17 @@
-// The answers of a season, written as they come. What a program writes is in no promise, so nothing is stated of them: the stored output holds every line.
-ghost use Rattle.std.specs.Prelude.{◌≡◌};
+// The answers of a season, written as they come. What a program writes is in no promise, so nothing is stated of the lines: the stored output holds every one.
+ghost use Rattle.std.specs.Prelude.{◌≡◌, IfOk};
 
 use book::book::{Book, Outcome};
 use records::answers::{Answer, of_call, of_query};
 use records::refusal::Refusal;
 use std::io;
 
-// Where answers are written, and whether each so far could be.
-#[derive(Drop)]
-pub struct Answers<'a, R: Print> {
-    rt: &'a R,
-    written: io::Result<()>,
+// Writes the line above a case.
+pub fn write_case(rt: &impl Print, number: u64) -> io::Result<()> {
+    println!(rt; "case,{number}")
 }
 
-// The line of an answer.
+// Writes the line of an answer.
 fn write_line(rt: &impl Print, answer: Answer) -> io::Result<()> {
     match answer {
         Ok(None) => println!(rt; "ok"),
@@ -25,37 +23,15 @@ fn write_line(rt: &impl Print, answer: Answer) -> io::Result<()> {
     }
 }
 
-impl<'a, R: Print> Answers<'a, R> {
-    // Begins with the line above a case.
-    pub fn of_case(rt: &'a R, number: u64) -> Answers<'a, R> {
-        Answers {
-            rt,
-            written: println!(rt; "case,{number}"),
-        }
-    }
+// Writes the answer of a call, and gives the book that stands beside it.
+pub fn write_outcome(rt: &impl Print, outcome: Outcome) -> io::Result<Book>
+    ensures { IfOk result (λ b. b ≡ outcome.book) }
+{
+    write_line(rt, of_call(outcome.answer))?;
+    Ok(outcome.book)
+}
 
-    // Writes an answer, unless a line before it could not be written.
-    fn write(&mut self, answer: Answer) {
-        if self.written.is_ok() {
-            self.written = write_line(self.rt, answer);
-        }
-    }
-
-    // Writes the answer of a call, and gives the book that stands beside it.
-    pub fn next(&mut self, outcome: Outcome) -> Book
-        ensures { result ≡ outcome.book }
-    {
-        self.write(of_call(outcome.answer));
-        outcome.book
-    }
-
-    // Writes the answer of a query.
-    pub fn write_query(&mut self, queried: Result<u64, Refusal>) {
-        self.write(of_query(queried));
-    }
-
-    // Whether every line was written.
-    pub fn end(self) -> io::Result<()> {
-        self.written
-    }
+// Writes the answer of a query.
+pub fn write_query(rt: &impl Print, queried: Result<u64, Refusal>) -> io::Result<()> {
+    write_line(rt, of_query(queried))
 }

@@ -63,23 +63,23 @@ fn read_set_line(rest: &[u8]) -> SetLine
 pub fn read_book_lines(rest: &[u8], head: Row) -> BookLines
     ensures { result ≡ book_lines_of head rest.now }
 {
-    let fields = head.fields;
+    let [holder_count, _, sink_count, path_count, ..] = head.fields;
     let mut holder_kinds = [0u64; MAX_PLACES];
-    let mut sink_lines = [SinkLine::NONE; MAX_PLACES];
-    let mut path_lines = [PathLine::NONE; MAX_PLACES];
-    let holders = read_counted(rest, LineKind::Holder, fields[0], &mut holder_kinds);
+    let mut sink_lines = [SinkLine::default(); MAX_PLACES];
+    let mut path_lines = [PathLine::default(); MAX_PLACES];
+    let holders = read_counted(rest, LineKind::Holder, holder_count, &mut holder_kinds);
     let at_sinks = holders.consumed;
     let sinks = read_counted(
         &rest[at_sinks..],
         LineKind::Sink,
-        fields[2],
+        sink_count,
         &mut sink_lines,
     );
     let at_paths = at_sinks + sinks.consumed;
     let paths = read_counted(
         &rest[at_paths..],
         LineKind::Path,
-        fields[3],
+        path_count,
         &mut path_lines,
     );
     let at_set = at_paths + paths.consumed;

@@ -24,12 +24,8 @@ impl CountedLine for Block {
 
     #[tactic(auto, unfolding(crate::specs::Counted::block_of, lines::specs::Rows::field))]
     fn from_row(row: Row) -> Block {
-        let n = row.fields;
-        Block {
-            first: n[0],
-            hours: n[1],
-            kw: n[2],
-        }
+        let [first, hours, kw, ..] = row.fields;
+        Block { first, hours, kw }
     }
 }
 
@@ -38,13 +34,13 @@ impl CountedLine for ClassLine {
 
     #[tactic(auto, unfolding(crate::specs::Counted::class_line_of, lines::specs::Rows::field))]
     fn from_row(row: Row) -> ClassLine {
-        let n = row.fields;
+        let [from, to, class, customers, watts, ..] = row.fields;
         ClassLine {
-            from: n[0],
-            to: n[1],
-            class: n[2],
-            customers: n[3],
-            watts: n[4],
+            from,
+            to,
+            class,
+            customers,
+            watts,
         }
     }
 }
@@ -55,7 +51,8 @@ impl CountedLine for u64 {
 
     #[tactic(auto, unfolding(lines::specs::Rows::field))]
     fn from_row(row: Row) -> u64 {
-        row.fields[0]
+        let [kind, ..] = row.fields;
+        kind
     }
 }
 
@@ -64,11 +61,8 @@ impl CountedLine for SinkLine {
 
     #[tactic(auto, unfolding(crate::specs::Counted::sink_line_of, lines::specs::Rows::field))]
     fn from_row(row: Row) -> SinkLine {
-        let n = row.fields;
-        SinkLine {
-            kind: n[0],
-            parent: n[1],
-        }
+        let [kind, parent, ..] = row.fields;
+        SinkLine { kind, parent }
     }
 }
 
@@ -77,11 +71,8 @@ impl CountedLine for PathLine {
 
     #[tactic(auto, unfolding(crate::specs::Counted::path_line_of, lines::specs::Rows::field))]
     fn from_row(row: Row) -> PathLine {
-        let n = row.fields;
-        PathLine {
-            source: n[0],
-            sink: n[1],
-        }
+        let [source, sink, ..] = row.fields;
+        PathLine { source, sink }
     }
 }
 

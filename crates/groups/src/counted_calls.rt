@@ -7,7 +7,6 @@ ghost use Rattle.lines.specs.declared.rows.LineKind.TheVariants.{Load, Migrate};
 ghost use Rattle.lines.specs.Rows.{rows_of, counted};
 ghost use Rattle.counted_lines.specs.Counted.{bytes_of_lines, rows_counted};
 ghost use Rattle.lines.specs.Text.{max_lines};
-ghost use Rattle.groups.specs.Groups.{lines_counted};
 ghost use Rattle.groups.specs.Outcome.{head_group, head_bytes, FiguresAnswers, PostingsAnswers, AnswersLines};
 
 use crate::outcome::GroupOutcome;
@@ -16,9 +15,7 @@ use lines::rows::{LineKind, Row};
 use lines::text::MAX_LINES;
 use load::load::load;
 use load::metered::Metered;
-use load_metric::block::Block;
 use migrate::class_lines::migrate_lines;
-use netting::netting::ClassLine;
 use records::answers::of_call;
 use records::refusal::Refusal;
 use records::setup::KeptOpening;
@@ -30,13 +27,11 @@ const FEW_LINES: usize = 64;
 
 // Reads the lines that a head counts into an array that has a place for each of them, and puts them to a call, if they can be read. The call is lent, so
 // that what it leaves in the arrays that it writes is known.
-fn answer_with_room<T: CountedLine, const N: usize, F: FnMut(&[T]) -> Result<(), Refusal>>(
-    rest: &[u8],
-    kind: LineKind,
-    count: u64,
-    none: T,
-    call: &mut F,
-) -> GroupOutcome
+fn answer_with_room<
+    T: CountedLine + Default,
+    const N: usize,
+    F: FnMut(&[T]) -> Result<(), Refusal>,
+>(rest: &[u8], kind: LineKind, count: u64, call: &mut F) -> GroupOutcome
     requires callable { (lines : _) → F.pre call.old lines }
     requires room { length (rows_counted count rest.now) ≤ N }
     requires memory { N * type_size T.row < 2 ^ 63 }
@@ -44,7 +39,7 @@ fn answer_with_room<T: CountedLine, const N: usize, F: FnMut(&[T]) -> Result<(),
     ensures unread { counted kind count (rows_counted count rest.now) ≡ false → (result.answer ≡ Err Unreadable) × (call.new ≡ call.old) }
     ensures consumed { result.consumed ≡ bytes_of_lines count rest.now }
 {
-    let mut lines = [none; N];
+    let mut lines = [T::default(); N];
     let read = read_counted(rest, kind, count, &mut lines);
     let answer = if read.complete {
         of_call(call(&lines[..count as usize]))
@@ -58,11 +53,10 @@ fn answer_with_room<T: CountedLine, const N: usize, F: FnMut(&[T]) -> Result<(),
 }
 
 // The same in the small array or the large one.
-fn answer_counted<T: CountedLine, F: FnMut(&[T]) -> Result<(), Refusal>>(
+fn answer_counted<T: CountedLine + Default, F: FnMut(&[T]) -> Result<(), Refusal>>(
     rest: &[u8],
     kind: LineKind,
     count: u64,
-    none: T,
     call: &mut F,
 ) -> GroupOutcome
     requires callable { (lines : _) → F.pre call.old lines }
@@ -73,9 +67,9 @@ fn answer_counted<T: CountedLine, F: FnMut(&[T]) -> Result<(), Refusal>>(
     ensures consumed { result.consumed ≡ bytes_of_lines count rest.now }
 {
     if count <= FEW_LINES as u64 {
-        return answer_with_room::<T, FEW_LINES, F>(rest, kind, count, none, call);
+        return answer_with_room::<T, FEW_LINES, F>(rest, kind, count, call);
     }
-    answer_with_room::<T, MAX_LINES, F>(rest, kind, count, none, call)
+    answer_with_room::<T, MAX_LINES, F>(rest, kind, count, call)
 }
 
 // A load with its block lines.
@@ -92,25 +86,19 @@ pub fn run_load(
     ensures answer { PostingsAnswers o.now f.old m.old (head_group head rest.now) result.answer f.new m.new }
     ensures consumed { result.consumed ≡ head_bytes head rest.now }
 {
-    let n = head.fields;
-    let none = Block {
-        first: 0,
-        hours: 0,
-        kw: 0,
-    };
+    let [h, s, term, contract, n, count, ..] = head.fields;
     answer_counted(
         rest,
         LineKind::Block,
-        n[5],
-        none,
+        count,
         &mut |blocks| {
             let metered = Metered {
-                term: n[2],
-                contract: n[3],
-                n: n[4],
+                term,
+                contract,
+                n,
                 blocks,
             };
-            load(o, f, m, n[0], n[1], metered)
+            load(o, f, m, h, s, metered)
         },
     )
 }
@@ -123,19 +111,11 @@ pub fn run_migrate(o: &KeptOpening, f: &mut Figures, head: Row, rest: &[u8]) -> 
     ensures answer { FiguresAnswers o.now f.old (head_group head rest.now) result.answer f.new }
     ensures consumed { result.consumed ≡ head_bytes head rest.now }
 {
-    let n = head.fields;
-    let none = ClassLine {
-        from: 0,
-        to: 0,
-        class: 0,
-        customers: 0,
-        watts: 0,
-    };
+    let [term, sink, count, ..] = head.fields;
     answer_counted(
         rest,
         LineKind::Class,
-        n[2],
-        none,
-        &mut |lines| migrate_lines(o, f, n[0], n[1], lines),
+        count,
+        &mut |lines| migrate_lines(o, f, term, sink, lines),
     )
 }

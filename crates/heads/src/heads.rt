@@ -78,16 +78,16 @@ fn run_verify(o: &KeptOpening, f: &mut Figures, m: &mut Postings, head: Row) -> 
     ensures answer { (rest : List ℕ) → GroupAnswers o.now f.old m.old (head_group head rest) result.answer f.new m.new }
     ensures consumed { (rest : List ℕ) → result.consumed ≡ head_bytes head rest }
 {
-    let n = head.fields;
+    let [h, s, kind, capacity, right, first, last, mark, ..] = head.fields;
     let filing = Filing {
-        kind: n[2],
-        capacity: n[3],
-        right: n[4],
-        first: n[5],
-        last: n[6],
-        mark: n[7],
+        kind,
+        capacity,
+        right,
+        first,
+        last,
+        mark,
     };
-    of_call_line(verify(o, f, m, n[0], n[1], filing))
+    of_call_line(verify(o, f, m, h, s, filing))
 }
 
 // A head with the lines that stand after it. A line that is no head is unreadable by itself.
@@ -104,11 +104,7 @@ fn run_head(
     ensures consumed { result.consumed ≡ head_bytes head rest.now }
 {
     // The first numbers of the head's line, in their order.
-    let n = head.fields;
-    let a = n[0];
-    let b = n[1];
-    let c = n[2];
-    let d = n[3];
+    let [a, b, c, d, ..] = head.fields;
     match head.kind {
         LineKind::Load => run_load(o, f, m, head, rest),
         LineKind::Carry => of_call_line(carry(o, f, m, a, b, c)),

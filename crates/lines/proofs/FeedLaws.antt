@@ -1,19 +1,19 @@
 -- LFs counted, byte by byte and chunk by chunk, and how many lines they say there are. Assumes nothing.
-use Prim.Native.Nat.{ℕ, zero, suc, ◌+◌, ◌-◌, ◌≤◌, ◌<◌}
+use Prim.Native.Nat.{ℕ, zero, suc, ◌+◌, ◌-◌, ◌*◌, ◌/◌, ◌≤◌}
 use mathlib.Core.Path.{◌≡◌, refl, sym, ap, ap₂, ◌∙◌}
 use mathlib.Core.Bool.{Bool, true, false, cond, ◌||◌}
 use mathlib.Core.List.{List, [], ◌∷◌, ◌++◌}
 use native.Mathlib.Omega.{arith}
 use borrow.Author.Tests.{eq-eqb, ne_eqb}
-use lib.ListN.{length, get_or, take, drop, drop_of_length-le, take-append-drop}
+use lib.ListN.{length, get_or, take, drop, take-append-drop}
 use lib.Dec.{eqb}
+use Rattle.std.specs.List.{sum_by}
+use Rattle.std.proofs.lemmas.List.{drop-drop}
+use Rattle.std.specs.Simd.{first_chunks}
+use Rattle.std.proofs.lemmas.List.Sums.{sum_by-cons}
 use Rattle.lines.specs.Text.{line_feed, ended, unended, lines_of, to_first_line}
-use Rattle.lines.specs.Reading.{line_feeds_in}
-use Rattle.lines.proofs.TextLaws.{at_byte, lines_more}
-
--- of the first i bytes, n are LF
-abbrev pub Counted : List ℕ → ℕ → ℕ → Type 0
-Counted bytes i n = line_feeds_in bytes ≡ n + line_feeds_in (drop i bytes)
+use Rattle.lines.specs.Reading.{chunk_bytes, line_feeds_in}
+use Rattle.lines.proofs.TextLaws.{lines_more}
 
 feeds_append : (xs ys : List ℕ) → line_feeds_in (xs ++ ys) ≡ line_feeds_in xs + line_feeds_in ys
 unfolding line_feeds_in
@@ -34,24 +34,49 @@ feeds_few (b ∷ bytes) = go (eqb b line_feed) (feeds_few bytes)
     go true ih = omega arith
     go false ih = omega arith
 
--- a chunk and what stands after it
-pub chunk_apart : (rest chunk after : List ℕ) (n : ℕ) → chunk ≡ take n rest → after ≡ drop n rest → line_feeds_in rest ≡ line_feeds_in chunk + line_feeds_in after
-chunk_apart rest chunk after n front back = ap line_feeds_in (sym (take-append-drop n rest) ∙ ap₂ (λ xs ys. xs ++ ys) (sym front) (sym back)) ∙ feeds_append chunk after
+-- what a byte adds to the count
+abbrev pub one_if_feed : ℕ → ℕ
+one_if_feed b = cond (eqb b line_feed) 1 0
 
-module _ (bytes : List ℕ) (i n : ℕ) (counted : Counted bytes i n) where
-  here : (t : Bool) → i < length bytes → eqb (get_or bytes i 0) line_feed ≡ t → line_feeds_in (drop i bytes) ≡ cond t (suc (line_feeds_in (drop (i + 1) bytes))) (line_feeds_in (drop (i + 1) bytes))
-  unfolding line_feeds_in
-  here t l e = at_byte line_feeds_in bytes i l ∙ ap (λ t. cond t (suc (line_feeds_in (drop (i + 1) bytes))) (line_feeds_in (drop (i + 1) bytes))) e
+sum_of_feeds : (bytes : List ℕ) → sum_by one_if_feed bytes ≡ line_feeds_in bytes
+unfolding line_feeds_in
+sum_of_feeds [] = refl
+sum_of_feeds (b ∷ bytes) = sum_by-cons one_if_feed b bytes ∙ go (eqb b line_feed) (sum_of_feeds bytes)
+  where
+    go : (t : Bool) → sum_by one_if_feed bytes ≡ line_feeds_in bytes → cond t 1 0 + sum_by one_if_feed bytes ≡ cond t (suc (line_feeds_in bytes)) (line_feeds_in bytes)
+    go true ih = omega arith
+    go false ih = omega arith
 
-  pub feed_more : i < length bytes → get_or bytes i 0 ≡ line_feed → Counted bytes (i + 1) (n + 1)
-  feed_more l e = let more = here true l (eq-eqb _ _ e) in omega arith
+-- how the code has it
+pub feeds_summed : (feeds : ℕ) (bytes : List ℕ) → feeds ≡ sum_by one_if_feed bytes → feeds ≡ line_feeds_in bytes
+feeds_summed feeds bytes e = e ∙ sum_of_feeds bytes
 
-  pub other_byte : i < length bytes → (get_or bytes i 0 ≡ line_feed → ⊥) → Counted bytes (i + 1) n
-  other_byte l e = let same = here false l (ne_eqb _ _ e) in omega arith
+-- those of k chunks of n bytes, and of what stands after them
+feeds_in_chunks : (n k : ℕ) (bytes : List ℕ) → sum_by line_feeds_in (first_chunks n k bytes) + line_feeds_in (drop (k * n) bytes) ≡ line_feeds_in bytes
+feeds_in_chunks n zero bytes = let none : 0 * n ≡ 0 = omega arith in let same = ap (λ i. line_feeds_in (drop i bytes)) none in omega arith
+feeds_in_chunks n (suc k) bytes =
+    let chunk = sum_by-cons line_feeds_in (take n bytes) (first_chunks n k (drop n bytes)) in
+    let later = feeds_in_chunks n k (drop n bytes) in
+    let apart = feeds_append (take n bytes) (drop n bytes) in
+    let whole = ap line_feeds_in (take-append-drop n bytes) in
+    let place : n + k * n ≡ suc k * n = omega arith in
+    let left = ap line_feeds_in (drop-drop (k * n) n bytes ∙ ap (λ i. drop i bytes) place) in
+    omega arith
 
-  pub all_counted : length bytes ≤ i → n ≡ line_feeds_in bytes
-  unfolding line_feeds_in
-  all_counted l = let none_left = ap line_feeds_in (drop_of_length-le bytes l) in omega arith
+-- how the code has it: a is the sum of the chunks, b that of what stands after them
+module _ (bytes : List ℕ) (chunks : List (List ℕ)) (front : chunks ≡ first_chunks chunk_bytes (length bytes / chunk_bytes) bytes) where
+  parts : (rest : List ℕ) → rest ≡ drop (length bytes / chunk_bytes * chunk_bytes) bytes → sum_by line_feeds_in chunks + line_feeds_in rest ≡ line_feeds_in bytes
+  parts rest back = ap₂ (λ cs r. sum_by line_feeds_in cs + line_feeds_in r) front back ∙ feeds_in_chunks chunk_bytes (length bytes / chunk_bytes) bytes
+
+  pub chunks_few : sum_by line_feeds_in chunks ≤ length bytes
+  chunks_few = let all = parts _ refl in let few = feeds_few bytes in omega arith
+
+  module _ (rest : List ℕ) (a b : ℕ) (back : rest ≡ drop (length bytes / chunk_bytes * chunk_bytes) bytes) (p : a ≡ sum_by line_feeds_in chunks) (q : b ≡ line_feeds_in rest) where
+    pub parts_summed : a + b ≡ line_feeds_in bytes
+    parts_summed = let all = parts rest back in omega arith
+
+    pub parts_few : a + b ≤ length bytes
+    parts_few = let all = parts_summed in let few = feeds_few bytes in omega arith
 
 -- bytes are a line or more
 some_lines : (b : ℕ) (bytes : List ℕ) → (length (lines_of (b ∷ bytes)) ≡ 0) → ⊥

@@ -7,8 +7,8 @@ use mathlib.Core.Logic.{◌⊎◌, inl, inr, ⊎_elim}
 use native.Mathlib.Numerals.{add-one}
 use native.Mathlib.Omega.{arith}
 use borrow.Author.Tests.{le-leb, lt-leb, leb-true, ltb-true, ltb-false, eqb-true, eqb-false, ne_eqb}
-use lib.ListN.{length, get_or, take, drop, set, length-map, length-drop, drop_of_length-le, get_or-eq_default, get_or-append}
-use lib.Seq.{take_all, sets, sets-eq, length-sets, get_or-append-add, get_or-drop, drop-drop}
+use lib.ListN.{length, get_or, take, drop, set, length-map, length-drop, get_or-eq_default, get_or-append}
+use lib.Seq.{take_all, sets, sets-eq, length-sets, get_or-append-add, get_or-drop}
 use lib.Dec.{eqb, leb, ltb}
 use Rattle.tariff.specs.Sum.{tabulate, any_of}
 use Rattle.tariff.proofs.Lists.{length_tabulate, at_tabulate, list_is}
@@ -22,7 +22,7 @@ use Rattle.lines.specs.Reading.{bytes_before, leading, leading_digits, digits_at
 use Rattle.lines.proofs.TextLaws.{at_byte}
 use Rattle.lines.proofs.LineFields.{field_length, first_field, first_length, line_fields, feed_after, up_to_after}
 use Rattle.lines.proofs.LeadingLaws.{leading_field, field_leading, field_continues}
-use Rattle.lines.proofs.NumberLaws.{digit_inside, digits_more, number_fits, field_valid, field_invalid}
+use Rattle.lines.proofs.NumberLaws.{digit_inside, digits_more, number_fits, field_valid, field_invalid, digits_within}
 
 -- a part of a line up to its end
 pub rest_all : (text : List ℕ) (from : ℕ) → take (length text - from) (drop from text) ≡ drop from text
@@ -82,9 +82,9 @@ started readable fields end =
         ap (λ ns. fields_where true (length fields) ns end) (sym (stored (map value_of fields) (omega arith)))
     go false e = refl
 
-pub reading_starts : (start : ℕ) (bytes : List ℕ) → fields_read start bytes ≡ read_from 0 zeros start bytes
+pub reading_starts : (bytes : List ℕ) → fields_read bytes ≡ read_from 0 zeros 0 bytes
 unfolding fields_read read_from
-reading_starts start bytes = started (field_ends bytes && has_line_feed bytes) (fields_after (line_text bytes)) (start + bytes_before line_feed bytes)
+reading_starts bytes = let here : bytes_before line_feed bytes ≡ 0 + bytes_before line_feed bytes = omega arith in started (field_ends bytes && has_line_feed bytes) (fields_after (line_text bytes)) (bytes_before line_feed bytes) ∙ ap (rest_if (field_ends bytes && has_line_feed bytes) 0 zeros (fields_after (line_text bytes))) here
 
 refused : (t : Bool) (count : ℕ) (numbers : List ℕ) (end : ℕ) → t ≡ false → fields_where t count numbers end ≡ None
 unfolding fields_where
@@ -166,53 +166,68 @@ module _ (count : ℕ) (numbers : List ℕ) (at : ℕ) (bytes : List ℕ) where
           ∙ ap₂ (λ t n. rest_if t (count + 1) (set numbers count (value_of digits)) (fields_after (line_text (drop (length digits) bytes))) n) (feed_after bytes ∙ ap (λ n. has_line_feed (drop n bytes)) width ∙ sym (ap (λ t. t && has_line_feed (drop (length digits) bytes)) q)) place
       go false q = at-comma ∙ field-refused _ count numbers _ _ _ (number-ends q) ∙ sym (rest_refused _ _ _ _ _ (and_left_false _ q))
 
--- a byte that is not 0 stands inside the bytes
-pub byte_inside : (rest : List ℕ) (at b : ℕ) → 0 < b → get_or rest at 0 ≡ b → at < length rest
-byte_inside rest at b some e = go (decided (ltb at (length rest)))
-  where
-    go : (ltb at (length rest) ≡ true) ⊎ (ltb at (length rest) ≡ false) → at < length rest
-    go (inl t) = ltb-true at (length rest) t
-    go (inr t) =
-        let none : get_or rest at 0 ≡ 0 = get_or-eq_default rest 0 {n = at} (ltb-false at (length rest) t) in
-        absurd (let z : ⊥ = omega (arith, e) in z)
+nothing : (left : List ℕ) → length left < 1 → left ≡ []
+nothing [] l = refl
+nothing (b ∷ left) l = absurd (let z : ⊥ = omega arith in z)
 
 -- a turn of the reading: from one comma of a line to the next
-module _ (rest : List ℕ) (start at count : ℕ) (numbers : List ℕ) (passed : fields_read start (drop start rest) ≡ read_from count numbers at (drop at rest)) where
-  here : (b : ℕ) → at < length rest → get_or rest at 0 ≡ b → fields_read start (drop start rest) ≡ read_from count numbers at (b ∷ drop (at + 1) rest)
-  here b l e = passed ∙ at_byte (read_from count numbers at) rest at l ∙ ap (λ b. read_from count numbers at (b ∷ drop (at + 1) rest)) e
+module _ (rest left : List ℕ) (count : ℕ) (numbers : List ℕ) (within : length left ≤ length rest) (passed : fields_read rest ≡ read_from count numbers (length rest - length left) left) where
+  at : ℕ
+  at = length rest - length left
 
-  pub line_ends : at < length rest → get_or rest at 0 ≡ line_feed → count ≤ max_fields → Some (record { count = count; numbers = numbers; end = at }) ≡ fields_read start (drop start rest)
-  unfolding read_from field_ends has_line_feed any_of line_text bytes_before fields_after
+  here : (b : ℕ) → 1 ≤ length left → get_or left 0 0 ≡ b → fields_read rest ≡ read_from count numbers at (b ∷ drop 1 left)
+  unfolding at
+  here b l e = passed ∙ at_byte (read_from count numbers at) left 0 l ∙ ap (λ b. read_from count numbers at (b ∷ drop 1 left)) e
+
+  pub line_ends : 1 ≤ length left → get_or left 0 0 ≡ line_feed → count ≤ max_fields → Some (record { count = count; numbers = numbers; end = length rest - length left }) ≡ fields_read rest
+  unfolding read_from field_ends has_line_feed any_of line_text bytes_before fields_after at
   line_ends l e few = sym (here line_feed l e ∙ reading_ends count numbers at few)
 
-  stops-at-byte : at < length rest → (get_or rest at 0 ≡ line_feed → ⊥) → (get_or rest at 0 ≡ comma → ⊥) → None ≡ fields_read start (drop start rest)
+  pub stops_at_end : length left < 1 → None ≡ fields_read rest
+  unfolding read_from has_line_feed any_of at
+  stops_at_end l = sym (passed ∙ ap (read_from count numbers at) (nothing left l) ∙ rest_refused _ count numbers _ _ (and_right_false (field_ends []) refl))
+
+  stops-at-other : 1 ≤ length left → (get_or left 0 0 ≡ line_feed → ⊥) → (get_or left 0 0 ≡ comma → ⊥) → None ≡ fields_read rest
   unfolding read_from field_ends
-  stops-at-byte l p q =
-      let b = get_or rest at 0 in
+  stops-at-other l p q =
+      let b = get_or left 0 0 in
       let other : (eqb b comma || eqb b line_feed) ≡ false = rw (ne_eqb b comma q, ne_eqb b line_feed p) in
       sym (here b l refl ∙ rest_refused _ count numbers _ _ (and_left_false _ other))
 
-  stops-at-end : length rest ≤ at → None ≡ fields_read start (drop start rest)
-  unfolding read_from has_line_feed any_of
-  stops-at-end l = sym (passed ∙ ap (read_from count numbers at) (drop_of_length-le rest l) ∙ rest_refused _ count numbers _ _ (and_right_false (field_ends []) refl))
-
-  -- fields end at a byte that is no LF: another one than a comma, none at all, or a comma after as many as a row has room for
-  pub stops : (get_or rest at 0 ≡ line_feed → ⊥) → (get_or rest at 0 ≡ comma → max_fields ≤ count) → count ≤ max_fields → None ≡ fields_read start (drop start rest)
-  stops open-still full few = ⊎_elim (λ t. inside (ltb-true at (length rest) t) (eqb (get_or rest at 0) comma) refl) (λ t. stops-at-end (ltb-false at (length rest) t)) (decided (ltb at (length rest)))
+  -- fields end at a byte that is no LF: another one than a comma, or a comma after as many as a row has room for
+  pub stops_at_byte : 1 ≤ length left → (get_or left 0 0 ≡ line_feed → ⊥) → (get_or left 0 0 ≡ comma → max_fields ≤ count) → count ≤ max_fields → None ≡ fields_read rest
+  stops_at_byte l open-still full few = go (eqb (get_or left 0 0) comma) refl
     where
-      inside : at < length rest → (b : Bool) → eqb (get_or rest at 0) comma ≡ b → None ≡ fields_read start (drop start rest)
-      inside l true e = let past = full (eqb-true (get_or rest at 0) comma e) in sym (here comma l (eqb-true (get_or rest at 0) comma e) ∙ comma-too-many count numbers at _ (omega arith))
-      inside l false e = stops-at-byte l open-still (eqb-false (get_or rest at 0) comma e)
+      go : (b : Bool) → eqb (get_or left 0 0) comma ≡ b → None ≡ fields_read rest
+      go true e = let past = full (eqb-true (get_or left 0 0) comma e) in sym (here comma l (eqb-true (get_or left 0 0) comma e) ∙ comma-too-many count numbers at _ (omega arith))
+      go false e = stops-at-other l open-still (eqb-false (get_or left 0 0) comma e)
 
-  module _ (l : at < length rest) (e : get_or rest at 0 ≡ comma) where
-    pub stops_at_none : None ≡ field_at (at + 1) (drop (at + 1) rest) → None ≡ fields_read start (drop start rest)
-    stops_at_none read = sym (here comma l e ∙ comma-no-number count numbers at _ (field_invalid _ _ read))
+  -- at a comma, and what stands after it
+  module _ (l : 1 ≤ length left) (e : get_or left 0 0 ≡ comma) (after : List ℕ) (part : after ≡ drop 1 left) where
+    at-after : fields_read rest ≡ read_from count numbers at (comma ∷ after)
+    at-after = here comma l e ∙ ap (λ bytes. read_from count numbers at (comma ∷ bytes)) (sym part)
 
-    pub continues : (f : Token) → Some f ≡ field_at (at + 1) (drop (at + 1) rest) → fields_read start (drop start rest) ≡ read_from (count + 1) (set numbers count f.value) f.end (drop f.end rest)
-    unfolding digits_at
-    continues f read =
-        let number = field_valid _ _ f read in
-        here comma l e
-        ∙ comma-number count numbers at (drop (at + 1) rest) number.0
-        ∙ ap (read_from (count + 1) (set numbers count (value_of (leading_digits (drop (at + 1) rest)))) (at + 1 + length (leading_digits (drop (at + 1) rest)))) (drop-drop _ (at + 1) rest)
-        ∙ ap (λ d. read_from (count + 1) (set numbers count d.value) d.end (drop d.end rest)) (sym number.1)
+    pub stops_at_none : None ≡ field_at after → None ≡ fields_read rest
+    stops_at_none read = sym (at-after ∙ comma-no-number count numbers at after (field_invalid after read))
+
+    -- a field is read, and what stands after its digits is left
+    module _ (f : Token) (read : Some f ≡ field_at after) (next : List ℕ) (follows : next ≡ drop f.end after) where
+      pub next_within : (f.end ≤ length after) × (length next ≤ length rest)
+      next_within =
+          let inside = digits_within after f (field_valid after f read).1 in
+          let size = ap length follows ∙ length-drop f.end after in
+          let part_size = ap length part ∙ length-drop 1 left in
+          (inside, omega arith)
+
+      pub continues : fields_read rest ≡ read_from (count + 1) (set numbers count f.value) (length rest - length next) next
+      unfolding digits_at at
+      continues =
+          let number = field_valid after f read in
+          let inside = digits_within after f number.1 in
+          let size = ap length follows ∙ length-drop f.end after in
+          let part_size = ap length part ∙ length-drop 1 left in
+          let place : at + 1 + f.end ≡ length rest - length next = omega arith in
+          at-after
+          ∙ comma-number count numbers at after number.0
+          ∙ ap (λ d. read_from (count + 1) (set numbers count d.value) (at + 1 + d.end) (drop d.end after)) (sym number.1)
+          ∙ ap₂ (λ n bytes. read_from (count + 1) (set numbers count f.value) n bytes) place (sym follows)

@@ -1,38 +1,25 @@
 -- Laws of the bytes at the start that pass a test: read one after another, and read out of a field. Assumes nothing.
-use Prim.Native.Nat.{ℕ, zero, suc, ◌+◌, ◌-◌, ◌≤◌, ◌<◌}
+use Prim.Native.Nat.{ℕ, zero, suc, ◌+◌, ◌-◌, ◌≤◌, ◌<◌, min}
 use mathlib.Core.Path.{◌≡◌, refl, sym, ap, ap₂, ◌∙◌}
 use mathlib.Core.Bool.{Bool, true, false, cond, ◌&&◌, ◌||◌}
 use mathlib.Core.List.{List, [], ◌∷◌}
 use mathlib.Core.Logic.{◌⊎◌, inl, inr}
+use native.Mathlib.Nat.{zero-add}
 use native.Mathlib.Omega.{arith}
-use borrow.Author.Tests.{leb-true, le-leb}
+use borrow.Author.Tests.{leb-true, leb-false, le-leb}
 use lib.ListN.{length, get_or, take, drop, drop_of_length-le}
-use lib.Seq.{get_or-drop, length-take-le}
-use lib.Dec.{eqb, leb, ltb}
-use Rattle.std.proofs.lemmas.List.{get_or-take}
+use lib.Seq.{length-take-le}
+use lib.Dec.{eqb, leb}
 use Rattle.tariff.proofs.Tests.{decided, both_ways, and_both, and_join}
 use Rattle.lines.specs.declared.text.Token.{Token}
 use Rattle.lines.specs.Text.{line_feed, comma}
-use Rattle.lines.specs.Reading.{reading_limit, leading, field_ends}
+use Rattle.lines.specs.Reading.{leading, field_ends}
 use Rattle.lines.proofs.TextLaws.{at_byte}
 use Rattle.lines.proofs.LineFields.{field_length, first_field, first_length, field_ended}
-
-module _ (length from most : ℕ) (l : from ≤ length) where
-  limit-met : (i : ℕ) → reading_limit length from most ≤ i → (length ≤ i) ⊎ (from + most ≤ i)
-  unfolding reading_limit
-  limit-met i = go (ltb most (length - from))
-    where
-      go : (t : Bool) → cond t (from + most) length ≤ i → (length ≤ i) ⊎ (from + most ≤ i)
-      go true p = inr p
-      go false p = inl p
 
 -- a byte of a part stands before the part's end
 pub below_limit : (bytes : List ℕ) (limit i : ℕ) → limit ≤ length bytes → i < length (take limit bytes) → i < limit
 below_limit bytes limit i within there = let long = length-take-le limit bytes within in omega arith
-
--- and is the whole's, by its place there
-pub byte_of_part : (bytes : List ℕ) (from n i : ℕ) → i < n → get_or (take n (drop from bytes)) i 0 ≡ get_or bytes (from + i) 0
-byte_of_part bytes from n i l = get_or-take n (drop from bytes) i 0 l ∙ get_or-drop from bytes i 0
 
 none_leading : (test : ℕ → Bool) (bytes : List ℕ) → leading test 0 bytes ≡ []
 unfolding leading
@@ -80,32 +67,30 @@ leading_first test (suc most) (b ∷ bytes) l = go (test b) l
     go true l = refl
     go false l = absurd (let z : ⊥ = omega arith in z)
 
--- at most so many are read from a place on, and the reading is at i
-module _ (test : ℕ → Bool) (bytes : List ℕ) (from most i : ℕ) where
-  leading-starts : from ≡ i → leading test (from + most - i) (drop i bytes) ≡ leading test most (drop from bytes)
-  leading-starts e = let all : from + most - i ≡ most = omega arith in ap₂ (λ n k. leading test n (drop k bytes)) all (sym e)
-
-  next : (t : Bool) → test (get_or bytes i 0) ≡ t → i < length bytes → i < from + most → leading test (from + most - i) (drop i bytes) ≡ cond t (get_or bytes i 0 ∷ leading test (from + most - (i + 1)) (drop (i + 1) bytes)) []
+-- at most so many are read, and the reading is at i
+module _ (test : ℕ → Bool) (bytes : List ℕ) (most i : ℕ) where
+  next : (t : Bool) → test (get_or bytes i 0) ≡ t → i < length bytes → i < most → leading test (most - i) (drop i bytes) ≡ cond t (get_or bytes i 0 ∷ leading test (most - (i + 1)) (drop (i + 1) bytes)) []
   unfolding leading
   next t e l m =
-      let one : from + most - i ≡ suc (from + most - (i + 1)) = omega arith in
+      let one : most - i ≡ suc (most - (i + 1)) = omega arith in
       ap (λ n. leading test n (drop i bytes)) one
-      ∙ at_byte (leading test (suc (from + most - (i + 1)))) bytes i l
-      ∙ ap (λ t. cond t (get_or bytes i 0 ∷ leading test (from + most - (i + 1)) (drop (i + 1) bytes)) []) e
+      ∙ at_byte (leading test (suc (most - (i + 1)))) bytes i l
+      ∙ ap (λ t. cond t (get_or bytes i 0 ∷ leading test (most - (i + 1)) (drop (i + 1) bytes)) []) e
 
-  leading-more : test (get_or bytes i 0) ≡ true → i < length bytes → i < from + most → leading test (from + most - i) (drop i bytes) ≡ get_or bytes i 0 ∷ leading test (from + most - (i + 1)) (drop (i + 1) bytes)
+  leading-more : test (get_or bytes i 0) ≡ true → i < length bytes → i < most → leading test (most - i) (drop i bytes) ≡ get_or bytes i 0 ∷ leading test (most - (i + 1)) (drop (i + 1) bytes)
   leading-more e l m = next true e l m
 
-  leading-stops : test (get_or bytes i 0) ≡ false → i < length bytes → i < from + most → leading test (from + most - i) (drop i bytes) ≡ []
+  leading-stops : test (get_or bytes i 0) ≡ false → i < length bytes → i < most → leading test (most - i) (drop i bytes) ≡ []
   leading-stops e l m = next false e l m
 
-  leading-ends : from ≤ length bytes → reading_limit (length bytes) from most ≤ i → leading test (from + most - i) (drop i bytes) ≡ []
+  -- so many are passed, or the bytes are
+  leading-ends : min (length bytes) most ≤ i → leading test (most - i) (drop i bytes) ≡ []
   unfolding leading
-  leading-ends l p = go (limit-met (length bytes) from most l i p)
+  leading-ends l = go (decided (leb (length bytes) i))
     where
-      go : (length bytes ≤ i) ⊎ (from + most ≤ i) → leading test (from + most - i) (drop i bytes) ≡ []
-      go (inl q) = ap (leading test (from + most - i)) (drop_of_length-le bytes q)
-      go (inr q) = let none : from + most - i ≡ 0 = omega arith in ap (λ n. leading test n (drop i bytes)) none ∙ none_leading test (drop i bytes)
+      go : (leb (length bytes) i ≡ true) ⊎ (leb (length bytes) i ≡ false) → leading test (most - i) (drop i bytes) ≡ []
+      go (inl all) = ap (leading test (most - i)) (drop_of_length-le bytes (leb-true (length bytes) i all))
+      go (inr part) = let more = leb-false (length bytes) i part in let none : most - i ≡ 0 = omega arith in ap (λ n. leading test n (drop i bytes)) none ∙ none_leading test (drop i bytes)
 
 -- bytes of the test as a number, that of those before them being given
 module _ (test : ℕ → Bool) (most : ℕ) (after : ℕ → List ℕ → ℕ) (step : ℕ → ℕ → ℕ) (after_none : (v : ℕ) → after v [] ≡ v) (After-more : (v b : ℕ) (bytes : List ℕ) → after v (b ∷ bytes) ≡ after (step v b) bytes) where
@@ -113,32 +98,42 @@ module _ (test : ℕ → Bool) (most : ℕ) (after : ℕ → List ℕ → ℕ) (
   unfoldable pub token_from : ℕ → ℕ → List ℕ → Token
   token_from v at bytes = record { value = after v bytes; end = at + length bytes }
 
-  -- those from a place up to i are read, of value v
-  abbrev pub ReadTo : List ℕ → ℕ → ℕ → ℕ → Type 0
-  ReadTo bytes from i v = token_from 0 from (leading test most (drop from bytes)) ≡ token_from v i (leading test (from + most - i) (drop i bytes))
+  -- those up to i are read, of value v
+  abbrev pub ReadTo : List ℕ → ℕ → ℕ → Type 0
+  ReadTo bytes i v = token_from 0 0 (leading test most bytes) ≡ token_from v i (leading test (most - i) (drop i bytes))
 
-  pub none_read : (bytes : List ℕ) (from : ℕ) → ReadTo bytes from from 0
-  none_read bytes from = sym (ap (token_from 0 from) (leading-starts test bytes from most from refl))
+  pub none_read : (bytes : List ℕ) → ReadTo bytes 0 0
+  none_read bytes = let all : most - 0 ≡ most = omega arith in sym (ap (λ n. token_from 0 0 (leading test n bytes)) all)
 
-  module _ (bytes : List ℕ) (from i v : ℕ) (so_far : ReadTo bytes from i v) where
-    pub one_more : test (get_or bytes i 0) ≡ true → i < length bytes → i < from + most → ReadTo bytes from (i + 1) (step v (get_or bytes i 0))
+  -- all that is read of them
+  abbrev pub all_read : List ℕ → Token
+  all_read bytes = record { value = after 0 (leading test most bytes); end = length (leading test most bytes) }
+
+  from_start : (bytes : List ℕ) → token_from 0 0 (leading test most bytes) ≡ all_read bytes
+  unfolding token_from
+  from_start bytes = let read = leading test most bytes in ap (λ n. record { value = after 0 read; end = n }) (zero-add (length read))
+
+  module _ (bytes : List ℕ) (i v : ℕ) (so_far : ReadTo bytes i v) where
+    pub one_more : test (get_or bytes i 0) ≡ true → i < length bytes → i < most → ReadTo bytes (i + 1) (step v (get_or bytes i 0))
     unfolding token_from
     one_more e l m =
-        let later = leading test (from + most - (i + 1)) (drop (i + 1) bytes) in
+        let later = leading test (most - (i + 1)) (drop (i + 1) bytes) in
         let more : i + suc (length later) ≡ i + 1 + length later = omega arith in
         so_far
-        ∙ ap (token_from v i) (leading-more test bytes from most i e l m)
+        ∙ ap (token_from v i) (leading-more test bytes most i e l m)
         ∙ ap₂ (λ x n. record { value = x; end = n }) (After-more v (get_or bytes i 0) later) more
 
-    stops : leading test (from + most - i) (drop i bytes) ≡ [] → record { value = v; end = i } ≡ token_from 0 from (leading test most (drop from bytes))
+    stops : leading test (most - i) (drop i bytes) ≡ [] → record { value = v; end = i } ≡ all_read bytes
     unfolding token_from
-    stops e = let none : i + 0 ≡ i = omega arith in sym (so_far ∙ ap (token_from v i) e ∙ ap₂ (λ x n. record { value = x; end = n }) (after_none v) none)
+    stops e =
+        let none : i + 0 ≡ i = omega arith in
+        sym (so_far ∙ ap (token_from v i) e ∙ ap₂ (λ x n. record { value = x; end = n }) (after_none v) none) ∙ from_start bytes
 
-    pub stops_at_other : test (get_or bytes i 0) ≡ false → i < length bytes → i < from + most → record { value = v; end = i } ≡ token_from 0 from (leading test most (drop from bytes))
-    stops_at_other e l m = stops (leading-stops test bytes from most i e l m)
+    pub stops_at_other : test (get_or bytes i 0) ≡ false → i < length bytes → i < most → record { value = v; end = i } ≡ all_read bytes
+    stops_at_other e l m = stops (leading-stops test bytes most i e l m)
 
-    pub stops_at_limit : from ≤ length bytes → reading_limit (length bytes) from most ≤ i → record { value = v; end = i } ≡ token_from 0 from (leading test most (drop from bytes))
-    stops_at_limit l p = stops (leading-ends test bytes from most i l p)
+    pub stops_at_limit : min (length bytes) most ≤ i → record { value = v; end = i } ≡ all_read bytes
+    stops_at_limit l = stops (leading-ends test bytes most i l)
 
 -- whether all bytes of a list pass the test
 module _ (test : ℕ → Bool) (all : List ℕ → Bool) (All-none : all [] ≡ true) (All-more : (b : ℕ) (bytes : List ℕ) → all (b ∷ bytes) ≡ (test b && all bytes)) where

@@ -1,23 +1,23 @@
 -- Laws of the numbers that fields write: what is a digit, how large a value of digits gets, and which fields are numbers. Assumes nothing.
-use Prim.Native.Nat.{ℕ, ◌+◌, ◌-◌, ◌*◌, ◌^◌, ◌≤◌, ◌<◌}
+use Prim.Native.Nat.{ℕ, ◌+◌, ◌-◌, ◌*◌, ◌^◌, ◌≤◌, ◌<◌, min}
 use mathlib.Core.Path.{◌≡◌, refl, sym, ap, ◌∙◌, subst}
 use mathlib.Core.Bool.{Bool, true, false, cond, not, ◌&&◌, ◌||◌, or-true}
 use mathlib.Core.List.{List, [], ◌∷◌}
 use mathlib.Core.Logic.{◌⊎◌, inl, inr}
-use native.Mathlib.Nat.{add-zero, pow-suc}
+use native.Mathlib.Nat.{pow-suc}
 use native.Mathlib.Numerals.{add-one}
 use native.Mathlib.Omega.{arith}
 use borrow.Author.Tests.{le-leb, lt-leb, leb-true, eq-eqb, ne_eqb}
-use lib.ListN.{length, get_or, drop, length-drop}
-use lib.Seq.{get_or-drop, take_all}
+use lib.ListN.{length, get_or}
+use lib.Seq.{take_all}
 use lib.Dec.{eqb, leb}
 use Rattle.tariff.specs.Ranges.{within}
 use Rattle.tariff.proofs.Tests.{decided, both_ways, and_both, and_join, and_left_false, and_right_false}
 use Rattle.lines.specs.declared.text.Token.{Token}
 use Rattle.std.specs.Prelude.{Some, None}
 use Rattle.lines.specs.Text.{line_feed, comma, is_digit, all_digits, max_digits, is_number, value_after, value_of}
-use Rattle.lines.specs.Reading.{reading_limit, leading, leading_digits, digits_at, field_at, numeral}
-use Rattle.lines.proofs.LeadingLaws.{leading_few, leading_within, leading_take, leading_first, leading_all, all_leading, token_from, ReadTo, none_read, one_more, stops_at_other, stops_at_limit}
+use Rattle.lines.specs.Reading.{leading, leading_digits, digits_at, field_at, numeral}
+use Rattle.lines.proofs.LeadingLaws.{leading_few, leading_within, leading_take, leading_first, leading_all, all_leading, ReadTo, none_read, one_more, stops_at_other, stops_at_limit}
 
 pub in_range : (low high x : ℕ) → low ≤ x → x ≤ high → within low high x ≡ true
 unfolding within
@@ -73,44 +73,44 @@ value_more : (v b : ℕ) (bytes : List ℕ) → value_after v (b ∷ bytes) ≡ 
 unfolding value_after step
 value_more v b bytes = refl
 
--- the digits from a place up to i are read, of value v
-pub DigitsTo : List ℕ → ℕ → ℕ → ℕ → Type 0
+-- i digits are read, of value v
+pub DigitsTo : List ℕ → ℕ → ℕ → Type 0
 DigitsTo = ReadTo is_digit max_digits value_after step value_none value_more
 
-pub no_digits_yet : (bytes : List ℕ) (from : ℕ) → DigitsTo bytes from from 0
+pub no_digits_yet : (bytes : List ℕ) → DigitsTo bytes 0 0
 unfolding DigitsTo
 no_digits_yet = none_read is_digit max_digits value_after step value_none value_more
 
-module _ (bytes : List ℕ) (from i v : ℕ) (so_far : DigitsTo bytes from i v) where
-  pub digit_more : is_digit (get_or bytes i 0) ≡ true → i < length bytes → i < from + max_digits → DigitsTo bytes from (i + 1) (v * 10 + (get_or bytes i 0 - 48))
+module _ (bytes : List ℕ) (i v : ℕ) (so_far : DigitsTo bytes i v) where
+  pub digit_more : is_digit (get_or bytes i 0) ≡ true → i < length bytes → i < max_digits → DigitsTo bytes (i + 1) (v * 10 + (get_or bytes i 0 - 48))
   unfolding DigitsTo step
-  digit_more = one_more is_digit max_digits value_after step value_none value_more bytes from i v so_far
+  digit_more = one_more is_digit max_digits value_after step value_none value_more bytes i v so_far
 
-  pub digits_stop : is_digit (get_or bytes i 0) ≡ false → i < length bytes → i < from + max_digits → record { value = v; end = i } ≡ digits_at from (drop from bytes)
-  unfolding DigitsTo digits_at leading_digits value_of token_from
-  digits_stop = stops_at_other is_digit max_digits value_after step value_none value_more bytes from i v so_far
+  pub digits_stop : is_digit (get_or bytes i 0) ≡ false → i < length bytes → i < max_digits → record { value = v; end = i } ≡ digits_at bytes
+  unfolding DigitsTo digits_at leading_digits value_of
+  digits_stop = stops_at_other is_digit max_digits value_after step value_none value_more bytes i v so_far
 
-  pub digits_end : from ≤ length bytes → reading_limit (length bytes) from max_digits ≤ i → record { value = v; end = i } ≡ digits_at from (drop from bytes)
-  unfolding DigitsTo digits_at leading_digits value_of token_from
-  digits_end = stops_at_limit is_digit max_digits value_after step value_none value_more bytes from i v so_far
+  pub digits_end : min (length bytes) max_digits ≤ i → record { value = v; end = i } ≡ digits_at bytes
+  unfolding DigitsTo digits_at leading_digits value_of
+  digits_end = stops_at_limit is_digit max_digits value_after step value_none value_more bytes i v so_far
 
--- the number that digits at a place are
-module _ (from : ℕ) (bytes : List ℕ) (digits : Token) (read : digits ≡ digits_at from bytes) where
-  digits-length : digits.end ≡ from + length (leading_digits bytes)
+-- the number that digits are
+module _ (bytes : List ℕ) (digits : Token) (read : digits ≡ digits_at bytes) where
+  digits-length : digits.end ≡ length (leading_digits bytes)
   unfolding digits_at
   digits-length = ap (λ d. d.end) read
 
-  refused : is_number (leading_digits bytes) ≡ false → None ≡ field_at from bytes
+  refused : is_number (leading_digits bytes) ≡ false → None ≡ field_at bytes
   unfolding field_at
-  refused e = sym (ap (λ t. cond t (Some (digits_at from bytes)) None) e)
+  refused e = sym (ap (λ t. cond t (Some (digits_at bytes)) None) e)
 
-  pub no_digit : digits.end - from ≡ 0 → None ≡ field_at from bytes
+  pub no_digit : digits.end ≡ 0 → None ≡ field_at bytes
   unfolding is_number
   no_digit e =
       let long = digits-length in
       refused (and_left_false _ (and_left_false (all_digits (leading_digits bytes)) (below_range 1 max_digits (length (leading_digits bytes)) (omega arith))))
 
-  pub zero_leads : 1 < digits.end - from → get_or bytes 0 0 ≡ 48 → None ≡ field_at from bytes
+  pub zero_leads : 1 < digits.end → get_or bytes 0 0 ≡ 48 → None ≡ field_at bytes
   unfolding is_number leading_digits
   zero_leads l e =
       let field = leading is_digit max_digits bytes in
@@ -119,7 +119,7 @@ module _ (from : ℕ) (bytes : List ℕ) (digits : Token) (read : digits ≡ dig
       let leads : (eqb (length field) 1 || not (eqb (get_or field 0 0) 48)) ≡ false = rw (ne_eqb (length field) 1 (λ q. omega (arith, q)), eq-eqb (get_or field 0 0) 48 first) in
       refused (and_right_false (within 1 max_digits (length field) && all_digits field) leads)
 
-  number_read : (digits.end - from ≡ 0 → ⊥) → (eqb (length (leading_digits bytes)) 1 || not (eqb (get_or (leading_digits bytes) 0 0) 48)) ≡ true → Some digits ≡ field_at from bytes
+  number_read : (digits.end ≡ 0 → ⊥) → (eqb (length (leading_digits bytes)) 1 || not (eqb (get_or (leading_digits bytes) 0 0) 48)) ≡ true → Some digits ≡ field_at bytes
   unfolding field_at is_number leading_digits
   number_read some leads =
       let field = leading is_digit max_digits bytes in
@@ -127,51 +127,40 @@ module _ (from : ℕ) (bytes : List ℕ) (digits : Token) (read : digits ≡ dig
       let few = leading_few is_digit max_digits bytes in
       let size : within 1 max_digits (length field) ≡ true = in_range 1 max_digits (length field) (omega arith) few in
       let number = and_join (and_join size (leading_all is_digit all_digits digits_none digits_more max_digits bytes)) leads in
-      ap Some read ∙ sym (ap (λ t. cond t (Some (digits_at from bytes)) None) number)
+      ap Some read ∙ sym (ap (λ t. cond t (Some (digits_at bytes)) None) number)
 
-  pub one_digit_read : (digits.end - from ≡ 0 → ⊥) → digits.end - from ≤ 1 → Some digits ≡ field_at from bytes
+  pub one_digit_read : (digits.end ≡ 0 → ⊥) → digits.end ≤ 1 → Some digits ≡ field_at bytes
   one_digit_read some l =
       let long = digits-length in
       let few : length (leading_digits bytes) ≤ 1 = omega arith in
-      number_read some (one_digit (leading_digits bytes) (at_least some) few)
-    where
-      at_least : (digits.end - from ≡ 0 → ⊥) → 1 ≤ length (leading_digits bytes)
-      at_least some = let long = digits-length in omega (arith, some)
+      number_read some (one_digit (leading_digits bytes) (omega (arith, some)) few)
 
-  pub other_first_read : (digits.end - from ≡ 0 → ⊥) → (get_or bytes 0 0 ≡ 48 → ⊥) → Some digits ≡ field_at from bytes
+  pub other_first_read : (digits.end ≡ 0 → ⊥) → (get_or bytes 0 0 ≡ 48 → ⊥) → Some digits ≡ field_at bytes
   unfolding leading_digits
   other_first_read some other =
       let long = digits-length in
       number_read some (no_zero_leads (leading is_digit max_digits bytes) (λ e. other (sym (leading_first is_digit max_digits bytes (omega (arith, some))) ∙ e)))
 
--- the first byte from a place on
-pub first_at : (bytes : List ℕ) (from : ℕ) → get_or (drop from bytes) 0 0 ≡ get_or bytes from 0
-first_at bytes from = get_or-drop from bytes 0 0 ∙ ap (λ n. get_or bytes n 0) (add-zero from)
+  -- they end within the bytes
+  pub digits_within : digits.end ≤ length bytes
+  unfolding leading_digits
+  digits_within = let long = digits-length in let part = leading_within is_digit max_digits bytes in omega arith
 
--- digits at a place end within the bytes
-pub digits_within : (bytes : List ℕ) (from : ℕ) (digits : Token) → digits ≡ digits_at from (drop from bytes) → from ≤ length bytes → (from ≤ digits.end) × (digits.end ≤ length bytes)
-unfolding leading_digits
-digits_within bytes from digits read l =
-    let long = digits-length from (drop from bytes) digits read in
-    let part = leading_within is_digit max_digits (drop from bytes) in
-    let left = length-drop from bytes in
-    (omega arith, omega arith)
-
--- what is found at a place says whether its digits are a number, and which
-module _ (from : ℕ) (bytes : List ℕ) where
-  pub field_invalid : None ≡ field_at from bytes → is_number (leading_digits bytes) ≡ false
+-- what is found says whether its digits are a number, and which
+module _ (bytes : List ℕ) where
+  pub field_invalid : None ≡ field_at bytes → is_number (leading_digits bytes) ≡ false
   unfolding field_at
   field_invalid read = go (is_number (leading_digits bytes)) read
     where
-      go : (t : Bool) → None ≡ cond t (Some (digits_at from bytes)) None → t ≡ false
+      go : (t : Bool) → None ≡ cond t (Some (digits_at bytes)) None → t ≡ false
       go true e = cc
       go false e = refl
 
-  pub field_valid : (f : Token) → Some f ≡ field_at from bytes → (is_number (leading_digits bytes) ≡ true) × (f ≡ digits_at from bytes)
+  pub field_valid : (f : Token) → Some f ≡ field_at bytes → (is_number (leading_digits bytes) ≡ true) × (f ≡ digits_at bytes)
   unfolding field_at
   field_valid f read = go (is_number (leading_digits bytes)) read
     where
-      go : (t : Bool) → Some f ≡ cond t (Some (digits_at from bytes)) None → (t ≡ true) × (f ≡ digits_at from bytes)
+      go : (t : Bool) → Some f ≡ cond t (Some (digits_at bytes)) None → (t ≡ true) × (f ≡ digits_at bytes)
       go true e = (refl, cc)
       go false e = let z : ⊥ = cc in absurd z
 
@@ -190,17 +179,17 @@ module _ (bytes : List ℕ) where
   unfolding leading_digits
   all_digits_lem is = let both = and_both (leb (length bytes) max_digits) (all_digits bytes) (number_fits bytes is) in all_leading is_digit all_digits digits_none digits_more max_digits bytes (leb-true (length bytes) max_digits both.0) both.1
 
-  pub numeral_none : None ≡ field_at 0 bytes → None ≡ numeral bytes
-  numeral_none read = none (λ is. both_ways (ap is_number (all_digits_lem is) ∙ is) (field_invalid 0 bytes read))
+  pub numeral_none : None ≡ field_at bytes → None ≡ numeral bytes
+  numeral_none read = none (λ is. both_ways (ap is_number (all_digits_lem is) ∙ is) (field_invalid bytes read))
 
-  module _ (f : Token) (read : Some f ≡ field_at 0 bytes) where
+  module _ (f : Token) (read : Some f ≡ field_at bytes) where
     pub numeral_part : f.end < length bytes → None ≡ numeral bytes
-    numeral_part l = none (λ is. let all = ap length (all_digits_lem is) in let end = digits-length 0 bytes f (field_valid 0 bytes f read).1 in omega arith)
+    numeral_part l = none (λ is. let all = ap length (all_digits_lem is) in let end = digits-length bytes f (field_valid bytes f read).1 in omega arith)
 
     pub numeral_read : length bytes ≤ f.end → Some f.value ≡ numeral bytes
     unfolding numeral leading_digits digits_at
     numeral_read l =
-        let found = field_valid 0 bytes f read in
-        let end = digits-length 0 bytes f found.1 in
+        let found = field_valid bytes f read in
+        let end = digits-length bytes f found.1 in
         let all : leading is_digit max_digits bytes ≡ bytes = leading_take is_digit max_digits bytes ∙ take_all (length (leading is_digit max_digits bytes)) bytes (omega arith) in
         ap (λ d. Some d.value) found.1 ∙ ap (λ ds. Some (value_of ds)) all ∙ sym (ap (λ t. cond t (Some (value_of bytes)) None) (sym (ap is_number all) ∙ found.0))

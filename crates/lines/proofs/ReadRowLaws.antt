@@ -22,7 +22,7 @@ use Rattle.lines.specs.Rows.{max_fields, kind_of, all_numbers, row, unread_row, 
 use Rattle.lines.specs.Reading.{bytes_before, leading, fields_after, line_text, field_ends, has_line_feed, fields_if, fields_read, first_row, first_bytes, next_row, unreadable_line}
 use Rattle.lines.specs.Words.{max_letters, is_letter, all_letters, letter_key, key_limit, leading_letters, word_at, is_word, word_key}
 use Rattle.lines.proofs.LineFields.{field_length, first_field, first_length, line_fields, feed_after, up_to_after, feed_found}
-use Rattle.lines.proofs.LeadingLaws.{leading_few, leading_all, leading_field, field_continues}
+use Rattle.lines.proofs.LeadingLaws.{leading_few, leading_within, leading_all, leading_field, field_continues}
 use Rattle.lines.proofs.KindLaws.{is_same_kind, other_kind}
 use Rattle.lines.proofs.WordLaws.{letter_inside, letters_none, letters_more, key_small, no_form_lem, no_word}
 use Rattle.lines.proofs.BeginLaws.{line_begins}
@@ -95,9 +95,17 @@ module _ (rest : List ℕ) (word : Token) (spelt : word ≡ word_at rest) where
   fields : List (List ℕ)
   fields = fields_after (line_text bytes)
 
-  read-there : fields_read word.end (drop word.end rest) ≡ fields_if (field_ends bytes && has_line_feed bytes) fields (length letters + bytes_before line_feed bytes)
-  unfolding word_at leading_letters fields_read letters bytes fields
-  read-there = ap (λ n. fields_read n (drop n rest)) (ap (λ t. t.end) spelt)
+  word-length : word.end ≡ length letters
+  unfolding word_at leading_letters letters
+  word-length = ap (λ t. t.end) spelt
+
+  pub word_within : word.end ≤ length rest
+  unfolding letters
+  word_within = let same = word-length in let within = leading_within is_letter max_letters rest in omega arith
+
+  read-there : (left : List ℕ) → left ≡ drop word.end rest → fields_read left ≡ fields_if (field_ends bytes && has_line_feed bytes) fields (bytes_before line_feed bytes)
+  unfolding fields_read bytes fields
+  read-there left part = ap fields_read (part ∙ ap (λ n. drop n rest) word-length)
 
   pub key_fits : word.value < key_limit
   key_fits = let small = key_small rest in let same = ap (λ t. t.value) spelt in omega arith
@@ -134,18 +142,18 @@ module _ (rest : List ℕ) (word : Token) (spelt : word ≡ word_at rest) where
   unfolding is_word letters bytes
   continues e = ap (row_of_fields unread) (line_fields rest) ∙ no_row unread (first_field rest) _ (no_word (first_field rest) _ (field_continues is_letter letter_inside all_letters letters_more max_letters rest e))
 
-  pub fields_unread : None ≡ fields_read word.end (drop word.end rest) → unreadable_line rest ≡ next_row rest
+  pub fields_unread : (left : List ℕ) → left ≡ drop word.end rest → None ≡ fields_read left → unreadable_line rest ≡ next_row rest
   unfolding unreadable_line next_row unread
-  fields_unread r = ap (λ q. record { row = q; consumed = first_bytes (lines_of rest) }) (sym (go (decided (has_line_feed rest)) (decided (field_ends bytes))))
+  fields_unread left part r = ap (λ q. record { row = q; consumed = first_bytes (lines_of rest) }) (sym (go (decided (has_line_feed rest)) (decided (field_ends bytes))))
     where
       go : (has_line_feed rest ≡ true) ⊎ (has_line_feed rest ≡ false) → (field_ends bytes ≡ true) ⊎ (field_ends bytes ≡ false) → first_row (lines_of rest) ≡ unread_row rest
       go (inr none) e = unended_row rest none
       go (inl fd) (inr e) = ended_row rest fd ∙ continues e ∙ line_begins rest
-      go (inl fd) (inl e) = ended_row rest fd ∙ ap (row_of_fields unread) (parted e) ∙ are-unreadable _ fields _ unread letters (and_join e (sym (fed e) ∙ fd)) (r ∙ read-there) ∙ line_begins rest
+      go (inl fd) (inl e) = ended_row rest fd ∙ ap (row_of_fields unread) (parted e) ∙ are-unreadable _ fields _ unread letters (and_join e (sym (fed e) ∙ fd)) (r ∙ read-there left part) ∙ line_begins rest
 
-  module _ (f : Fields) (read : Some f ≡ fields_read word.end (drop word.end rest)) where
-    facts : Readable (field_ends bytes && has_line_feed bytes) fields (length letters + bytes_before line_feed bytes) f
-    facts = are-readable _ fields _ f (read ∙ read-there)
+  module _ (left : List ℕ) (part : left ≡ drop word.end rest) (f : Fields) (read : Some f ≡ fields_read left) where
+    facts : Readable (field_ends bytes && has_line_feed bytes) fields (bytes_before line_feed bytes) f
+    facts = are-readable _ fields _ f (read ∙ read-there left part)
 
     ends : field_ends bytes ≡ true
     ends = (and_both (field_ends bytes) (has_line_feed bytes) facts.before-feed).0
@@ -153,13 +161,13 @@ module _ (rest : List ℕ) (word : Token) (spelt : word ≡ word_at rest) where
     has : has_line_feed rest ≡ true
     has = fed ends ∙ (and_both (field_ends bytes) (has_line_feed bytes) facts.before-feed).1
 
-    at-feed : f.end ≡ bytes_before line_feed rest
-    at-feed = facts.ended ∙ sym (feed-at ends)
+    at-feed : word.end + f.end ≡ bytes_before line_feed rest
+    at-feed = let same = word-length in let ended = facts.ended in let whole = feed-at ends in omega arith
 
     pub count_fits : f.count ≤ max_fields
     count_fits = let few = facts.few in let same = facts.counted in omega arith
 
-    pub end_within : f.end < length rest
+    pub end_within : word.end + f.end < length rest
     end_within = let within = feed_found rest has in let same = at-feed in omega arith
 
     module _ (kind : LineKind) (known : (w : List ℕ) → word.value ≡ word_key w → kind ≡ kind_of w f.count) where
@@ -180,8 +188,8 @@ module _ (rest : List ℕ) (word : Token) (spelt : word ≡ word_at rest) where
       unfolding values
       each = list_is max_fields (λ k. get_or f.numbers k 0) f.numbers (ap length facts.valued ∙ length_tabulate max_fields _) (λ k l. refl)
 
-      pub row_read : (kind ≡ Unreadable → ⊥) → record { row = record { kind = kind; fields = tabulate max_fields (λ k. get_or f.numbers k 0) }; consumed = f.end + 1 } ≡ next_row rest
+      pub row_read : (kind ≡ Unreadable → ⊥) → record { row = record { kind = kind; fields = tabulate max_fields (λ k. get_or f.numbers k 0) }; consumed = word.end + f.end + 1 } ≡ next_row rest
       unfolding next_row row_if row values
       row_read z =
-          ap₂ (λ ns n. record { row = record { kind = kind; fields = ns }; consumed = n }) (sym each ∙ facts.valued) (ended_bytes rest f.end at-feed end_within)
+          ap₂ (λ ns n. record { row = record { kind = kind; fields = ns }; consumed = n }) (sym each ∙ facts.valued) (ended_bytes rest (word.end + f.end) at-feed end_within)
           ∙ ap (λ q. record { row = q; consumed = first_bytes (lines_of rest) }) (sym (first ∙ ap (λ t. cond t unread (row kind (map value_of fields))) (other_kind kind Unreadable z)))

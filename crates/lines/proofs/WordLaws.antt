@@ -1,10 +1,10 @@
 -- Laws of words: letters as a number, two words with the same number, and the kind of a form's number. Assumes nothing.
-use Prim.Native.Nat.{ℕ, suc, ◌+◌, ◌-◌, ◌*◌, ◌^◌, ◌≤◌, ◌<◌, zero-le}
+use Prim.Native.Nat.{ℕ, suc, ◌+◌, ◌-◌, ◌*◌, ◌^◌, ◌≤◌, ◌<◌, min}
 use mathlib.Core.Path.{◌≡◌, refl, sym, ap, ap₂, ◌∙◌, subst}
 use mathlib.Core.Bool.{Bool, true, false, cond, ◌&&◌, ◌||◌}
 use mathlib.Core.List.{List, [], ◌∷◌, reverse, reverse_aux, reverse-reverse}
 use mathlib.Core.Logic.{◌⊎◌, inl, inr}
-use native.Mathlib.Nat.{zero-add, pow-suc, pow-le-pow_right, zero-lt-suc}
+use native.Mathlib.Nat.{pow-suc, pow-le-pow_right, zero-lt-suc}
 use native.Mathlib.Numerals.{add-one}
 use native.Mathlib.Omega.{arith}
 use borrow.Author.Tests.{eq-eqb, ne_eqb, eqb-true, leb-true}
@@ -15,9 +15,9 @@ use Rattle.tariff.proofs.Tests.{and_both, and_join, and_left_false, and_right_fa
 use Rattle.lines.specs.Text.{bytes_of, line_feed, comma}
 use Rattle.lines.specs.declared.rows.LineKind.TheVariants.{Unreadable}
 use Rattle.lines.specs.Rows.{max_fields, Form, form, forms, same_bytes, kind_among, kind_of}
-use Rattle.lines.specs.Reading.{reading_limit, leading}
+use Rattle.lines.specs.Reading.{leading}
 use Rattle.lines.specs.Words.{max_letters, is_letter, all_letters, key_after, letter_key, key_limit, leading_letters, word_at, is_word, word_key, count_limit, form_number, kind_in, kind_numbered}
-use Rattle.lines.proofs.LeadingLaws.{leading_few, leading_all, token_from, ReadTo, none_read, one_more, stops_at_other, stops_at_limit}
+use Rattle.lines.proofs.LeadingLaws.{leading_few, leading_all, ReadTo, none_read, one_more, stops_at_other, stops_at_limit}
 
 letter_range : (b : ℕ) → is_letter b ≡ true → (97 ≤ b) × (b ≤ 122)
 unfolding is_letter within
@@ -98,28 +98,27 @@ key_more key b bytes = refl
 
 -- i letters are read, as this number
 pub LettersTo : List ℕ → ℕ → ℕ → Type 0
-LettersTo bytes i key = ReadTo is_letter max_letters key_after step key_none key_more bytes 0 i key
+LettersTo = ReadTo is_letter max_letters key_after step key_none key_more
 
 pub no_letters_yet : (bytes : List ℕ) → LettersTo bytes 0 0
 unfolding LettersTo
-no_letters_yet bytes = none_read is_letter max_letters key_after step key_none key_more bytes 0
-
-at_start : (bytes : List ℕ) → token_from is_letter max_letters key_after step key_none key_more 0 0 (leading_letters bytes) ≡ word_at bytes
-unfolding token_from word_at letter_key
-at_start bytes = ap (λ n. record { value = key_after 0 (leading_letters bytes); end = n }) (zero-add (length (leading_letters bytes)))
+no_letters_yet = none_read is_letter max_letters key_after step key_none key_more
 
 module _ (bytes : List ℕ) (i key : ℕ) (so_far : LettersTo bytes i key) where
-  pub letter_more : is_letter (get_or bytes i 0) ≡ true → i < length bytes → i < max_letters → LettersTo bytes (i + 1) (key * 32 + (get_or bytes i 0 - 96))
+  pub letter_more : is_letter (get_or bytes i 0) ≡ true → i < length bytes → i < max_letters → LettersTo bytes (i + 1) (key * 32 + (get_or bytes i 0 - 97 + 1))
   unfolding LettersTo step
-  letter_more e l m = one_more is_letter max_letters key_after step key_none key_more bytes 0 i key so_far e l (omega arith)
+  letter_more e l m =
+      let range = letter_range (get_or bytes i 0) e in
+      let same : get_or bytes i 0 - 96 ≡ get_or bytes i 0 - 97 + 1 = omega arith in
+      subst (λ d. LettersTo bytes (i + 1) (key * 32 + d)) same (one_more is_letter max_letters key_after step key_none key_more bytes i key so_far e l m)
 
   pub letters_stop : is_letter (get_or bytes i 0) ≡ false → i < length bytes → i < max_letters → record { value = key; end = i } ≡ word_at bytes
-  unfolding LettersTo leading_letters
-  letters_stop e l m = stops_at_other is_letter max_letters key_after step key_none key_more bytes 0 i key so_far e l (omega arith) ∙ at_start bytes
+  unfolding LettersTo leading_letters word_at letter_key
+  letters_stop = stops_at_other is_letter max_letters key_after step key_none key_more bytes i key so_far
 
-  pub letters_end : reading_limit (length bytes) 0 max_letters ≤ i → record { value = key; end = i } ≡ word_at bytes
-  unfolding LettersTo leading_letters
-  letters_end p = stops_at_limit is_letter max_letters key_after step key_none key_more bytes 0 i key so_far zero-le p ∙ at_start bytes
+  pub letters_end : min (length bytes) max_letters ≤ i → record { value = key; end = i } ≡ word_at bytes
+  unfolding LettersTo leading_letters word_at letter_key
+  letters_end = stops_at_limit is_letter max_letters key_after step key_none key_more bytes i key so_far
 
 -- five bits to a letter
 pub key_room : (key i : ℕ) → key < 32 ^ i → i < max_letters → key < 34359738368

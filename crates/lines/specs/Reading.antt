@@ -1,5 +1,5 @@
 -- How a script is read, line by line, out of its bytes: where a line or a field ends, and what the next line says (01, Script and host).
-use Rattle.std.specs.Prelude.{ℕ, zero, suc, ◌+◌, ◌-◌, Bool, true, cond, ◌&&◌, ◌||◌, Option, Some, None, List, [], ◌∷◌, map, length, get_or, take, eqb, leb, ltb}
+use Rattle.std.specs.Prelude.{ℕ, zero, suc, ◌+◌, Bool, true, cond, ◌&&◌, ◌||◌, Option, Some, None, List, [], ◌∷◌, map, length, get_or, take, eqb, leb}
 use Rattle.tariff.specs.Sum.{tabulate, any_of}
 use Rattle.lines.specs.declared.text.Token.{Token}
 use Rattle.lines.specs.declared.rows.Row.{Row}
@@ -26,10 +26,6 @@ chunk_bytes = 128
 unfoldable pub numeral : List ℕ → Option ℕ
 numeral field = cond (is_number field) (Some (value_of field)) None
 
--- where a reading of at most so many bytes from a place on stops: after so many, or with the bytes
-unfoldable pub reading_limit : ℕ → ℕ → ℕ → ℕ
-reading_limit length from most = cond (ltb most (length - from)) (from + most) length
-
 -- the bytes at the start that pass a test, at most so many
 unfoldable pub leading : (ℕ → Bool) → ℕ → List ℕ → List ℕ
 leading test most [] = []
@@ -40,13 +36,13 @@ leading test (suc most) (b ∷ bytes) = cond (test b) (b ∷ leading test most b
 unfoldable pub leading_digits : List ℕ → List ℕ
 leading_digits bytes = leading is_digit max_digits bytes
 
--- the digits at a place, the bytes from there on being given
-unfoldable pub digits_at : ℕ → List ℕ → Token
-digits_at from bytes = record { value = value_of (leading_digits bytes); end = from + length (leading_digits bytes) }
+-- their value, and how many they are
+unfoldable pub digits_at : List ℕ → Token
+digits_at bytes = record { value = value_of (leading_digits bytes); end = length (leading_digits bytes) }
 
--- the number at a place, if its digits are one
-unfoldable pub field_at : ℕ → List ℕ → Option Token
-field_at from bytes = cond (is_number (leading_digits bytes)) (Some (digits_at from bytes)) None
+-- the number that they are, if they are one
+unfoldable pub field_at : List ℕ → Option Token
+field_at bytes = cond (is_number (leading_digits bytes)) (Some (digits_at bytes)) None
 
 -- the fields of what stands after a line's word: nothing, or a comma and fields
 unfoldable pub fields_after : List ℕ → List (List ℕ)
@@ -72,9 +68,9 @@ fields_if readable fields end =
     (Some (record { count = length fields; numbers = tabulate max_fields (λ k. get_or (map value_of fields) k 0); end = end }))
     None
 
--- the fields from a place on, where a word has ended, if an LF ends their line
-unfoldable pub fields_read : ℕ → List ℕ → Option Fields
-fields_read start bytes = fields_if (field_ends bytes && has_line_feed bytes) (fields_after (line_text bytes)) (start + bytes_before line_feed bytes)
+-- the fields of what stands after a line's word, if an LF ends the line
+unfoldable pub fields_read : List ℕ → Option Fields
+fields_read bytes = fields_if (field_ends bytes && has_line_feed bytes) (fields_after (line_text bytes)) (bytes_before line_feed bytes)
 
 -- the row of the first line; where there is none, that of a line that cannot be read
 unfoldable pub first_row : List Line → Row

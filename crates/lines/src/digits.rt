@@ -11,7 +11,7 @@ pub fn digit_byte(d: u64) -> u8
     requires { d < 10 }
     ensures { result ≡ digit d }
 {
-    48 + d as u8
+    b'0' + d as u8
 }
 
 // Writes a number.

@@ -33,17 +33,19 @@ fn unreadable_line(rest: &[u8]) -> NextRow
 }
 
 // The next line of what is left of a script, read in one pass. Where no LF ends it, it cannot be read, and is all that is left.
+#[tactic(auto, using(crate::proofs::ReadRowLaws::word_within))]
 pub fn next_row(rest: &[u8]) -> NextRow
     ensures { result ≡ next_row rest.now }
 {
     let word = read_word(rest);
-    let Some(fields) = read_fields(rest, word.end) else {
+    let Some(fields) = read_fields(&rest[word.end..]) else {
         return unreadable_line(rest);
     };
     let kind = kind_of(word.value, fields.count);
     if kind == LineKind::Unreadable {
         return unreadable_line(rest);
     }
+    let end = word.end + fields.end;
     // Number by number, out of registers: a copy of the whole array would wait for the numbers that were just stored in it.
     let n = fields.numbers;
     let numbers = [
@@ -54,6 +56,6 @@ pub fn next_row(rest: &[u8]) -> NextRow
             kind,
             fields: numbers,
         },
-        consumed: fields.end + 1,
+        consumed: end + 1,
     }
 }

@@ -1,10 +1,9 @@
 // What a line of a script says: its kind, by its word and count of fields, and its numbers (01, Script and host).
-ghost use Rattle.std.specs.Prelude.{◌≡◌, drop};
+ghost use Rattle.std.specs.Prelude.{◌≡◌};
 ghost use Rattle.lines.specs.Rows.{begins_set, unread_row};
 ghost use Rattle.lines.specs.Reading.{fields_read};
 
 use crate::text::{LINE_FEED, read_field};
-use tariff::entries::entry_at;
 
 // The kinds of lines.
 #[derive(Clone, Copy, PartialEq, Eq)]
@@ -46,7 +45,7 @@ pub struct Row {
     pub fields: [u64; MAX_FIELDS],
 }
 
-// The fields after a line's word: how many, their values, 0 past the last, and where the LF after them stands.
+// The fields after a line's word: how many, their values, 0 past the last, and where the LF after them stands, counted from the word's end.
 #[derive(Clone, Copy)]
 pub struct Fields {
     pub count: u64,
@@ -78,27 +77,28 @@ pub fn unread_row(rest: &[u8]) -> Row
     }
 }
 
-// The fields of a line after the word that ends at `start`, if they can be read up to its LF. One more than a line can have ends the reading.
-pub fn read_fields(rest: &[u8], start: usize) -> Option<Fields>
-    ensures { result ≡ fields_read start (drop start rest.now) }
+// The fields of a line after its word, if they can be read up to its LF. One more than a line can have ends the reading.
+#[tactic(auto, using(crate::proofs::FieldLaws::line_ends, crate::proofs::FieldLaws::stops_at_end, crate::proofs::FieldLaws::stops_at_byte))]
+pub fn read_fields(rest: &[u8]) -> Option<Fields>
+    ensures { result ≡ fields_read rest.now }
 {
     let mut numbers = [0u64; MAX_FIELDS];
-    let mut count: usize = 0;
-    let mut at = start;
-    let mut byte = entry_at(rest, start, 0);
-    while byte == COMMA && count < MAX_FIELDS {
-        let field = read_field(rest, at + 1)?;
+    let mut count = 0;
+    let mut left = rest;
+    while count < MAX_FIELDS
+        && let [COMMA, after @ ..] = left
+    {
+        let field = read_field(after)?;
         numbers[count] = field.value;
         count += 1;
-        at = field.end;
-        byte = entry_at(rest, at, 0);
+        left = &after[field.end..];
     }
-    if byte != LINE_FEED {
-        return None;
+    match left {
+        [LINE_FEED, ..] => Some(Fields {
+            count: count as u64,
+            numbers,
+            end: rest.len() - left.len(),
+        }),
+        _ => None,
     }
-    Some(Fields {
-        count: count as u64,
-        numbers,
-        end: at,
-    })
 }

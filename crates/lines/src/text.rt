@@ -1,7 +1,7 @@
 // The bytes of a script: where a line or a field ends, how many lines there are, and the number that a field writes (01, Script and host).
-ghost use Rattle.std.specs.Prelude.{◌≡◌, ◌≤◌, ◌+◌, length, drop};
+ghost use Rattle.std.specs.Prelude.{◌≡◌, ◌≤◌, length};
 ghost use Rattle.lines.specs.Text.{line_feed, lines_of};
-ghost use Rattle.lines.specs.Reading.{chunk_bytes, line_feeds_in, bytes_before, numeral, reading_limit, digits_at, field_at};
+ghost use Rattle.lines.specs.Reading.{chunk_bytes, line_feeds_in, bytes_before, numeral, digits_at, field_at};
 
 // The most bytes that a run takes.
 pub const MAX_BYTES: usize = 65536;
@@ -15,12 +15,12 @@ pub const BYTES_PER_LINE: u64 = 16;
 // The most digits of a number.
 const MAX_DIGITS: usize = 9;
 
-pub const LINE_FEED: u8 = 10;
+pub const LINE_FEED: u8 = b'\n';
 
 // The bytes whose LFs are counted together: few enough for a count of one byte.
 const CHUNK_BYTES: usize = 128;
 
-// Letters or digits that stand at a place: the number that they write, and where they end.
+// Letters or digits that bytes start with: the number that they write, and where they end.
 #[derive(Clone, Copy)]
 pub struct Token {
     pub value: u64,
@@ -44,30 +44,25 @@ pub fn line_length(rest: &[u8]) -> usize
 }
 
 // How many of a few bytes are LF. The count takes one byte, so that many are compared at once.
+#[tactic(auto, using(crate::proofs::FeedLaws::feeds_summed))]
 fn line_feeds_in(chunk: &[u8]) -> u8
     requires { length chunk.now ≤ chunk_bytes }
     ensures { result ≡ line_feeds_in chunk.now }
 {
-    let mut feeds: u8 = 0;
-    for &byte in chunk {
-        if byte == LINE_FEED {
-            feeds += 1;
-        }
-    }
-    feeds
+    chunk.iter().map(|&byte| u8::from(byte == LINE_FEED)).sum()
 }
 
 // How many bytes of a script are LF: whole chunks, and what is left.
+#[tactic(auto, using(crate::proofs::FeedLaws::chunks_few, crate::proofs::FeedLaws::parts_few, crate::proofs::FeedLaws::parts_summed))]
 fn count_line_feeds(script: &[u8]) -> u64
     ensures { result ≡ line_feeds_in script.now }
 {
-    let mut feeds: u64 = 0;
-    let mut rest = script;
-    while let Some((chunk, after)) = rest.split_first_chunk::<CHUNK_BYTES>() {
-        feeds += line_feeds_in(chunk) as u64;
-        rest = after;
-    }
-    feeds + line_feeds_in(rest) as u64
+    let (chunks, rest) = script.as_chunks::<CHUNK_BYTES>();
+    chunks
+        .iter()
+        .map(|chunk| line_feeds_in(chunk) as u64)
+        .sum::<u64>()
+        + line_feeds_in(rest) as u64
 }
 
 // How many lines a script has: one to each LF, and one more if bytes follow the last LF.
@@ -75,60 +70,39 @@ fn count_line_feeds(script: &[u8]) -> u64
 pub fn count_lines(script: &[u8]) -> u64
     ensures { result ≡ length (lines_of script.now) }
 {
-    let length = script.len();
-    if length == 0 {
-        return 0;
+    match script {
+        [] => 0,
+        [.., LINE_FEED] => count_line_feeds(script),
+        _ => count_line_feeds(script) + 1,
     }
-    let feeds = count_line_feeds(script);
-    if script[length - 1] == LINE_FEED {
-        return feeds;
-    }
-    feeds + 1
 }
 
-// Where a reading of at most so many bytes from a place on stops.
-#[tactic(auto, unfolding(crate::specs::Reading::reading_limit))]
-pub fn reading_limit(length: usize, from: usize, most: usize) -> usize
-    requires { from ≤ length }
-    ensures value { result ≡ reading_limit length from most }
-    ensures after_start { from ≤ result }
-    ensures within { result ≤ length }
-    ensures few { result ≤ from + most }
+// The digits that bytes start with, at most 9: so no value of more is worked out.
+fn read_digits(rest: &[u8]) -> Token
+    ensures { result ≡ digits_at rest.now }
 {
-    from + most.min(length - from)
-}
-
-// The digits from a place on, at most 9: so no value of more is worked out.
-fn read_digits(bytes: &[u8], from: usize) -> Token
-    requires { from ≤ length bytes.now }
-    ensures { result ≡ digits_at from (drop from bytes.now) }
-{
-    let limit = reading_limit(bytes.len(), from, MAX_DIGITS);
+    let limit = rest.len().min(MAX_DIGITS);
     let mut value: u64 = 0;
-    for (i, &byte) in bytes[from..limit].iter().enumerate() {
+    for (i, &byte) in rest[..limit].iter().enumerate() {
         if !byte.is_ascii_digit() {
-            return Token {
-                value,
-                end: from + i,
-            };
+            return Token { value, end: i };
         }
         value = value * 10 + (byte - b'0') as u64;
     }
     Token { value, end: limit }
 }
 
-// The number whose digits start at a place, if they are one: 1 to 9 of them, and no leading zero but 0 itself.
-pub fn read_field(bytes: &[u8], from: usize) -> Option<Token>
-    requires { from ≤ length bytes.now }
-    ensures { result ≡ field_at from (drop from bytes.now) }
+// The number whose digits bytes start with, if they are one: 1 to 9 of them, and no leading zero but 0 itself.
+#[tactic(auto, using(crate::proofs::NumberLaws::no_digit, crate::proofs::NumberLaws::zero_leads, crate::proofs::NumberLaws::one_digit_read, crate::proofs::NumberLaws::other_first_read, crate::proofs::NumberLaws::digits_within))]
+pub fn read_field(rest: &[u8]) -> Option<Token>
+    ensures { result ≡ field_at rest.now }
 {
-    let digits = read_digits(bytes, from);
-    let length = digits.end - from;
-    if length == 0 {
+    let digits = read_digits(rest);
+    if digits.end == 0 {
         return None;
     }
-    let zero_leads = bytes[from] == b'0';
-    if zero_leads && 1 < length {
+    let zero_leads = rest[0] == b'0';
+    if zero_leads && 1 < digits.end {
         return None;
     }
     Some(digits)
@@ -139,7 +113,7 @@ pub fn read_field(bytes: &[u8], from: usize) -> Option<Token>
 pub fn read_number(field: &[u8]) -> Option<u64>
     ensures { result ≡ numeral field.now }
 {
-    let number = read_field(field, 0)?;
+    let number = read_field(field)?;
     if number.end < field.len() {
         return None;
     }

@@ -4,7 +4,7 @@ ghost use Rattle.lines.specs.Rows.{max_fields, forms, kind_of};
 ghost use Rattle.lines.specs.Words.{word_key, word_at, key_limit, kind_numbered};
 
 use crate::rows::LineKind;
-use crate::text::{Token, reading_limit};
+use crate::text::Token;
 
 // The most letters of a word.
 const MAX_LETTERS: usize = 8;
@@ -12,58 +12,76 @@ const MAX_LETTERS: usize = 8;
 // Every count of fields is less.
 const COUNT_LIMIT: u64 = 16;
 
-// The forms of lines, each as one number: its word's (`read_word`) and how many fields follow the word.
-const BOOK: u64 = 81_387 * COUNT_LIMIT + 4;
+// The form of lines of a word of at most eight letters with so many fields after it, as one number: the word's, letter by letter as `read_word` has it, and
+// the count. A macro, since the value of a constant calls no function.
+macro_rules! form_number {
+    ($word:literal, $fields:literal) => {
+        form_number!(@ $word, 0, 0 1 2 3 4 5 6 7) * COUNT_LIMIT + $fields
+    };
+    (@ $word:literal, $key:expr,) => {
+        $key
+    };
+    (@ $word:literal, $key:expr, $k:literal $($later:literal)*) => {
+        if $k < $word.len() {
+            form_number!(@ $word, $key * 32 + ($word[$k] - b'a' + 1) as u64, $($later)*)
+        } else {
+            $key
+        }
+    };
+}
 
-const HOLDER: u64 = 284_561_586 * COUNT_LIMIT + 1;
+// The forms of lines.
+const BOOK: u64 = form_number!(b"book", 4);
 
-const SINK: u64 = 632_267 * COUNT_LIMIT + 2;
+const HOLDER: u64 = form_number!(b"holder", 1);
 
-const PATH: u64 = 525_960 * COUNT_LIMIT + 2;
+const SINK: u64 = form_number!(b"sink", 2);
 
-const LOAD: u64 = 408_612 * COUNT_LIMIT + 6;
+const PATH: u64 = form_number!(b"path", 2);
 
-const BLOCK: u64 = 2_505_835 * COUNT_LIMIT + 3;
+const LOAD: u64 = form_number!(b"load", 6);
 
-const CARRY: u64 = 3_197_529 * COUNT_LIMIT + 3;
+const BLOCK: u64 = form_number!(b"block", 3);
 
-const PRIOR: u64 = 17_376_754 * COUNT_LIMIT + 4;
+const CARRY: u64 = form_number!(b"carry", 3);
+
+const PRIOR: u64 = form_number!(b"prior", 4);
 
 // It ends in the ten-year mark (02, 1/14).
-const VERIFY: u64 = 744_039_641 * COUNT_LIMIT + 8;
+const VERIFY: u64 = form_number!(b"verify", 8);
 
-const MIGRATE: u64 = 14_268_565_125 * COUNT_LIMIT + 3;
+const MIGRATE: u64 = form_number!(b"migrate", 3);
 
-const CLASS: u64 = 3_540_595 * COUNT_LIMIT + 5;
+const CLASS: u64 = form_number!(b"class", 5);
 
-const OPEN: u64 = 508_078 * COUNT_LIMIT + 1;
+const OPEN: u64 = form_number!(b"open", 1);
 
-const NOMINATE: u64 = 497_588_569_733 * COUNT_LIMIT + 3;
+const NOMINATE: u64 = form_number!(b"nominate", 3);
 
-const AWARD: u64 = 1_803_844 * COUNT_LIMIT + 3;
+const AWARD: u64 = form_number!(b"award", 3);
 
-const CLOSE: u64 = 3_554_917 * COUNT_LIMIT + 0;
+const CLOSE: u64 = form_number!(b"close", 0);
 
-const LIMIT: u64 = 12_891_444 * COUNT_LIMIT + 2;
+const LIMIT: u64 = form_number!(b"limit", 2);
 
-const HELD: u64 = 267_652 * COUNT_LIMIT + 3;
+const HELD: u64 = form_number!(b"held", 3);
 
-const NET: u64 = 14_516 * COUNT_LIMIT + 2;
+const NET: u64 = form_number!(b"net", 2);
 
 // It has six pairs (02, 3/14).
-const SET: u64 = 19_636 * COUNT_LIMIT + 12;
+const SET: u64 = form_number!(b"set", 12);
 
 // The letters at the start of a line, at most eight: 5 bits to a letter, the first letter highest.
 pub fn read_word(rest: &[u8]) -> Token
     ensures { result ≡ word_at rest.now }
 {
-    let limit = reading_limit(rest.len(), 0, MAX_LETTERS);
+    let limit = rest.len().min(MAX_LETTERS);
     let mut key: u64 = 0;
     for (i, &byte) in rest[..limit].iter().enumerate() {
         if !byte.is_ascii_lowercase() {
             return Token { value: key, end: i };
         }
-        key = key * 32 + (byte - 96) as u64;
+        key = key * 32 + (byte - b'a' + 1) as u64;
     }
     Token {
         value: key,

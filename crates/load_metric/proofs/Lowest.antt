@@ -10,9 +10,11 @@ use native.Mathlib.Omega.{arith}
 use lib.Dec.{leb, ltb}
 use lib.ListN.{length}
 use borrow.Author.Tests.{leb-true, leb-false, ltb-false, ltb-true}
+use Rattle.std.specs.List.{fold}
 use Rattle.tariff.specs.Sum.{filter}
+use Rattle.load_metric.specs.declared.block.Block.{Block}
 use Rattle.load_metric.specs.Load.{smallest}
-use Rattle.load_metric.specs.Levels.{highest_kw}
+use Rattle.load_metric.specs.Levels.{highest_kw, kws_of}
 use Rattle.tariff.proofs.Tests.{both_ways}
 
 -- the number stands in the list
@@ -79,3 +81,12 @@ unfolding highest_kw
 among_highest [] h = absurd (not-suc-le-zero h)
 among_highest (x ∷ []) h = inl (omega arith)
 among_highest (x ∷ y ∷ ys) h = among_max x (highest_kw (y ∷ ys)) (x ∷ y ∷ ys) (inl refl) (inr (among_highest (y ∷ ys) (omega arith)))
+
+-- a pass that keeps the larger kW ends with the highest
+folded_from : (a : ℕ) (bs : List Block) → fold (λ most b. max most b.kw) a bs ≡ max a (highest_kw (kws_of bs))
+unfolding highest_kw
+folded_from a [] = omega arith
+folded_from a (b ∷ bs) = let rest = folded_from (max a b.kw) bs in omega arith
+
+pub highest_folded : (bs : List Block) → fold (λ most b. max most b.kw) 0 bs ≡ highest_kw (kws_of bs)
+highest_folded bs = let all = folded_from 0 bs in omega arith

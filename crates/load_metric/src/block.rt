@@ -2,7 +2,7 @@
 ghost use Rattle.std.specs.Prelude.{◌≡◌, ◌+◌, ◌&&◌, leb};
 
 // A run of hours with one load: its first hour, counted from 0, how many hours it has, and the kW.
-#[derive(Clone, Copy)]
+#[derive(Clone, Copy, Default)]
 pub struct Block {
     pub first: u64,
     pub hours: u64,

@@ -41,15 +41,10 @@ fn present_in_order(blocks: &[Block], n: u64) -> Option<u64>
 }
 
 // The highest kW, 0 if there is none.
-#[tactic(auto, unfolding(crate::specs::Levels::highest_kw))]
 fn highest(blocks: &[Block]) -> u64
     ensures { result ≡ highest_kw (kws_of blocks.now) }
 {
-    let mut highest: u64 = 0;
-    for b in blocks {
-        highest = highest.max(b.kw);
-    }
-    highest
+    blocks.iter().map(|b| b.kw).max().unwrap_or(0)
 }
 
 // One pass over the blocks: a kW below the cap may be the next one, and a block at or above the cap adds its hours.

@@ -1,14 +1,13 @@
 // Tests on the lines of a migration (01, Refusals by cause; causes 2, 3 and 8).
-ghost use Rattle.std.specs.Prelude.{◌≡◌, ◌||◌, eqb};
+ghost use Rattle.std.specs.Prelude.{◌≡◌, ◌||◌};
 ghost use Rattle.tariff.specs.Sum.{any_of};
 ghost use Rattle.netting.specs.ClassRanges.{class_line_out_of_range};
 ghost use Rattle.netting.specs.Columns.{lines_in};
-ghost use Rattle.ledger.specs.Opening.{obaalse, holder_kind};
 ghost use Rattle.ledger.specs.Ranges.{unknown_holder, unknown_holder_in};
 ghost use Rattle.ledger.specs.Causes.{line_not_between_lses};
 ghost use Rattle.records.specs.Opening.{opening_of};
 
-use netting::netting::{ClassLine, ClassLines, class_fields_out_of_range};
+use netting::netting::{ClassLine, ClassLines};
 use records::setup::KeptOpening;
 
 // A line that names a holder who is not in the book.
@@ -29,7 +28,7 @@ pub(crate) fn any_unknown(o: &KeptOpening, lines: ClassLines) -> bool
 pub(crate) fn any_out_of_range(lines: ClassLines) -> bool
     ensures { result ≡ any_of (lines_in lines.entry.columns) class_line_out_of_range }
 {
-    lines.any(|line| class_fields_out_of_range(line.class, line.customers, line.watts))
+    lines.any(|line| line.is_out_of_range())
 }
 
 // A line from a holder to itself, or one that names an OBAALSE.

@@ -2,7 +2,7 @@
 ghost use Rattle.std.specs.Prelude.{◌≡◌, Bool, ℕ, ◌+◌, ◌-◌, ◌*◌, ◌/◌, ◌<◌, ◌≤◌, length};
 ghost use Rattle.tariff.specs.Sizes.{max_holders, max_customers, max_watts, watts_per_kw};
 ghost use Rattle.tariff.specs.Sum.{any_of};
-ghost use Rattle.netting.specs.ClassRanges.{class_fields_out_of_range};
+ghost use Rattle.netting.specs.ClassRanges.{class_line_out_of_range};
 ghost use Rattle.netting.specs.Columns.{SameLengthsIn};
 ghost use Rattle.netting.specs.Netting.{pair_at, pair_cells, unfit_line};
 
@@ -11,7 +11,7 @@ use tariff::sizes::{
 };
 
 // One line of a migration: customers of a class who left one LSE for another, and their average watts.
-#[derive(Clone, Copy)]
+#[derive(Clone, Copy, Default)]
 pub struct ClassLine {
     pub from: u64,
     pub to: u64,
@@ -37,22 +37,6 @@ pub struct ClassLines<'a> {
     ghost same_lengths: { SameLengthsIn columns },
 }
 
-// A line with a field outside its range: class 1 to 8, customers and average watts up to 9,999,999.
-#[tactic(auto, unfolding(crate::specs::ClassRanges::class_fields_out_of_range, tariff::specs::Ranges::within))]
-pub fn class_fields_out_of_range(class: u64, customers: u64, watts: u64) -> bool
-    ensures { result ≡ class_fields_out_of_range class customers watts }
-{
-    !(1..=LAST_CLASS).contains(&class) || MAX_CUSTOMERS < customers || MAX_WATTS < watts
-}
-
-// The watts of a line: customers × average watts.
-fn line_watts(customers: u64, watts: u64) -> u64
-    requires { (customers ≤ max_customers) × (watts ≤ max_watts) }
-    ensures { result ≡ customers * watts }
-{
-    customers * watts
-}
-
 // The m of each pair: what the way there has more than the way back, in kW rounded down.
 fn netted_pairs(watts: [u64; HOLDER_PAIRS]) -> [u64; HOLDER_PAIRS]
     ensures { result ≡ pair_cells (λ i j. (pair_at watts i j - pair_at watts j i) / watts_per_kw) }
@@ -64,14 +48,30 @@ fn netted_pairs(watts: [u64; HOLDER_PAIRS]) -> [u64; HOLDER_PAIRS]
 }
 
 impl ClassLine {
+    // A line with a field outside its range: class 1 to 8, customers and average watts up to 9,999,999.
+    #[tactic(auto, unfolding(crate::specs::ClassRanges::class_line_out_of_range, crate::specs::ClassRanges::class_fields_out_of_range, tariff::specs::Ranges::within))]
+    pub fn is_out_of_range(self) -> bool
+        ensures { result ≡ class_line_out_of_range self }
+    {
+        !(1..=LAST_CLASS).contains(&self.class)
+            || MAX_CUSTOMERS < self.customers
+            || MAX_WATTS < self.watts
+    }
+
+    // The watts of a line: customers × average watts.
+    fn total_watts(self) -> u64
+        requires { (self.customers ≤ max_customers) × (self.watts ≤ max_watts) }
+        ensures { result ≡ self.customers * self.watts }
+    {
+        self.customers * self.watts
+    }
+
     // A line that must not reach the sums: a holder past the eighth, or a field outside its range.
-    #[tactic(auto, unfolding(crate::specs::Netting::unfit_line, crate::specs::ClassRanges::class_line_out_of_range))]
+    #[tactic(auto, unfolding(crate::specs::Netting::unfit_line))]
     fn is_unfit(self) -> bool
         ensures { result ≡ unfit_line self }
     {
-        MAX_HOLDERS as u64 <= self.from
-            || MAX_HOLDERS as u64 <= self.to
-            || class_fields_out_of_range(self.class, self.customers, self.watts)
+        MAX_HOLDERS as u64 <= self.from || MAX_HOLDERS as u64 <= self.to || self.is_out_of_range()
     }
 }
 
@@ -158,7 +158,7 @@ impl<'a> ClassLines<'a> {
         for k in 0..self.columns.froms.len() {
             let line = self.line(k);
             let pair = (line.from * MAX_HOLDERS as u64 + line.to) as usize;
-            cells[pair] += line_watts(line.customers, line.watts);
+            cells[pair] += line.total_watts();
         }
         cells
     }

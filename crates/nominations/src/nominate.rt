@@ -11,13 +11,13 @@ ghost use Rattle.nominations.specs.CauseOrder.{causes_before_tier, causes_before
 
 use nomination_tests::nomination::Nomination;
 use nomination_tests::source_usage::{has_evidence, source_usage, verified_kw};
-use records::ranges::kw_out_of_range;
 use records::refusal::Refusal;
 use records::setup::KeptOpening;
-use slots::calendar::{calendar, current_tier};
+use slots::calendar::current_tier;
 use slots::cells::add;
 use slots::layout::{Figures, NOMINATED_SLOT, PRIOR_REMAINING_SLOT};
 use slots::sums::sum_at_base;
+use slots::tier_call::check_tier_call;
 use tariff::sizes::LONG_TERM_STEP;
 use tier_limits::limits::tier_limit;
 
@@ -120,20 +120,12 @@ fn check_in_tier(n: &Nomination) -> Result<(), Refusal>
 }
 
 // Whether a nomination meets no cause, else the first that it meets. Each is looked for only where none before it is met.
-#[tactic(auto, using(slots::proofs::CalendarLaws::open_as_ledger), unfolding(ledger::specs::Causes::refusal, ledger::specs::Causes::call_causes, ledger::specs::Causes::nominate_causes, ledger::specs::Numbers::first_met, ledger::specs::Ranges::unknown_holder, ledger::specs::Ranges::unknown_path, tariff::specs::Ranges::kw_out_of_range, tariff::specs::Ranges::within))]
+#[tactic(auto, unfolding(ledger::specs::Causes::refusal, ledger::specs::Causes::call_causes, ledger::specs::Causes::nominate_causes, ledger::specs::Numbers::first_met))]
 fn check_nominate(o: &KeptOpening, f: &Figures, h: u64, p: u64, kw: u64) -> Result<(), Refusal>
     requires { ReachableFigures o.now f.now }
     ensures { InFigures o.now f.now (λ O L. refused_by result ≡ refusal O L (nominate h p kw)) }
 {
-    if o.unknown_holder(h) || o.unknown_path(p) {
-        return Err(Refusal::NotInBook);
-    }
-    if kw_out_of_range(kw) {
-        return Err(Refusal::OutOfRange);
-    }
-    if !calendar(f).tier_is_open() {
-        return Err(Refusal::NotAtThisTime);
-    }
+    check_tier_call(o, f, h, p, kw)?;
     check_in_tier(&Nomination {
         opening: o,
         figures: f,

@@ -21,8 +21,8 @@ pub fn keep_nothing() -> KeptOpening
         sinks: 0,
         paths: 0,
         holder_kinds: [0; MAX_HOLDERS],
-        sink_lines: [SinkLine::NONE; MAX_PLACES],
-        path_lines: [PathLine::NONE; MAX_PLACES],
+        sink_lines: [SinkLine::default(); MAX_PLACES],
+        path_lines: [PathLine::default(); MAX_PLACES],
         settings: Settings::present(),
         bases: [0; MAX_PLACES],
     }
@@ -38,8 +38,8 @@ pub(crate) fn keep_lines(setup: BookSetup) -> KeptOpening
         sinks: setup.sinks,
         paths: setup.paths,
         holder_kinds: std::array::from_fn(|h| entry_at(setup.holder_kinds, h, 0)),
-        sink_lines: std::array::from_fn(|s| entry_at(setup.sink_lines, s, SinkLine::NONE)),
-        path_lines: std::array::from_fn(|p| entry_at(setup.path_lines, p, PathLine::NONE)),
+        sink_lines: std::array::from_fn(|s| entry_at(setup.sink_lines, s, SinkLine::default())),
+        path_lines: std::array::from_fn(|p| entry_at(setup.path_lines, p, PathLine::default())),
         settings: setup.settings,
         bases: [0; MAX_PLACES],
     }

@@ -61,7 +61,7 @@ fn path_legal(o: &KeptOpening, p: u64) -> bool
 fn paths_alike(o: &KeptOpening, p: u64, q: u64) -> bool
     ensures { result ≡ paths_alike (opening_of o.entry) p q }
 {
-    o.path_source(p) == o.path_source(q) && o.path_sink(p) == o.path_sink(q)
+    o.path_line(p) == o.path_line(q)
 }
 
 // Every holder is legal.

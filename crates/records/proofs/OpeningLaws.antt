@@ -74,23 +74,29 @@ module _ {A : Type 0} (none : A) (number : A → ℕ) (n room : ℕ) (made : Lis
 
 -- what stands on a sink's and a path's line as code reads it
 module _ (o : KeptOpening) where
-  module _ (s : ℕ) (line : SinkLine) (read : line ≡ get_or (with_room no_sink o.sinks o.sink_lines) s no_sink) where
-    pub kind_read : line.kind ≡ sink_kind (opening_in o) s
+  module _ (s : ℕ) (none : SinkLine) (no_kind : none.kind ≡ 0) (no_parent : none.parent ≡ 0) where
+    nothing : none ≡ no_sink
+    nothing i = record { kind = no_kind i; parent = no_parent i }
+
+    pub kind_read : (get_or (with_room none o.sinks o.sink_lines) s none).kind ≡ sink_kind (opening_in o) s
     unfolding opening_in sink_kind
-    kind_read = ap (λ x. x.kind) read ∙ sym (in_column {A = SinkLine} (λ x. x.kind) (with_room no_sink o.sinks o.sink_lines) no_sink s)
+    kind_read = ap (λ x. (get_or (with_room x o.sinks o.sink_lines) s x).kind) nothing ∙ sym (in_column {A = SinkLine} (λ x. x.kind) (with_room no_sink o.sinks o.sink_lines) no_sink s)
 
-    pub parent_read : line.parent ≡ base (opening_in o) s
+    pub parent_read : (get_or (with_room none o.sinks o.sink_lines) s none).parent ≡ base (opening_in o) s
     unfolding opening_in base
-    parent_read = ap (λ x. x.parent) read ∙ sym (in_column {A = SinkLine} (λ x. x.parent) (with_room no_sink o.sinks o.sink_lines) no_sink s)
+    parent_read = ap (λ x. (get_or (with_room x o.sinks o.sink_lines) s x).parent) nothing ∙ sym (in_column {A = SinkLine} (λ x. x.parent) (with_room no_sink o.sinks o.sink_lines) no_sink s)
 
-  module _ (p : ℕ) (line : PathLine) (read : line ≡ get_or (with_room no_path o.paths o.path_lines) p no_path) where
-    pub source_read : line.source ≡ path_source (opening_in o) p
+  module _ (p : ℕ) (none : PathLine) (no_source : none.source ≡ 0) (no_end : none.sink ≡ 0) where
+    no_line : none ≡ no_path
+    no_line i = record { source = no_source i; sink = no_end i }
+
+    pub source_read : (get_or (with_room none o.paths o.path_lines) p none).source ≡ path_source (opening_in o) p
     unfolding opening_in path_source
-    source_read = ap (λ x. x.source) read ∙ sym (in_column {A = PathLine} (λ x. x.source) (with_room no_path o.paths o.path_lines) no_path p)
+    source_read = ap (λ x. (get_or (with_room x o.paths o.path_lines) p x).source) no_line ∙ sym (in_column {A = PathLine} (λ x. x.source) (with_room no_path o.paths o.path_lines) no_path p)
 
-    pub end_read : line.sink ≡ path_sink (opening_in o) p
+    pub end_read : (get_or (with_room none o.paths o.path_lines) p none).sink ≡ path_sink (opening_in o) p
     unfolding opening_in path_sink
-    end_read = ap (λ x. x.sink) read ∙ sym (in_column {A = PathLine} (λ x. x.sink) (with_room no_path o.paths o.path_lines) no_path p)
+    end_read = ap (λ x. (get_or (with_room x o.paths o.path_lines) p x).sink) no_line ∙ sym (in_column {A = PathLine} (λ x. x.sink) (with_room no_path o.paths o.path_lines) no_path p)
 
 -- what is kept of an opening whose counts and lists fit is the whole of it, whatever stands for the bases
 pub lists_back : (o : Opening) (kept : KeptOpening) → record kept { bases = path_bases o } ≡ kept_opening o → counts_fit o ≡ true → lists_fit o ≡ true → opening_in kept ≡ o

@@ -13,13 +13,12 @@ pub type Answer = Result<Option<u64>, Refusal>;
 pub fn of_call(called: Result<(), Refusal>) -> Answer
     ensures { result ≡ of_call called }
 {
-    called?;
-    Ok(None)
+    called.map(|()| None)
 }
 
 // A query's answer has its figure.
 pub fn of_query(queried: Result<u64, Refusal>) -> Answer
     ensures { result ≡ of_query queried }
 {
-    Ok(Some(queried?))
+    queried.map(Some)
 }

@@ -14,27 +14,18 @@ use tariff::legal_settings::LegalSettings;
 use tariff::settings::Settings;
 use tariff::sizes::{MAX_HOLDERS, MAX_PLACES};
 
-// What stands on a sink's line: its kind, and the sink that it names.
-#[derive(Clone, Copy)]
+// What stands on a sink's line: its kind, and the sink that it names. The default is what is read past the last line.
+#[derive(Clone, Copy, Default)]
 pub struct SinkLine {
     pub kind: u64,
     pub parent: u64,
 }
 
-// What stands on a path's line: the source that it comes from, and the sink that it ends at.
-#[derive(Clone, Copy)]
+// What stands on a path's line: the source that it comes from, and the sink that it ends at. The default is what is read past the last line.
+#[derive(Clone, Copy, Default, PartialEq, Eq)]
 pub struct PathLine {
     pub source: u64,
     pub sink: u64,
-}
-
-impl SinkLine {
-    // What is read past the last line.
-    pub const NONE: SinkLine = SinkLine { kind: 0, parent: 0 };
-}
-
-impl PathLine {
-    pub const NONE: PathLine = PathLine { source: 0, sink: 0 };
 }
 
 // An opening as a book keeps it, with room for as many lines as a book can have.
@@ -124,11 +115,12 @@ impl KeptOpening {
     }
 
     // The line of a sink, with the number of its kind.
+    #[tactic(auto, using(crate::proofs::OpeningLaws::kind_read, crate::proofs::OpeningLaws::parent_read))]
     pub fn sink_line(&self, s: u64) -> SinkLine
         ensures kind { result.kind ≡ sink_kind (opening_of self.entry) s }
         ensures base { result.parent ≡ base (opening_of self.entry) s }
     {
-        counted_entry(&self.sink_lines, self.sinks, s, SinkLine::NONE)
+        counted_entry(&self.sink_lines, self.sinks, s, SinkLine::default())
     }
 
     pub fn sink_kind(&self, s: u64) -> Option<SinkKind>
@@ -144,11 +136,12 @@ impl KeptOpening {
     }
 
     // The line of a path.
-    fn path_line(&self, p: u64) -> PathLine
+    #[tactic(auto, using(crate::proofs::OpeningLaws::source_read, crate::proofs::OpeningLaws::end_read))]
+    pub fn path_line(&self, p: u64) -> PathLine
         ensures source { result.source ≡ path_source (opening_of self.entry) p }
         ensures sink { result.sink ≡ path_sink (opening_of self.entry) p }
     {
-        counted_entry(&self.path_lines, self.paths, p, PathLine::NONE)
+        counted_entry(&self.path_lines, self.paths, p, PathLine::default())
     }
 
     pub fn path_source(&self, p: u64) -> u64

@@ -4,7 +4,7 @@ use mathlib.Core.Path.{◌≡◌, refl, sym, ap, ◌∙◌, subst}
 use mathlib.Core.Bool.{Bool, false}
 use mathlib.Core.List.{List, [], ◌∷◌, ◌++◌, map, append_assoc, append-nil}
 use native.Mathlib.Omega.{arith}
-use lib.ListN.{length, take, drop, replicate, length-drop, drop_of_length-le}
+use lib.ListN.{length, take, drop, replicate, length-drop}
 use lib.Seq.{drop-drop}
 use Rattle.records.specs.declared.setup.KeptOpening.{KeptOpening}
 use Rattle.source_evidence.specs.declared.evidence.Entry.{Entry}
@@ -88,68 +88,55 @@ unfolding text_from rows_of lines_of groups_of groups_from answers_of texts_of
 text_none b = refl
 
 -- what is known when some groups have been answered
-pub record AnswersSoFar (script : List ℕ) (first : Book) (from : ℕ) (before after : Output) (b : Book) (at : ℕ) : Type 0 where
+pub record AnswersSoFar (all : List ℕ) (first : Book) (before after : Output) (b : Book) (rest : List ℕ) : Type 0 where
   pub reachable : Reachable b
-  pub in_script : at ≤ length script
-  pub few : length (rows_of (drop at script)) ≤ max_lines
-  pub room : HasRoomForLines after (length (rows_of (drop at script)))
+  pub few : length (rows_of rest) ≤ max_lines
+  pub room : HasRoomForLines after (length (rows_of rest))
   pub done : List ℕ
   pub wrote : Wrote before after done
-  pub left : done ++ text_from b (drop at script) ≡ text_from first (drop from script)
+  pub left : done ++ text_from b rest ≡ text_from first all
 
 -- the same of the arrays that a run keeps: the book has some evidence, which a run does not keep
-pub record RunSoFar (script : List ℕ) (first : Book) (from : ℕ) (before after : Output) (o : KeptOpening) (f : List ℕ) (m : List Bool) (at : ℕ) : Type 0 where
+pub record RunSoFar (all : List ℕ) (first : Book) (before after : Output) (o : KeptOpening) (f : List ℕ) (m : List Bool) (rest : List ℕ) : Type 0 where
   pub evidence : List Entry
-  pub so_far : AnswersSoFar script first from before after (book_in o f m evidence) at
+  pub so_far : AnswersSoFar all first before after (book_in o f m evidence) rest
 
 -- arrays at 0, with nothing posted, are those of the book that was opened
 opened_book : (o : KeptOpening) → book_of o empty_ledger ≡ book_in o (replicate figure_count 0) (replicate posted_count false) (evidence_of empty_ledger)
 unfolding book_of
 opened_book o = λ i. book_in o (sym empty_figures i) (sym empty_posted i) (evidence_of empty_ledger)
 
+nothing : (rest : List ℕ) → length rest ≡ 0 → rest ≡ []
+nothing [] e = refl
+nothing (b ∷ rest) e = absurd (let z : ⊥ = omega arith in z)
+
 -- and nothing is answered yet
-module _ (script : List ℕ) (o : KeptOpening) (from : ℕ) (out : Output) where
+module _ (all : List ℕ) (o : KeptOpening) (out : Output) where
   abbrev opened : Book
   opened = book_of o empty_ledger
 
-  none-answered : Reachable opened → from ≤ length script → length (rows_of (drop from script)) ≤ max_lines → HasRoomForLines out (length (rows_of (drop from script))) → AnswersSoFar script opened from out out opened from
-  none-answered r l few room = record { reachable = r; in_script = l; few = few; room = room; done = []; wrote = wrote_nothing out (omega arith); left = refl }
+  none-answered : Reachable opened → length (rows_of all) ≤ max_lines → HasRoomForLines out (length (rows_of all)) → AnswersSoFar all opened out out opened all
+  none-answered r few room = record { reachable = r; few = few; room = room; done = []; wrote = wrote_nothing out (omega arith); left = refl }
 
-  pub none_run : Reachable opened → from ≤ length script → length (rows_of (drop from script)) ≤ max_lines → HasRoomForLines out (length (rows_of (drop from script))) → RunSoFar script opened from out out o (replicate figure_count 0) (replicate posted_count false) from
-  none_run r l few room = record { evidence = evidence_of empty_ledger; so_far = subst (λ b. AnswersSoFar script opened from out out b from) (opened_book o) (none-answered r l few room) }
+  pub none_run : Reachable opened → length (rows_of all) ≤ max_lines → HasRoomForLines out (length (rows_of all)) → RunSoFar all opened out out o (replicate figure_count 0) (replicate posted_count false) all
+  none_run r few room = record { evidence = evidence_of empty_ledger; so_far = subst (λ b. AnswersSoFar all opened out out b all) (opened_book o) (none-answered r few room) }
 
-module _ (script : List ℕ) (first : Book) (from : ℕ) (before after : Output) (b : Book) (at : ℕ) (f : AnswersSoFar script first from before after b at) where
-  module _ (some : at < length script) where
-    abbrev rest : List ℕ
-    rest = drop at script
-
-    rest_some : 1 ≤ length rest
-    rest_some = let left = length-drop at script in omega arith
-
+module _ (all : List ℕ) (first : Book) (before after : Output) (b : Book) (rest : List ℕ) (f : AnswersSoFar all first before after b rest) where
+  module _ (some : 1 ≤ length rest) where
     turn-room : after.length + 16 ≤ length after.bytes.now
-    turn-room = let room = f.room in let fewer = rows_fewer rest rest_some in omega arith
+    turn-room = let room = f.room in let fewer = rows_fewer rest some in omega arith
 
-    -- the part of the script that is lent has its first group
-    abbrev part : List ℕ
-    part = take (length script - at) (drop at script)
-
-    pub part_few : length (rows_of part) ≤ max_lines
-    part_few = let same = ap (λ s. length (rows_of s)) (rest_all script at) in let few = f.few in omega arith
-
-    -- what the group is answered, the book that it leads to, and where the next one begins
-    module _ (a : Answer) (next : Book) (consumed : ℕ) (answered : Answers b (first_group part) a next) (taken : consumed ≡ group_bytes part) where
+    -- what the group is answered, the book that it leads to, and how many bytes it takes
+    module _ (a : Answer) (next : Book) (consumed : ℕ) (answered : Answers b (first_group rest) a next) (taken : consumed ≡ group_bytes rest) where
       as-group : ◌≡◌ {A = Answered} (record { answer = a; book = next }) (outcome_of_group b (first_group rest))
-      as-group = answered ∙ ap (λ s. outcome_of_group b (first_group s)) (rest_all script at)
+      as-group = answered
 
-      consumed-is : consumed ≡ group_bytes rest
-      consumed-is = taken ∙ ap group_bytes (rest_all script at)
-
-      pub turn_some : 1 ≤ consumed
+      turn_some : 1 ≤ consumed
       unfolding group_bytes
-      turn_some = let all = consumed-is in let own = consumed_some rest rest_some in omega arith
+      turn_some = let own = consumed_some rest some in omega (arith, taken)
 
-      pub turn_within : at + consumed ≤ length script
-      turn_within = let all = consumed-is in let fits = group_fits rest rest_some in let left = length-drop at script in omega arith
+      pub turn_within : consumed ≤ length rest
+      turn_within = let fits = group_fits rest some in omega (arith, taken)
 
       turn-fits : Writable (answer_in a)
       turn-fits = subst (λ y. Writable (answer_in y.answer)) (sym as-group) (group_writable b f.reachable (first_group rest))
@@ -161,38 +148,44 @@ module _ (script : List ℕ) (first : Book) (from : ℕ) (before after : Output)
       pub turn_writable : HasRoom after text
       turn_writable = let room = turn-room in let short = turn-fits.short in omega arith
 
-      abbrev at₁ : ℕ
-      at₁ = at + consumed
+      -- the part of the script that is left then
+      abbrev part : List ℕ
+      part = take (length rest - consumed) (drop consumed rest)
 
-      place-next : drop at₁ script ≡ drop (group_bytes rest) rest
-      place-next = sym (drop-drop consumed at script) ∙ ap (λ n. drop n rest) consumed-is
+      part-is : part ≡ drop (group_bytes rest) rest
+      part-is = rest_all rest consumed ∙ ap (λ n. drop n rest) taken
 
-      pub group_more : (last : Output) → Wrote after last text → AnswersSoFar script first from before last next at₁
+      pub turn_smaller : length part < length rest
+      turn_smaller =
+          let some = turn_some in
+          let within = turn_within in
+          let size = ap length (rest_all rest consumed) ∙ length-drop consumed rest in
+          omega arith
+
+      pub group_more : (last : Output) → Wrote after last text → AnswersSoFar all first before last next part
       group_more last wrote =
           let short = turn-fits.short in
-          let fewer = rows_fewer rest rest_some in
-          let same_rows = ap (λ s. length (rows_of s)) place-next in
+          let fewer = rows_fewer rest some in
+          let same_rows = ap (λ s. length (rows_of s)) part-is in
           let room = f.room in
           let few = f.few in
           let ends = wrote.2 in
           let same = same_length after last text wrote in
           record {
             reachable = subst (λ y. Reachable y.book) (sym as-group) (group_reachable b f.reachable (first_group rest));
-            in_script = turn_within;
             few = omega arith;
             room = omega arith;
             done = f.done ++ text;
             wrote = wrote_both before after f.done f.wrote last text wrote;
             left =
-                append_assoc f.done text (text_from next (drop at₁ script))
-                ∙ ap (λ later. f.done ++ later)
-                ((λ i. text_of (answer_in (as-group i).answer) ++ text_from (as-group i).book (place-next i)) ∙ sym (text_more b rest rest_some))
+                append_assoc f.done text (text_from next part)
+                ∙ ap (λ later. f.done ++ later) ((λ i. text_of (answer_in (as-group i).answer) ++ text_from (as-group i).book (part-is i)) ∙ sym (text_more b rest some))
                 ∙ f.left;
           }
 
   -- where no bytes are left all groups are answered
-  pub all_answered : length script ≤ at → Wrote before after (text_from first (drop from script))
+  pub all_answered : length rest ≡ 0 → Wrote before after (text_from first all)
   all_answered gone =
       wrote_as before after _ _
-      (sym (append-nil f.done) ∙ ap (λ later. f.done ++ later) (sym (ap (text_from b) (drop_of_length-le script gone) ∙ text_none b)) ∙ f.left)
+      (sym (append-nil f.done) ∙ ap (λ later. f.done ++ later) (sym (ap (text_from b) (nothing rest gone) ∙ text_none b)) ∙ f.left)
       f.wrote

@@ -33,7 +33,7 @@ use Rattle.groups.specs.Groups.{groups_of, book_readable, opening_of_rows, call_
 use Rattle.script.specs.Answers.{answers_to, answers_after, script_answers, text_of, texts_of}
 use Rattle.script.specs.GroupTexts.{answers_of, text_from}
 use Rattle.book_group.specs.BookGroup.{book_group_with, book_group_of, group_answer}
-use Rattle.script.specs.Run.{too_long, too_short, answers_text, written, run_refusal, run_number, output_after}
+use Rattle.script.specs.Run.{too_long, too_short, answers_text, written, run_refusal, output_after}
 use Rattle.script.proofs.GroupTextLaws.{groups_answered}
 use Rattle.book_group.proofs.BookGroupLaws.{group_rows, group_opens}
 
@@ -93,16 +93,20 @@ either : (a b : Bool) → b ≡ true → (a || b) ≡ true
 either true b e = refl
 either false b e = e
 
-module _ (script out : List ℕ) where
-  long : too_long script ≡ true → (1000000 ≡ run_number script out) × (out ≡ output_after script out)
-  unfolding run_number run_refusal output_after written
-  long e = rw e (refl, refl)
+-- a run that is refused so, and writes so much into such a buffer
+abbrev Ran : List ℕ → List ℕ → ℕ → ℕ → List ℕ → Type 0
+Ran script out refusal n out₁ = (refusal ≡ run_refusal script out) × (n ≡ length (written script out)) × (out₁ ≡ output_after script out)
 
-  pub long_bytes : max_bytes < length script → (1000000 ≡ run_number script out) × (out ≡ output_after script out)
+module _ (script out : List ℕ) where
+  long : too_long script ≡ true → Ran script out 1 0 out
+  unfolding run_refusal output_after written
+  long e = rw e (refl, refl, refl)
+
+  pub long_bytes : max_bytes < length script → Ran script out 1 0 out
   unfolding too_long
   long_bytes l = long (rw (lt-ltb max_bytes (length script) l))
 
-  pub long_lines : max_lines < length (lines_of script) → (1000000 ≡ run_number script out) × (out ≡ output_after script out)
+  pub long_lines : max_lines < length (lines_of script) → Ran script out 1 0 out
   unfolding too_long
   long_lines l = long (either (ltb max_bytes (length script)) (ltb max_lines (length (lines_of script))) (lt-ltb max_lines (length (lines_of script)) l))
 
@@ -111,20 +115,20 @@ module _ (script out : List ℕ) where
     unfolding too_long
     not-long = rw (le-ltb max_bytes (length script) bytes) (le-ltb max_lines (length (lines_of script)) lines)
 
-    pub short_output : length out < 16 * length (lines_of script) → (15000000 ≡ run_number script out) × (out ≡ output_after script out)
-    unfolding run_number run_refusal output_after written too_short
-    short_output l = rw not-long (rw (lt-ltb (length out) (16 * length (lines_of script)) l) (refl, refl))
+    pub short_output : length out < 16 * length (lines_of script) → Ran script out 15 0 out
+    unfolding run_refusal output_after written too_short
+    short_output l = rw not-long (rw (lt-ltb (length out) (16 * length (lines_of script)) l) (refl, refl, refl))
 
-    pub a_run : 16 * length (lines_of script) ≤ length out → (number : ℕ) (out₁ : List ℕ) → number ≡ length (answers_text script) → out₁ ≡ written_at out 0 (answers_text script) → (number ≡ run_number script out) × (out₁ ≡ output_after script out)
-    unfolding run_number run_refusal output_after written too_short
-    a_run room number out₁ n o = rw not-long (rw (le-ltb (length out) (16 * length (lines_of script)) room) (let same = n in omega arith, o ∙ from_start out (answers_text script)))
+    pub a_run : 16 * length (lines_of script) ≤ length out → (n : ℕ) (out₁ : List ℕ) → n ≡ length (answers_text script) → out₁ ≡ written_at out 0 (answers_text script) → Ran script out 0 n out₁
+    unfolding run_refusal output_after written too_short
+    a_run room n out₁ e o = rw not-long (rw (le-ltb (length out) (16 * length (lines_of script)) room) (refl, e, o ∙ from_start out (answers_text script)))
 
 no_answers : answers_text [] ≡ []
 unfolding answers_text rows_of lines_of script_answers texts_of
 no_answers = refl
 
 -- an empty script writes nothing
-pub no_bytes : (script out : List ℕ) → length script ≡ 0 → (0 ≡ run_number script out) × (out ≡ output_after script out)
+pub no_bytes : (script out : List ℕ) → length script ≡ 0 → Ran script out 0 0 out
 unfolding lines_of
 no_bytes [] out e = a_run [] out zero-le zero-le zero-le 0 out (sym (ap length no_answers)) (sym (from_start out (answers_text []) ∙ ap (λ text. text ++ drop (length text) out) no_answers))
 no_bytes (b ∷ script) out e = absurd (let z : ⊥ = omega arith in z)

@@ -1,11 +1,11 @@
 -- A script that is answered: its book group first, then what is left of it. Assumes nothing.
-use Prim.Native.Nat.{ℕ, ◌+◌, ◌≤◌}
+use Prim.Native.Nat.{ℕ, ◌+◌, ◌-◌, ◌≤◌}
 use mathlib.Core.Path.{◌≡◌, sym, ap, ◌∙◌, subst}
 use mathlib.Core.Bool.{Bool, true, false, cond}
 use mathlib.Core.List.{List, ◌++◌}
 use native.Mathlib.Nat.{le_trans, le_of_eq}
 use native.Mathlib.Omega.{arith}
-use lib.ListN.{length, drop}
+use lib.ListN.{length, take, drop}
 use Rattle.std.specs.Prelude.{Ok, Err}
 use Rattle.records.specs.Answers.{Answer, answer_in}
 use Rattle.records.specs.Opening.{kept_opening}
@@ -24,6 +24,7 @@ use Rattle.lines.specs.Reading.{next_row}
 use Rattle.lines.specs.declared.output.Output.{Output}
 use Rattle.lines.specs.Writing.{HasRoom, Wrote}
 use Rattle.counted_lines.proofs.RowSteps.{first_row_lem}
+use Rattle.lines.proofs.FieldLaws.{rest_all}
 use Rattle.lines.proofs.WritingLaws.{same_length, wrote_both, wrote_as}
 use Rattle.book_group.specs.declared.book_group.BookGroup.{BookGroup}
 use Rattle.groups.specs.Groups.{book_readable, opening_of_rows, call_rows}
@@ -55,8 +56,12 @@ group_writable script = go (book_readable first left) (legal (opening_of_rows fi
     go false u = refused_writable 1
 
 module _ (script : List ℕ) (out : Output) (some : 1 ≤ length script) (few : length (rows_of script) ≤ max_lines) (room : HasRoomForLines out (length (rows_of script))) (x : BookGroup) (is : x ≡ book_group_of script) where
+  -- the part of the script that is left
   abbrev rest : List ℕ
-  rest = drop x.consumed script
+  rest = take (length script - x.consumed) (drop x.consumed script)
+
+  rest-is : rest ≡ drop (book_group_of script).consumed script
+  rest-is = rest_all script x.consumed ∙ ap (λ y. drop y.consumed script) is
 
   -- the script has a row, so there is room for an answer
   first-room : out.length + 16 ≤ length out.bytes.now
@@ -76,7 +81,7 @@ module _ (script : List ℕ) (out : Output) (some : 1 ≤ length script) (few : 
   rows_left =
       let head = (next_row script).row in
       let rows = rows_of (drop (next_row script).consumed script) in
-      let place = ap (λ y. length (rows_of (drop y.consumed script))) is in
+      let place = ap (λ s. length (rows_of s)) rest-is in
       let after = ap length (group_rows script) in
       let shorter = drop_shorter (book_line_count head rows) rows in
       let all = ap length (first_row_lem script some) in
@@ -118,5 +123,5 @@ module _ (script : List ℕ) (out : Output) (some : 1 ≤ length script) (few : 
       pub gone_on : (last : Output) → Wrote first last later → Wrote out last (answers_text script)
       gone_on last ended =
           wrote_as out last _ _
-          (sym (run_continues script some kept of_script ∙ ap (λ y. text ++ text_from (book_of kept empty_ledger) (drop y.consumed script)) (sym is)))
+          (sym (run_continues script some kept of_script ∙ ap (λ s. text ++ text_from (book_of kept empty_ledger) s) (sym rest-is)))
           (wrote_both out first text wrote last later ended)

@@ -3,8 +3,9 @@ ghost use Rattle.std.specs.Prelude.{◌≡◌, ◌≤◌, length};
 ghost use Rattle.lines.specs.Rows.{rows_of};
 ghost use Rattle.lines.specs.Writing.{Wrote};
 ghost use Rattle.script.specs.Writing.{HasRoomForLines};
-ghost use Rattle.script.specs.Run.{answers_text, run_number, output_after};
-ghost use Rattle.lines.specs.Text.{max_lines, max_bytes};
+ghost use Rattle.records.specs.Refusals.{refused_by};
+ghost use Rattle.script.specs.Run.{answers_text, written, written_length, run_refusal, run_number, output_after};
+ghost use Rattle.lines.specs.Text.{max_lines};
 
 use crate::answers::write_answer;
 use crate::run_groups::run_groups;
@@ -16,14 +17,9 @@ use records::refusal::Refusal;
 // The refusal of a whole run is given in these units, so that a length fits below.
 pub const REFUSAL_UNIT: u64 = 1_000_000;
 
-const SCRIPT_TOO_LONG_RESULT: u64 = Refusal::Unreadable as u64 * REFUSAL_UNIT;
-
-const OUTPUT_TOO_SHORT_RESULT: u64 = Refusal::OutputTooShort as u64 * REFUSAL_UNIT;
-
 // Answers a script that is neither too long for a run nor too long for the buffer. A refused book group ends the run.
 fn answer_script(script: &[u8], out: &mut Output)
     requires some { 1 ≤ length script.now }
-    requires short { length script.now ≤ max_bytes }
     requires few { length (rows_of script.now) ≤ max_lines }
     requires room { HasRoomForLines out.old (length (rows_of script.now)) }
     ensures { Wrote out.old out.new (answers_text script.now) }
@@ -33,30 +29,44 @@ fn answer_script(script: &[u8], out: &mut Output)
         Err(refusal) => write_answer(out, Err(refusal)),
         Ok(opening) => {
             write_answer(out, Ok(None));
-            run_groups(script, group.consumed, &opening, out);
+            run_groups(&script[group.consumed..], &opening, out);
         }
     }
 }
 
-// Runs a script: the refusal, 0 for a run, times 1,000,000, plus the written length. Nothing is asked of the two slices.
+// Runs a script: the written length, or the refusal of the whole run, which writes nothing. Nothing is asked of the two slices.
+pub fn run_script(script: &[u8], out: &mut [u8]) -> Result<usize, Refusal>
+    ensures refused { refused_by result ≡ run_refusal script.now out.old }
+    ensures written { written_length result ≡ length (written script.now out.old) }
+    ensures within { written_length result ≤ length out.old }
+    ensures output { out.new ≡ output_after script.now out.old }
+{
+    if MAX_BYTES < script.len() {
+        return Err(Refusal::Unreadable);
+    }
+    let lines = count_lines(script);
+    if (MAX_LINES as u64) < lines {
+        return Err(Refusal::Unreadable);
+    }
+    if (out.len() as u64) < BYTES_PER_LINE * lines {
+        return Err(Refusal::OutputTooShort);
+    }
+    if script.is_empty() {
+        return Ok(0);
+    }
+    let mut output = Output::new(out);
+    answer_script(script, &mut output);
+    Ok(output.length)
+}
+
+// The same as the one number that a host gets: the refusal, 0 for a run, times 1,000,000, plus the written length.
+#[tactic(auto, unfolding(crate::specs::Run::run_number))]
 pub fn run(script: &[u8], out: &mut [u8]) -> u64
     ensures number { result ≡ run_number script.now out.old }
     ensures output { out.new ≡ output_after script.now out.old }
 {
-    if MAX_BYTES < script.len() {
-        return SCRIPT_TOO_LONG_RESULT;
+    match run_script(script, out) {
+        Ok(length) => length as u64,
+        Err(refusal) => refusal.number() * REFUSAL_UNIT,
     }
-    let lines = count_lines(script);
-    if (MAX_LINES as u64) < lines {
-        return SCRIPT_TOO_LONG_RESULT;
-    }
-    if (out.len() as u64) < BYTES_PER_LINE * lines {
-        return OUTPUT_TOO_SHORT_RESULT;
-    }
-    if script.len() == 0 {
-        return 0;
-    }
-    let mut output = Output::new(out);
-    answer_script(script, &mut output);
-    output.length as u64
 }

@@ -4,7 +4,7 @@
 
 use input::read::read_into;
 use lines::text::{BYTES_PER_LINE, MAX_BYTES, MAX_LINES};
-use script::run::{REFUSAL_UNIT, run};
+use script::run::run_script;
 use std::io;
 
 // One byte more than a script may have shows that there are too many.
@@ -22,12 +22,9 @@ fn write_answers(rt: &(impl Print + Eprint), answers: &[u8]) -> io::Result<()> {
 // Answers a script.
 fn answer(rt: &(impl Print + Eprint), script: &[u8]) -> io::Result<()> {
     let mut out = [0u8; OUTPUT_ROOM];
-    let number = run(script, &mut out);
-    if number < REFUSAL_UNIT {
-        let length = out.len().min(number as usize);
-        write_answers(rt, &out[..length])
-    } else {
-        write_answers(rt, b"no,01\n")
+    match run_script(script, &mut out) {
+        Ok(length) => write_answers(rt, &out[..length]),
+        Err(_) => write_answers(rt, b"no,01\n"),
     }
 }
 

@@ -16,3 +16,4 @@ pub mod Figures
 pub mod CalendarLaws
 pub mod PostedLaws
 pub mod Places
+pub mod TierCallLaws

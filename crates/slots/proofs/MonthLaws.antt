@@ -1,17 +1,17 @@
 -- kW added month by month: the array that three additions leave, and what it then shows. Assumes nothing.
-use Prim.Native.Nat.{ℕ, ◌+◌, ◌≤◌, ◌<◌}
-use mathlib.Core.Path.{◌≡◌, refl, ap, ◌∙◌, subst}
+use Prim.Native.Nat.{ℕ, zero, suc, ◌+◌, ◌-◌, ◌≤◌, ◌<◌}
+use mathlib.Core.Path.{◌≡◌, refl, sym, ap, ◌∙◌, subst}
 use mathlib.Core.Bool.{Bool, true, false, ◌&&◌}
 use mathlib.Core.List.{List, ◌∷◌, ◌++◌}
 use mathlib.Core.Logic.{◌⊎◌, inl, inr}
 use native.Mathlib.Omega.{arith}
-use native.Mathlib.Nat.{add-zero, le_trans, le_of_eq}
+use native.Mathlib.Nat.{add-zero}
 use lib.Dec.{eqb}
 use borrow.Author.Tests.{eqb-true, eqb-false, eq-eqb, ne_eqb}
 use Rattle.tariff.specs.Sum.{when_true}
 use Rattle.tariff.specs.Sizes.{last_month}
 use Rattle.tariff.specs.Terms.{has_month}
-use Rattle.tariff.proofs.Sums.{when_is_false, when_le}
+use Rattle.tariff.proofs.Sums.{when_is_false}
 use Rattle.tariff.proofs.Tests.{decided, and_right_false}
 use Rattle.ledger.specs.Effects.{same2, same3, plus_at3, plus_in_term}
 use Rattle.slots.specs.Cells.{added_at, Shows}
@@ -20,22 +20,20 @@ use Rattle.slots.specs.Layout.{figure_slots}
 use Rattle.slots.specs.Months.{added_in_term}
 use Rattle.slots.proofs.StoreLaws.{slot_added}
 
--- an amount that is added where a test passes is no more than it is
-pub amount_le : (v w kw : ℕ) (t : Bool) → v ≡ when_true t w → w ≡ kw → v ≤ kw
-amount_le v w kw t e q = le_trans (le_of_eq e) (le_trans (when_le t w) (le_of_eq q))
+-- the array after the additions of so many months
+unfoldable pub added_before : List ℕ → (h p from term kw : ℕ) → ℕ → List ℕ
+added_before f h p from term kw zero = f
+added_before f h p from term kw (suc n) = added_at figure_slots (added_before f h p from term kw n) h p (from + n) (when_true (has_month term (suc n)) kw)
 
--- the test, as the ledger has it
-pub amount_is : (v kw : ℕ) (t test : Bool) → v ≡ when_true t kw → t ≡ test → v ≡ when_true test kw
-amount_is v kw t test e q = e ∙ ap (λ u. when_true u kw) q
+pub added_next : (f now next : List ℕ) (h p from term kw month n v : ℕ) {test : Bool} → n ≡ month - 1 → month ≡ suc n → now ≡ added_before f h p from term kw n → test ≡ has_month term month → v ≡ when_true test kw → next ≡ added_at figure_slots now h p (from + (month - 1)) v → next ≡ added_before f h p from term kw (suc n)
+unfolding added_before
+added_next f now next h p from term kw month n v past is so_far test entering e =
+    e ∙ (λ i. added_at figure_slots (so_far i) h p (from + sym past i) ((entering ∙ (λ j. when_true ((test ∙ ap (has_month term) is) j) kw)) i))
 
--- the array after three additions
-pub months_added : (f one two three : List ℕ) (h p from term kw a b c : ℕ) → a ≡ when_true (has_month term 1) kw → b ≡ when_true (has_month term 2) kw → c ≡ when_true (has_month term 3) kw → one ≡ added_at figure_slots f h p from a → two ≡ added_at figure_slots one h p (from + 1) b → three ≡ added_at figure_slots two h p (from + 2) c → three ≡ added_in_term f h p from term kw
-unfolding added_in_term
-months_added f one two three h p from term kw a b c ea eb ec e1 e2 e3 =
-    e3
-    ∙ (λ i. added_at figure_slots (e2 i) h p (from + 2) (ec i))
-    ∙ (λ i. added_at figure_slots (added_at figure_slots (e1 i) h p (from + 1) (eb i)) h p (from + 2) (when_true (has_month term 3) kw))
-    ∙ (λ i. added_at figure_slots (added_at figure_slots (added_at figure_slots f h p from (ea i)) h p (from + 1) (when_true (has_month term 2) kw)) h p (from + 2) (when_true (has_month term 3) kw))
+-- .. and after those of all three
+pub months_added : (f : List ℕ) (h p from term kw : ℕ) → added_before f h p from term kw 3 ≡ added_in_term f h p from term kw
+unfolding added_before added_in_term
+months_added f h p from term kw = ap (λ k. added_at figure_slots (added_at figure_slots (added_at figure_slots f h p k (when_true (has_month term 1) kw)) h p (from + 1) (when_true (has_month term 2) kw)) h p (from + 2) (when_true (has_month term 3) kw)) (add-zero from)
 
 -- an amount for one month, in that month and in another
 this_month : (h p m kw x y n : ℕ) (t : Bool) → n ≡ m → when_true (same3 h p m x y n) (when_true t kw) ≡ when_true (same2 h p x y && t) kw

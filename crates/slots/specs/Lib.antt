@@ -6,3 +6,4 @@ pub mod Layout
 pub mod Months
 pub mod Sums
 pub mod Steps
+pub mod TierCall

@@ -3,7 +3,7 @@ ghost use Rattle.std.specs.Prelude.{◌≡◌, true, false, ◌+◌, ◌*◌, �
 ghost use Rattle.slots.specs.Cells.{rows, HasCell, IsCell, read_at, look_at, stored_at, added_at, cleared_to};
 ghost use Rattle.slots.specs.Layout.{figure_slots, posted_slots};
 
-use crate::layout::{FIGURE_SLOTS, Figures, POSTED_SLOTS, Postings, ROWS};
+use crate::layout::{FIGURE_SLOTS, Figures, LAST_CLOSED_AT, POSTED_SLOTS, Postings};
 use tariff::sizes::{MAX_HOLDERS, MAX_PLACES};
 
 // The cell of a holder, a place and a slot.
@@ -63,13 +63,13 @@ pub fn set_posted(posted: &mut Postings, h: u64, p: u64, slot: u64)
     posted[cell(POSTED_SLOTS, h, p, slot)] = true;
 }
 
-// A slot of the figures put to 0 for every holder at every place.
+// A slot of the figures put to 0 for every holder at every place. The rows end where the tier last closed stands.
 #[tactic(auto, unfolding(crate::specs::Cells::cleared_to))]
 pub fn clear(f: &mut Figures, slot: u64)
     requires { slot < figure_slots }
     ensures { f.new ≡ cleared_to figure_slots slot f.old rows }
 {
-    for row in 0..ROWS {
-        f[(row * FIGURE_SLOTS + slot) as usize] = 0;
+    for at in (slot as usize..LAST_CLOSED_AT).step_by(FIGURE_SLOTS as usize) {
+        f[at] = 0;
     }
 }

@@ -7,3 +7,4 @@ pub mod coverage;
 pub mod layout;
 pub mod months;
 pub mod sums;
+pub mod tier_call;

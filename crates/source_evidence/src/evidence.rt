@@ -4,8 +4,9 @@ ghost use Rattle.std.specs.Prelude.{◌+◌, ◌^◌, ◌<◌, ◌≡◌};
 use tariff::sizes::{FULL_OWNERSHIP, LAST_MONTH};
 
 // What a holder has shown: nothing, a part of a plant, or a contract.
-#[derive(Clone, Copy)]
+#[derive(Clone, Copy, Default)]
 pub enum Evidence {
+    #[default]
     Empty,
     // The plant's capacity in kW, and the owned part of it in ten-thousandths.
     Ownership { capacity: u32, right: u16 },
@@ -31,8 +32,8 @@ impl Evidence {
     }
 }
 
-// Evidence beside the first and the last month in which it holds, and whether it is marked as running for ten years.
-#[derive(Clone, Copy)]
+// Evidence beside the first and the last month in which it holds, and whether it is marked as running for ten years. The default is an entry that nothing was filed in.
+#[derive(Clone, Copy, Default)]
 pub struct Entry {
     pub evidence: Evidence,
     pub first: u8,
@@ -42,14 +43,6 @@ pub struct Entry {
 
 impl Entry {
     ghost use Rattle.source_evidence.specs.Evidence.{counts_for, entry_kw, is_ten_year};
-
-    // An entry that nothing was filed in.
-    pub const EMPTY: Entry = Entry {
-        evidence: Evidence::Empty,
-        first: 0,
-        last: 0,
-        ten_year: false,
-    };
 
     // Whether the entry counts for a term.
     #[tactic(auto, unfolding(crate::specs::Evidence::counts_for))]

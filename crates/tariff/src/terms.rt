@@ -26,7 +26,7 @@ pub fn term_of(tier: u64) -> u64
 pub fn has_month(term: u64, month: u64) -> bool
     ensures { result ≡ has_month term month }
 {
-    ((1 <= month) & (month <= LAST_MONTH)) & ((term == 0) | (term == month))
+    (1..=LAST_MONTH).contains(&month) && (term == 0 || term == month)
 }
 
 // What an award of kw adds to the holding of a month of its tier's term: nothing in the Long Term step.

@@ -83,17 +83,24 @@ fn limit_sums(o: &KeptOpening, f: &Figures, tier: u64, h: u64, base: u64) -> Sum
         carried: CARRIED_SLOT + (month - 1),
         before: AWARDS_SLOT + last,
     };
-    let sums = sum_paths(o, f, h, base, slots);
+    let PathSums {
+        carried,
+        prior,
+        tier1,
+        tier2,
+        tier3,
+        before,
+    } = sum_paths(o, f, h, base, slots);
     let ten_year_kw = ten_year_in(o, f, tier, h);
     let obaalse = o.is_obaalse(h);
     Sums {
         load,
-        carried: sums.carried,
-        prior: sums.prior,
-        tier1: sums.tier1,
-        tier2: sums.tier2,
-        tier3: sums.tier3,
-        before: sums.before,
+        carried,
+        prior,
+        tier1,
+        tier2,
+        tier3,
+        before,
         ten_year_kw,
         obaalse,
     }

@@ -1,38 +1,32 @@
-// The script of a vector, built up line by line in an array.
-ghost use Rattle.std.specs.Prelude.{◌≤◌};
-ghost use Rattle.vectors.specs.declared.script_text.TheConstants.{ROOM};
-
+// The script of a vector, built up line by line in a vector of fixed capacity.
 use crate::reading::number_of;
+use arrayvec::ArrayVec;
 
 // The bytes that a script is built up in.
 const ROOM: usize = 65_600;
 
-// The bytes of an array that are filled so far.
+// The script so far.
 #[derive(Drop)]
 pub struct ScriptText {
-    bytes: [u8; ROOM],
-    filled: usize,
-    ghost within: { filled ≤ ROOM },
+    bytes: ArrayVec<u8, ROOM>,
 }
 
 impl ScriptText {
     pub fn empty() -> ScriptText {
         ScriptText {
-            bytes: [0; ROOM],
-            filled: 0,
+            bytes: ArrayVec::new(),
         }
     }
 
     pub fn as_slice(&self) -> &[u8] {
-        &self.bytes[..self.filled]
+        self.bytes.as_slice()
     }
 
     // Puts bytes after those so far, as many as find room.
     pub fn append(&mut self, bytes: &[u8]) {
-        let count = bytes.len().min(ROOM - self.filled);
-        let end = self.filled + count;
-        self.bytes[self.filled..end].copy_from_slice(&bytes[..count]);
-        self.filled = end;
+        let count = bytes.len().min(self.bytes.remaining_capacity());
+        // So many fit, and none are refused.
+        let _ = self.bytes.try_extend_from_slice(&bytes[..count]);
     }
 
     // What `N LINE` asks for: so many copies of a line, which starts after the blank that follows the number.
@@ -48,6 +42,6 @@ impl ScriptText {
 
     // Takes so many bytes off the end, all of them where there are fewer.
     pub fn cut(&mut self, count: usize) {
-        self.filled = self.filled.saturating_sub(count);
+        self.bytes.truncate(self.bytes.len().saturating_sub(count));
     }
 }

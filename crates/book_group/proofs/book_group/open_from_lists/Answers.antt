@@ -6,4 +6,4 @@ use borrow.Author.Rules.{rules}
 use Rattle.book_group.proofs.book_group.open_from_lists.Goals as goal
 
 pub returns : goal.returns
-returns c = c.open.ensures ∙ ap opened (lent_opening c.args.head c.args.lists (search rules) (search rules) (search rules) _ _ _ c.lent_length-holders.ensures c.lent_length-sinks.ensures c.lent_length-paths.ensures)
+returns c = c.open.ensures ∙ ap opened (lent_opening c.args.head c.args.lists (search rules) (search rules) (search rules) _ _ _ c.lent_length.ensures c.lent_length-2.ensures c.lent_length-3.ensures)

@@ -1,9 +1,14 @@
 -- `counted_lines::book_lines::read_book_lines` meets its contract: each kind of lines is read where those before it end, and the set line after them. Assumes nothing.
-use borrow.Author.Rules.{rules}
+use Rattle.std.proofs.Common.{◌≡◌, List, ◌∙◌, ap, replicate, rules}
+use Rattle.counted_lines.specs.Counted.{with_lines}
 use Rattle.counted_lines.proofs.LineBytes.{here_within}
 use Rattle.counted_lines.proofs.BookLines.{consumed_is, at_paths, at_set, end_within, lists_if, lines_read}
 use Rattle.counted_lines.proofs.book_lines.read_book_lines.Goals as goal
 use Rattle.counted_lines.proofs.book_lines.read_book_lines.Goals.{in-Some, in_default-2, in_default}
+
+-- lines put over defaults
+kept_over : {A : Type 0} {none other : A} {kept : List A} (lines : List A) → none ≡ other → kept ≡ with_lines lines (replicate 16 none) → kept ≡ with_lines lines (replicate 16 other)
+kept_over lines same kept = kept ∙ ap (λ x. with_lines lines (replicate 16 x)) same
 
 pub slice_bounds-read_counted-count : goal.slice_bounds-read_counted-count
 slice_bounds-read_counted-count c = here_within _ _ _ (consumed_is _ _ _ _ c.read_counted-holders.ensures.counted)
@@ -35,7 +40,7 @@ overflow_add-result c = let long = c.well_formed.0.0 in let within = end_within 
 pub returns : goal.returns
 unfolding lists_if
 returns c =
-    lines_read _ c.args.head _ _ c.read_counted-holders.ensures.counted c.read_counted-sinks.ensures.counted _ c.read_counted-paths.ensures.counted _ c.read_set_line-set.ensures _ _ _ c.read_counted-holders.ensures.kept c.read_counted-sinks.ensures.kept c.read_counted-paths.ensures.kept _
+    lines_read _ c.args.head _ _ c.read_counted-holders.ensures.counted c.read_counted-sinks.ensures.counted _ c.read_counted-paths.ensures.counted _ c.read_set_line-set.ensures _ _ _ c.read_counted-holders.ensures.kept (kept_over _ (search rules) c.read_counted-sinks.ensures.kept) (kept_over _ (search rules) c.read_counted-paths.ensures.kept) _
     (elim c.match-set.branch [
       | in-Some w ↦ rw w.in-Some.is (rw w.if-holders-sinks.true w.lists-is)
       | in_default-2 w ↦ rw w.in-Some.is (rw w.if-holders-sinks.false w.lists-is)

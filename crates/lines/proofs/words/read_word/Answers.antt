@@ -17,7 +17,7 @@ pub returns-then-not-is_ascii_lowercase : goal.returns-then-not-is_ascii_lowerca
 unfolding is_letter within
 returns-then-not-is_ascii_lowercase c =
     let reached = below_limit _ _ _ (omega arith) c.loop-i-test.true in
-    let part = get_or-take c.reading_limit-limit.result c.args.rest.now c.loop-i.i 0 reached in
+    let part = get_or-take c.min-limit.result c.args.rest.now c.loop-i.i 0 reached in
     letters_stop _ _ _ c.loop-i.invariant.4 (ap is_letter (sym part) ∙ sym c.if-not-is_ascii_lowercase.ensures.value) (omega arith) (omega arith)
 
 pub overflow_mul-key : goal.overflow_mul-key
@@ -26,8 +26,8 @@ overflow_mul-key c =
     let room = key_room _ _ c.loop-i.invariant.3 (omega arith) in
     omega (arith, room)
 
-pub overflow_add-key : goal.overflow_add-key
-overflow_add-key c =
+pub overflow_add-key-in-loop-i : goal.overflow_add-key-in-loop-i
+overflow_add-key-in-loop-i c =
     let reached = below_limit _ _ _ (omega arith) c.loop-i-test.true in
     let room = key_room _ _ c.loop-i.invariant.3 (omega arith) in
     omega (arith, room)
@@ -36,7 +36,7 @@ pub loop-i-preserved : goal.loop-i-preserved
 unfolding is_letter within
 loop-i-preserved c =
     let reached = below_limit _ _ _ (omega arith) c.loop-i-test.true in
-    let part = get_or-take c.reading_limit-limit.result c.args.rest.now c.loop-i.i 0 reached in
+    let part = get_or-take c.min-limit.result c.args.rest.now c.loop-i.i 0 reached in
     rw part (
       omega arith,
       c.loop-i.invariant.1,
@@ -47,6 +47,6 @@ loop-i-preserved c =
 
 pub returns : goal.returns
 returns c =
-    let all = length-take-le c.reading_limit-limit.result c.args.rest.now (omega arith) in
-    let done : c.loop-i.i ≡ c.reading_limit-limit.result = omega arith in
-    ap (λ end. record { value = c.loop-i.key; end = end }) (sym done) ∙ letters_end _ _ _ c.loop-i.invariant.4 (omega (arith, c.reading_limit-limit.ensures.value))
+    let all = length-take-le c.min-limit.result c.args.rest.now (omega arith) in
+    let done : c.loop-i.i ≡ c.min-limit.result = omega arith in
+    ap (λ end. record { value = c.loop-i.key; end = end }) (sym done) ∙ letters_end _ _ _ c.loop-i.invariant.4 (omega arith)

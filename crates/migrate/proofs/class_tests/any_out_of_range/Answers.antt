@@ -4,5 +4,4 @@ use Rattle.netting.specs.ClassRanges.{class_line_out_of_range}
 use Rattle.migrate.proofs.class_tests.any_out_of_range.Goals as goal
 
 pub returns : goal.returns
-unfolding class_line_out_of_range
 returns c = c.any.ensures (class_line_out_of_range) (λ line r called. search rules)

@@ -1,28 +1,29 @@
 -- `slots::months::add_in_term` meets its contract: each month's slot has room, and the three additions are the term's. Assumes nothing.
-use Prim.Native.Nat.{◌+◌, ◌<◌}
-use mathlib.Core.Path.{refl}
+use Prim.Native.Nat.{suc, ◌-◌}
+use mathlib.Core.Path.{◌≡◌, refl, ap, ◌∙◌}
+use native.Mathlib.Nat.{add-zero, le_trans, le_of_eq}
 use native.Mathlib.Omega.{arith}
+use Rattle.tariff.proofs.Sums.{when_le}
 use Rattle.slots.proofs.RoomLaws.{room_now, room_next}
-use Rattle.slots.proofs.MonthLaws.{amount_le, amount_is, months_added}
+use Rattle.slots.proofs.MonthLaws.{added_before, added_next, months_added}
 use Rattle.slots.proofs.months.add_in_term.Goals as goal
 
+pub loop-month-init : goal.loop-month-init
+unfolding added_before
+loop-month-init c = (0, refl, refl, rw (add-zero c.args.from) c.requires)
+
 pub add-requires : goal.add-requires
-add-requires c = room_now _ _ _ _ _ _ _ c.requires (omega arith) (amount_le _ _ _ _ c.when_true.ensures refl)
+add-requires c =
+    let i = c.loop-month.invariant in
+    let past : i.0 ≡ c.loop-month.month - 1 = (let m = i.1 in omega arith) in
+    room_now _ _ _ _ _ _ _ (rw past at i.3) (let m = i.1 in omega arith) (le_trans (le_of_eq c.when_true-entering.ensures) (when_le _ _))
 
-pub add-requires-2 : goal.add-requires-2
-add-requires-2 c = room_now _ _ _ _ _ _ _ (room_next _ _ _ _ _ _ _ _ _ c.requires (omega arith) (omega arith) c.add.ensures) (omega arith) (amount_le _ _ _ _ c.when_true-2.ensures refl)
-
-pub add-requires-3 : goal.add-requires-3
-add-requires-3 c =
-    let second = room_next _ _ _ _ _ _ _ _ _ c.requires (omega arith) (let e : c.args.from < c.args.from + 1 = omega arith in e) c.add.ensures in
-    room_now _ _ _ _ _ _ _ (room_next _ _ _ _ _ _ _ _ _ second (omega arith) (omega arith) c.add-2.ensures) (omega arith) (amount_le _ _ _ _ c.when_true-3.ensures refl)
+pub loop-month-preserved : goal.loop-month-preserved
+loop-month-preserved c =
+    let i = c.loop-month.invariant in
+    let past : i.0 ≡ c.loop-month.month - 1 = (let m = i.1 in omega arith) in
+    let entered = added_next _ _ _ _ _ _ _ _ _ _ _ past i.1 i.2 c.has_month.ensures c.when_true-entering.ensures c.add.ensures in
+    (suc i.0, (let m = i.1 in omega arith), entered, room_next _ _ _ _ _ _ _ _ _ (rw past at i.3) (let m = i.1 in omega arith) (let m = i.1 in omega arith) c.add.ensures)
 
 pub returns : goal.returns
-returns c =
-    months_added _ _ _ _ _ _ _ _ _ _ _ _
-    (amount_is _ _ _ _ c.when_true.ensures c.has_month.ensures)
-    (amount_is _ _ _ _ c.when_true-2.ensures c.has_month-2.ensures)
-    (amount_is _ _ _ _ c.when_true-3.ensures c.has_month-3.ensures)
-    c.add.ensures
-    c.add-2.ensures
-    c.add-3.ensures
+returns c = let i = c.loop-month.invariant in i.2 ∙ ap (added_before _ _ _ _ _ _) (let e : i.0 ≡ 3 = (let m = i.1 in omega arith) in e) ∙ months_added _ _ _ _ _ _

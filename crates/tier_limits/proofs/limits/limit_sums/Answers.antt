@@ -12,9 +12,9 @@ overflow_sub-slots c = (month_range _ _ _ _ _ _ 0 _ c.requires c.tier_rule-rule.
 pub overflow_add-slots : goal.overflow_add-slots
 overflow_add-slots c = let months = month_range _ _ _ _ _ _ 0 _ c.requires c.tier_rule-rule.ensures c.carried_month-month.ensures in omega arith
 
-pub sum_paths-sums-requires : goal.sum_paths-sums-requires
-sum_paths-sums-requires c = all_summable _ _ _ _ _ _ _ _ c.requires c.tier_rule-rule.ensures c.carried_month-month.ensures c.saturating_sub-last.ensures
+pub sum_paths-carried-requires : goal.sum_paths-carried-requires
+sum_paths-carried-requires c = all_summable _ _ _ _ _ _ _ _ c.requires c.tier_rule-rule.ensures c.carried_month-month.ensures c.saturating_sub-last.ensures
 
 pub returns : goal.returns
 returns c m x r =
-    limit_sums_are _ _ _ _ _ _ _ _ c.requires c.tier_rule-rule.ensures m x r _ _ _ _ c.carried_month-month.ensures c.saturating_sub-last.ensures c.read-load.ensures c.sum_paths-sums.ensures (c.ten_year_in-ten_year_kw.ensures m x r) c.is_obaalse-obaalse.ensures
+    limit_sums_are _ _ _ _ _ _ _ _ c.requires c.tier_rule-rule.ensures m x r _ _ _ _ c.carried_month-month.ensures c.saturating_sub-last.ensures c.read-load.ensures c.sum_paths-carried.ensures (c.ten_year_in-ten_year_kw.ensures m x r) c.is_obaalse-obaalse.ensures
