@@ -7,7 +7,8 @@ ghost use Rattle.ledger.specs.Causes.{kind_ineligible, is_sub_lap, needs_verific
 ghost use Rattle.records.specs.Refusals.{refused_by};
 ghost use Rattle.slots.specs.Steps.{ReachableFigures, InFigures, FiguresStep};
 ghost use Rattle.nomination_tests.specs.Nominated.{InNomination};
-ghost use Rattle.nominations.specs.CauseOrder.{causes_before_tier, causes_before_step};
+ghost use Rattle.slots.specs.TierCall.{causes_before_tier};
+ghost use Rattle.nominations.specs.CauseOrder.{causes_before_step};
 
 use nomination_tests::nomination::Nomination;
 use nomination_tests::source_usage::{has_evidence, source_usage, verified_kw};

@@ -1,7 +1,6 @@
 -- A run over lent bytes: the number that the host gets, and the output buffer (01, Script and host).
-use Rattle.std.specs.Prelude.{ℕ, ◌+◌, ◌*◌, Bool, cond, ◌||◌, List, [], ◌++◌, length, drop, ltb, Result, Ok, Err}
+use Rattle.std.specs.Prelude.{ℕ, ◌+◌, ◌*◌, Bool, cond, ◌||◌, List, [], ◌++◌, length, drop, ltb}
 use Rattle.ledger.specs.Numbers.{unreadable}
-use Rattle.records.specs.declared.refusal.Refusal.{Refusal}
 use Rattle.records.specs.declared.refusal.Refusal.TheVariants.{OutputTooShort}
 use Rattle.records.specs.Refusals.{number_of}
 use Rattle.lines.specs.Text.{lines_of, max_lines, max_bytes, bytes_per_line}
@@ -31,11 +30,6 @@ output_too_short = number_of OutputTooShort
 -- the refusal of a whole script, 0 for a run
 unfoldable pub run_refusal : List ℕ → List ℕ → ℕ
 run_refusal script out = cond (too_long script) unreadable (cond (too_short script out) output_too_short 0)
-
--- how much a run wrote: 0 where it was refused
-abbrev pub written_length : Result ℕ Refusal → ℕ
-written_length (Ok n) = n
-written_length (Err refusal) = 0
 
 -- the refusal is given in units of 1,000,000, so that the written length fits below
 abbrev pub refusal_unit : ℕ

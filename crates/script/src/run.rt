@@ -1,10 +1,11 @@
 // A run over a lent script and a lent output buffer (01, Script and host).
 ghost use Rattle.std.specs.Prelude.{◌≡◌, ◌≤◌, length};
+ghost use Rattle.std.specs.Result.{result_unwrap_or};
 ghost use Rattle.lines.specs.Rows.{rows_of};
 ghost use Rattle.lines.specs.Writing.{Wrote};
 ghost use Rattle.script.specs.Writing.{HasRoomForLines};
 ghost use Rattle.records.specs.Refusals.{refused_by};
-ghost use Rattle.script.specs.Run.{answers_text, written, written_length, run_refusal, run_number, output_after};
+ghost use Rattle.script.specs.Run.{answers_text, written, run_refusal, run_number, output_after};
 ghost use Rattle.lines.specs.Text.{max_lines};
 
 use crate::answers::write_answer;
@@ -37,8 +38,8 @@ fn answer_script(script: &[u8], out: &mut Output)
 // Runs a script: the written length, or the refusal of the whole run, which writes nothing. Nothing is asked of the two slices.
 pub fn run_script(script: &[u8], out: &mut [u8]) -> Result<usize, Refusal>
     ensures refused { refused_by result ≡ run_refusal script.now out.old }
-    ensures written { written_length result ≡ length (written script.now out.old) }
-    ensures within { written_length result ≤ length out.old }
+    ensures written { result_unwrap_or result 0 ≡ length (written script.now out.old) }
+    ensures within { result_unwrap_or result 0 ≤ length out.old }
     ensures output { out.new ≡ output_after script.now out.old }
 {
     if MAX_BYTES < script.len() {
