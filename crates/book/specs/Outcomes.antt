@@ -1,8 +1,10 @@
 -- What a call returns: the ledger's answer, and the book of the ledger's next step.
 use Rattle.std.specs.Prelude.{ℕ, cond, List, Result, Err}
+use Rattle.load_metric.specs.Columns.{blocks_of, same_lengths}
 use Rattle.netting.specs.declared.netting.ClassColumns.{ClassColumns}
 use Rattle.netting.specs.Netting.{class_lines_of, same_counts}
-use Rattle.ledger.specs.Call.{Call, Query, migrate}
+use Rattle.load.specs.declared.metered.MeteredColumns.{MeteredColumns}
+use Rattle.ledger.specs.Call.{Call, Query, load, migrate}
 use Rattle.ledger.specs.Season as season
 use Rattle.records.specs.declared.refusal.Refusal.{Refusal}
 use Rattle.records.specs.declared.refusal.Refusal.TheVariants.{Unreadable}
@@ -26,7 +28,14 @@ outcome_of b c =
 unfoldable pub query_answer_in : Book → Query → Result ℕ Refusal
 query_answer_in b q = queried (season.answer (opening_of_book b) (ledger_of b) (season.query q))
 
--- slices of unequal length are no class lines: the call is refused as unreadable, and the book stays as it was
+-- slices of unequal length are no blocks and no class lines: the call is refused as unreadable, and the book stays as it was
+unfoldable pub outcome_of_blocks : Book → ℕ → ℕ → ℕ → ℕ → ℕ → List ℕ → List ℕ → List ℕ → Outcome
+outcome_of_blocks b h s term contract n fs hs ks =
+    cond (same_lengths fs hs ks) (outcome_of b (load h s term contract n (blocks_of fs hs ks))) (refused_with b Unreadable)
+
+abbrev pub outcome_of_metered : Book → ℕ → ℕ → MeteredColumns → Outcome
+outcome_of_metered b h s g = outcome_of_blocks b h s g.term g.contract g.n g.columns.firsts.now g.columns.hours.now g.columns.kws.now
+
 unfoldable pub outcome_of_lines : Book → ℕ → ℕ → List ℕ → List ℕ → List ℕ → List ℕ → List ℕ → Outcome
 outcome_of_lines b term sink froms tos classes customers watts =
     cond (same_counts froms tos classes customers watts) (outcome_of b (migrate term sink (class_lines_of froms tos classes customers watts)))

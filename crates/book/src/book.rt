@@ -1,4 +1,6 @@
 // The book: its opening, and its figures, what was posted and the evidence filed, in flat arrays.
+ghost use Rattle.std.specs.Prelude.{◌≡◌};
+
 use records::refusal::Refusal;
 use records::setup::KeptOpening;
 use slots::layout::{EVIDENCE_COUNT, Figures, Postings};
@@ -26,6 +28,33 @@ impl Model for Book {
     ghost inverse = { λ b. record { opening = b.opening; figures = b.figures; posted = b.posted; evidence = b.evidence } };
 
     ghost invariant = { λ b. Reachable b.opening b.figures b.posted b.evidence };
+}
+
+// What a book keeps, to be read.
+impl Book {
+    pub fn opening(&self) -> &KeptOpening
+        ensures { result.now ≡ self.now.opening }
+    {
+        &self.opening
+    }
+
+    pub fn figures(&self) -> &Figures
+        ensures { result.now ≡ self.now.figures }
+    {
+        &self.figures
+    }
+
+    pub fn posted(&self) -> &Postings
+        ensures { result.now ≡ self.now.posted }
+    {
+        &self.posted
+    }
+
+    pub fn evidence(&self) -> &[Entry; EVIDENCE_COUNT]
+        ensures { result.now ≡ self.now.evidence }
+    {
+        &self.evidence
+    }
 }
 
 // What a call answers, beside the next book.

@@ -1,7 +1,8 @@
 // Opening a book (01, The book; 02, 3/14; cause 16).
 ghost use Rattle.std.specs.Prelude.{◌≡◌};
 ghost use Rattle.ledger.specs.Ledger.{empty_ledger};
-ghost use Rattle.opening.specs.Opened.{opening_asked};
+ghost use Rattle.ledger.specs.Opening.{Opening};
+ghost use Rattle.opening.specs.Opened.{opening_asked, opening_listed, opened};
 ghost use Rattle.slots.specs.Layout.{evidence_of};
 ghost use Rattle.book.specs.Opened.{opening_outcome};
 ghost use Rattle.book.specs.Reachable.{Reachable};
@@ -11,6 +12,8 @@ use crate::book::{Book, Outcome};
 use opening::book_setup::BookSetup;
 use opening::kept::keep_nothing;
 use opening::opening::open;
+use opening::setup_lists::SetupLists;
+use records::refusal::Refusal;
 use records::setup::KeptOpening;
 use slots::layout::{EVIDENCE_COUNT, FIGURE_COUNT, POSTED_COUNT};
 use source_evidence::evidence::Entry;
@@ -35,11 +38,12 @@ fn blank_book(opening: KeptOpening) -> Book
     }
 }
 
-// Opens a book, for any counts, slices and settings. A refused one has nothing in it, so that what is returned is always a book.
-pub fn open_book(setup: BookSetup) -> Outcome
-    ensures { result ≡ opening_outcome (opening_asked setup.entry) }
+// What opening a book returns: the book of an opening that is kept, or beside the refusal one with nothing in it, so that there is always a book.
+fn outcome_of_opening(opening: Result<KeptOpening, Refusal>) -> Outcome
+    requires { (o : Opening) × (opening ≡ opened o) }
+    ensures { (o : Opening) → opening ≡ opened o → result ≡ opening_outcome o }
 {
-    match open(setup) {
+    match opening {
         Ok(opening) => Outcome {
             answer: Ok(()),
             book: blank_book(opening),
@@ -49,4 +53,18 @@ pub fn open_book(setup: BookSetup) -> Outcome
             book: blank_book(keep_nothing()),
         },
     }
+}
+
+// Opens a book, for any counts, slices and settings.
+pub fn open_book(setup: BookSetup) -> Outcome
+    ensures { result ≡ opening_outcome (opening_asked setup.entry) }
+{
+    outcome_of_opening(open(setup))
+}
+
+// Opens a book, for any counts, lists and settings.
+pub fn open_book_from_lists(lists: SetupLists) -> Outcome
+    ensures { result ≡ opening_outcome (opening_listed lists.entry) }
+{
+    outcome_of_opening(lists.open())
 }

@@ -3,11 +3,12 @@ ghost use Rattle.std.specs.Prelude.{◌≡◌};
 ghost use Rattle.ledger.specs.Call.{carry, migrate, prior};
 ghost use Rattle.load.specs.Loads.{load_of};
 ghost use Rattle.verify.specs.Asked.{verify_of};
-ghost use Rattle.book.specs.Outcomes.{outcome_of, outcome_of_columns};
+ghost use Rattle.book.specs.Outcomes.{outcome_of, outcome_of_columns, outcome_of_metered};
 
 use crate::book::{Book, Outcome};
+use load::columns::load_columns;
 use load::load::load;
-use load::metered::Metered;
+use load::metered::{Metered, MeteredColumns};
 use migrate::class_lines::migrate_lines;
 use migrate::migrate::migrate;
 use netting::netting::{ClassColumns, ClassLine};
@@ -28,6 +29,21 @@ impl Book {
             h,
             s,
             metered,
+        );
+        Outcome { answer, book: self }
+    }
+
+    // Posts the load of a holder at a sink in a term, whose blocks stand in three slices.
+    pub fn load_columns(mut self, h: u64, s: u64, metered_columns: MeteredColumns) -> Outcome
+        ensures { result ≡ outcome_of_metered self h s metered_columns.entry }
+    {
+        let answer = load_columns(
+            &self.opening,
+            &mut self.figures,
+            &mut self.posted,
+            h,
+            s,
+            metered_columns,
         );
         Outcome { answer, book: self }
     }

@@ -1,28 +1,32 @@
 -- The lines of the book group, read one kind after another, and the set line after them. Assumes nothing.
 use Prim.Native.Nat.{ℕ, ◌+◌, ◌-◌, ◌≤◌}
 use mathlib.Core.Path.{◌≡◌, refl, sym, ap, ◌∙◌}
-use mathlib.Core.Bool.{Bool, true, false, cond, ◌&&◌}
+use mathlib.Core.Bool.{Bool, true, false, cond, not, ◌&&◌}
 use mathlib.Core.List.{List, map}
 use native.Mathlib.Nat.{le_trans, le_of_eq, add-zero}
 use lib.ListN.{length, take, drop, get_or, replicate}
 use lib.Seq.{get_or-drop}
+use lib.Dec.{eqb}
+use borrow.Author.Tests.{eqb-true}
+use Rattle.std.specs.Option.{is_some, unwrap_or}
 use Rattle.lines.specs.declared.rows.LineKind.{LineKind}
 use Rattle.lines.specs.declared.rows.Row.{Row}
-use Rattle.std.specs.Prelude.{Option, Some, None}
+use Rattle.std.specs.Prelude.{Some, None}
 use Rattle.tariff.specs.Sizes.{max_places}
 use Rattle.tariff.specs.declared.settings.Settings.{Settings}
+use Rattle.tariff.specs.Settings.{present_settings, settings_of}
 use Rattle.records.specs.declared.setup.SinkLine.{SinkLine}
 use Rattle.records.specs.declared.setup.PathLine.{PathLine}
 use Rattle.counted_lines.specs.declared.counted.CountedLines.{CountedLines}
 use Rattle.counted_lines.specs.declared.book_lines.SetLine.{SetLine}
 use Rattle.counted_lines.specs.declared.book_lines.BookLists.{BookLists}
-use Rattle.counted_lines.specs.declared.book_lines.BookLines.{BookLines}
-use Rattle.lines.specs.declared.rows.LineKind.TheVariants.{Holder, Sink, Path}
-use Rattle.lines.specs.Rows.{unreadable_row, rows_of, field, counted, holder_rows, sink_rows, path_rows, head_count, set_count, not_broken, settings_on, set_row, set_readable, settings_of_rows, book_line_count}
+use Rattle.counted_lines.specs.declared.book_lines.ReadLists.{ReadLists}
+use Rattle.lines.specs.declared.rows.LineKind.TheVariants.{Holder, Sink, Path, Set, BrokenSet}
+use Rattle.lines.specs.Rows.{kind_number, same_kind, unreadable_row, rows_of, field, counted, holder_rows, sink_rows, path_rows, head_count, set_count, not_broken, settings_on, set_row, set_readable, settings_of_rows, book_line_count}
 use Rattle.lines.specs.Reading.{next_row}
 use Rattle.counted_lines.specs.Counted.{bytes_of_lines, rows_counted, counted_of, sink_line_of, path_line_of, with_lines}
 use Rattle.records.specs.Opening.{no_sink, no_path}
-use Rattle.counted_lines.specs.BookLines.{first_lines, settings_read, set_line_of, book_lines_complete, book_lists_of, book_lines_of}
+use Rattle.counted_lines.specs.BookLines.{first_lines, settings_read, set_line_of, book_lines_complete, book_lists_of, read_lists_of}
 use Rattle.counted_lines.proofs.LineBytes.{bytes_add, bytes_within, rest_all, rest_rows}
 use Rattle.counted_lines.proofs.SetLaws.{next_first}
 
@@ -44,17 +48,22 @@ consumed_is kind n s x e = ap (λ y. y.consumed) e
 after : (s : List ℕ) (n u : ℕ) → u ≡ bytes_of_lines n s → (kind : LineKind) (m : ℕ) (x : CountedLines) → x ≡ counted_of kind m (take (length s - u) (drop u s)) → u + x.consumed ≡ bytes_of_lines (n + m) s
 after s n u here kind m x e = (λ i. here i + (consumed_is kind m (take (length s - u) (drop u s)) x e ∙ ap (bytes_of_lines m) (rest_all s n u here)) i) ∙ sym (bytes_add n m s)
 
--- lists are made where the lines are complete and there are fractions
-unfoldable pub lists_if : (Settings → BookLists) → Bool → Option Settings → Option BookLists
-lists_if kept complete (Some settings) = cond complete (Some (kept settings)) None
-lists_if kept complete None = None
+-- whether fractions were read, and those that hold where none were
+read_some : (r : Row) → is_some (settings_read r) ≡ not_broken r
+unfolding settings_read
+read_some r = go (not_broken r)
+  where
+    go : (t : Bool) → is_some (cond t (Some (settings_on r)) None) ≡ t
+    go true = refl
+    go false = refl
 
-lists_if_both : (kept : Settings → BookLists) (complete read : Bool) (settings : Settings) → lists_if kept complete (cond read (Some settings) None) ≡ cond (complete && read) (Some (kept settings)) None
-unfolding lists_if
-lists_if_both kept true true settings = refl
-lists_if_both kept true false settings = refl
-lists_if_both kept false true settings = refl
-lists_if_both kept false false settings = refl
+fractions_read : (r : Row) → unwrap_or (settings_read r) present_settings ≡ settings_on r
+unfolding settings_read not_broken settings_on
+fractions_read r = go (same_kind r.kind BrokenSet) refl
+  where
+    go : (t : Bool) → same_kind r.kind BrokenSet ≡ t → unwrap_or (cond (not t) (Some (settings_on r)) None) present_settings ≡ settings_on r
+    go false e = refl
+    go true e = sym (ap (λ n. cond (eqb n (kind_number Set)) (settings_of r.fields) present_settings) (eqb-true (kind_number r.kind) (kind_number BrokenSet) e))
 
 -- the three kinds together, and the set line
 module _ (s : List ℕ) (head : Row) where
@@ -121,23 +130,20 @@ module _ (s : List ℕ) (head : Row) where
             unfolding set_line_of left
             settings-are = ap (λ l. l.settings) read_w ∙ ap settings_read row_here
 
-            lists-are : cond (x.complete && y.complete && z.complete && set_readable head (rows_of s)) (Some (kept (settings_of_rows head (rows_of s)))) None ≡ cond (book_lines_complete head (rows_of s)) (Some (book_lists_of head (rows_of s))) None
-            unfolding book_lists_of book_lines_complete holder_rows sink_rows path_rows first_lines field
-            lists-are =
-                λ i.
-                cond
-                (complete-is n0 s (rows_of s) refl Holder x read_x i && complete-is n2 _ _ sinks-here Sink y read_y i && complete-is n3 _ _ paths-here Path z read_z i && set_readable head (rows_of s))
-                (Some (record {
-                  holder_kinds = kept-are n0 s (rows_of s) refl (field 0) (replicate max_places 0) holder_kinds kept_holders i;
-                  sink_lines = kept-are n2 _ _ sinks-here sink_line_of (replicate max_places no_sink) sink_lines kept_sinks i;
-                  path_lines = kept-are n3 _ _ paths-here path_line_of (replicate max_places no_path) path_lines kept_paths i;
-                  settings = settings_of_rows head (rows_of s);
-                }))
-                None
-
-            pub lines_read : (lists : Option BookLists) → lists ≡ lists_if kept (x.complete && y.complete && z.complete) w.settings → ◌≡◌ {A = BookLines} (record { lists = lists; consumed = x.consumed + y.consumed + z.consumed + w.consumed }) (book_lines_of head s)
-            unfolding book_lines_of settings_read set_readable settings_of_rows
-            lines_read lists made =
-                let complete = x.complete && y.complete && z.complete in
+            pub lists_read : (settings : Settings) → settings ≡ unwrap_or w.settings present_settings → ◌≡◌ {A = ReadLists} (record { lists = kept settings; complete = x.complete && y.complete && z.complete && is_some w.settings; consumed = x.consumed + y.consumed + z.consumed + w.consumed }) (read_lists_of head s)
+            unfolding read_lists_of book_lists_of book_lines_complete holder_rows sink_rows path_rows first_lines field set_readable settings_of_rows
+            lists_read settings made =
                 let row = set_row head (rows_of s) in
-                λ i. record { lists = (made ∙ ap (lists_if kept complete) settings-are ∙ lists_if_both kept complete (not_broken row) (settings_on row) ∙ lists-are) i; consumed = at-end i }
+                λ i.
+                record {
+                  lists =
+                      record {
+                        holder_kinds = kept-are n0 s (rows_of s) refl (field 0) (replicate max_places 0) holder_kinds kept_holders i;
+                        sink_lines = kept-are n2 _ _ sinks-here sink_line_of (replicate max_places no_sink) sink_lines kept_sinks i;
+                        path_lines = kept-are n3 _ _ paths-here path_line_of (replicate max_places no_path) path_lines kept_paths i;
+                        settings = (made ∙ ap (λ y. unwrap_or y present_settings) settings-are ∙ fractions_read row) i;
+                      };
+                  complete =
+                      complete-is n0 s (rows_of s) refl Holder x read_x i && complete-is n2 _ _ sinks-here Sink y read_y i && complete-is n3 _ _ paths-here Path z read_z i && (ap is_some settings-are ∙ read_some row) i;
+                  consumed = at-end i;
+                }

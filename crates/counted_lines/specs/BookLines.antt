@@ -7,6 +7,7 @@ use Rattle.lines.specs.declared.rows.Row.{Row}
 use Rattle.counted_lines.specs.declared.book_lines.SetLine.{SetLine}
 use Rattle.counted_lines.specs.declared.book_lines.BookLists.{BookLists}
 use Rattle.counted_lines.specs.declared.book_lines.BookLines.{BookLines}
+use Rattle.counted_lines.specs.declared.book_lines.ReadLists.{ReadLists}
 use Rattle.lines.specs.declared.rows.LineKind.TheVariants.{Holder, Sink, Path}
 use Rattle.lines.specs.Rows.{rows_of, field, counted, holder_rows, sink_rows, path_rows, set_count, not_broken, settings_on, set_readable, settings_of_rows, book_line_count}
 use Rattle.lines.specs.Reading.{next_row}
@@ -46,6 +47,15 @@ module _ (head : Row) (rows : List Row) where
         path_lines = first_lines no_path (map path_line_of (path_rows head rows));
         settings = settings_of_rows head rows;
       }
+
+-- what stands there, whether it is complete, and how many bytes it takes
+unfoldable pub read_lists_of : Row → List ℕ → ReadLists
+read_lists_of head rest =
+    record {
+      lists = book_lists_of head (rows_of rest);
+      complete = book_lines_complete head (rows_of rest);
+      consumed = bytes_of_lines (book_line_count head (rows_of rest)) rest;
+    }
 
 -- what stands on them, where they are complete, and how many bytes they take
 unfoldable pub book_lines_of : Row → List ℕ → BookLines

@@ -1,6 +1,6 @@
 // The lines of the book group after its head: those that the head counts, read one kind after another (01, Script and host), and the set line (02, 3/14).
 ghost use Rattle.std.specs.Prelude.{◌≡◌};
-ghost use Rattle.counted_lines.specs.BookLines.{set_line_of, book_lines_of};
+ghost use Rattle.counted_lines.specs.BookLines.{set_line_of, book_lines_of, read_lists_of};
 
 use crate::counted::read_counted;
 use lines::lines::next_row;
@@ -25,6 +25,15 @@ pub struct BookLists {
     pub sink_lines: [SinkLine; MAX_PLACES],
     pub path_lines: [PathLine; MAX_PLACES],
     pub settings: Settings,
+}
+
+// What stands where the lines that a book head counts and the set line belong, whatever lines they are and as far as there are any, whether they are
+// those lines, and how many bytes they take. A set line that cannot be read has the fractions that hold without one.
+#[derive(Clone, Copy)]
+pub struct ReadLists {
+    pub lists: BookLists,
+    pub complete: bool,
+    pub consumed: usize,
 }
 
 // The lines that a book head counts and the set line after them: what stands on them, none where a line is absent, of another kind or cannot be read,
@@ -60,8 +69,8 @@ fn read_set_line(rest: &[u8]) -> SetLine
 }
 
 // Reads the lines that a book head counts, holders, then sinks, then paths, and the set line after them.
-pub fn read_book_lines(rest: &[u8], head: Row) -> BookLines
-    ensures { result ≡ book_lines_of head rest.now }
+pub fn read_book_lists(rest: &[u8], head: Row) -> ReadLists
+    ensures { result ≡ read_lists_of head rest.now }
 {
     let [holder_count, _, sink_count, path_count, ..] = head.fields;
     let mut holder_kinds = [0u64; MAX_PLACES];
@@ -84,17 +93,31 @@ pub fn read_book_lines(rest: &[u8], head: Row) -> BookLines
     );
     let at_set = at_paths + paths.consumed;
     let set = read_set_line(&rest[at_set..]);
-    let lists = match set.settings {
-        Some(settings) if holders.complete & sinks.complete & paths.complete => Some(BookLists {
+    ReadLists {
+        lists: BookLists {
             holder_kinds,
             sink_lines,
             path_lines,
-            settings,
-        }),
-        _ => None,
+            settings: set.settings.unwrap_or(Settings::present()),
+        },
+        complete: holders.complete & sinks.complete & paths.complete & set.settings.is_some(),
+        consumed: at_set + set.consumed,
+    }
+}
+
+// The same where the lines are complete, and none of it where they are not.
+#[tactic(auto, unfolding(crate::specs::BookLines::book_lines_of, crate::specs::BookLines::read_lists_of))]
+pub fn read_book_lines(rest: &[u8], head: Row) -> BookLines
+    ensures { result ≡ book_lines_of head rest.now }
+{
+    let read = read_book_lists(rest, head);
+    let lists = if read.complete {
+        Some(read.lists)
+    } else {
+        None
     };
     BookLines {
         lists,
-        consumed: at_set + set.consumed,
+        consumed: read.consumed,
     }
 }

@@ -21,9 +21,11 @@ use records::refusal::Refusal;
 use records::setup::KeptOpening;
 use slots::layout::{Figures, Postings};
 
-// Up to so many lines are kept in a small array, so that a short group does not pay for room that it does not need. A script has no more lines than
-// the large one keeps, MAX_LINES.
-const FEW_LINES: usize = 64;
+// Up to so many lines are kept in a small array, and up to so many in one of middle size, so that a short group does not pay for room that it does not need.
+// A script has no more lines than the large one keeps, MAX_LINES.
+const FEW_LINES: usize = 8;
+
+const SOME_LINES: usize = 64;
 
 // Reads the lines that a head counts into an array that has a place for each of them, and puts them to a call, if they can be read. The call is lent, so
 // that what it leaves in the arrays that it writes is known.
@@ -52,7 +54,7 @@ fn answer_with_room<
     }
 }
 
-// The same in the small array or the large one.
+// The same in the smallest of the three arrays that has room.
 fn answer_counted<T: CountedLine + Default, F: FnMut(&[T]) -> Result<(), Refusal>>(
     rest: &[u8],
     kind: LineKind,
@@ -68,6 +70,9 @@ fn answer_counted<T: CountedLine + Default, F: FnMut(&[T]) -> Result<(), Refusal
 {
     if count <= FEW_LINES as u64 {
         return answer_with_room::<T, FEW_LINES, F>(rest, kind, count, call);
+    }
+    if count <= SOME_LINES as u64 {
+        return answer_with_room::<T, SOME_LINES, F>(rest, kind, count, call);
     }
     answer_with_room::<T, MAX_LINES, F>(rest, kind, count, call)
 }

@@ -19,7 +19,9 @@ fn unreadable_line(rest: &[u8]) -> NextRow
     ensures { result ≡ unreadable_line rest.now }
 {
     let length = line_length(rest);
-    let row = unread_row(rest);
+    // Field by field: the bytes beside a kind would be copied with a whole row, and waited for.
+    let Row { kind, fields } = unread_row(rest);
+    let row = Row { kind, fields };
     if length < rest.len() {
         return NextRow {
             row,

@@ -1,2 +1,3 @@
 pub mod BlockLaws
 pub mod LoadLaws
+pub mod CountedColumns

@@ -1,7 +1,7 @@
 -- The metric, found on the way down from the highest kW. Each step comes to a block's kW that is within the exceedance, with more hours at or above it than
 -- the step before. The metric is the first that has more hours at or above it than may be exceeded, or all of them. Assumes nothing.
 use Prim.Native.Nat.{ℕ, suc, ◌-◌, ◌≤◌, ◌<◌, min}
-use mathlib.Core.Path.{◌≡◌, ap}
+use mathlib.Core.Path.{◌≡◌, sym, ap, ◌∙◌}
 use mathlib.Core.List.{List}
 use native.Mathlib.Nat.{le_refl}
 use native.Mathlib.Omega.{arith}
@@ -75,3 +75,26 @@ module _ (most : ℕ) where
   stand_highest bs some =
       let none = none_above_highest (highest_kw (kws_of bs)) bs (le_refl (highest_kw (kws_of bs))) in
       record { among = among_highest (kws_of bs) (rw (length-map bs (λ b. b.kw)) some); allowed = omega arith }
+
+  -- the limit of the way down, as the code finds it
+  pub limit_is : (bs : List Block) {present less limit : ℕ} → present_hours bs ≡ present → less ≡ present - 1 → limit ≡ min most less → limit ≡ most_above bs
+  limit_is bs covered e is = is ∙ ap (min most) (e ∙ ap (λ p. p - 1) (sym covered))
+
+  -- one pass of the loop: at a kW, with the step down from there, below a limit
+  module _ (bs : List Block) (each_has_hours : EachHasHours bs) (kw : ℕ) {below : Level} {limit : ℕ} (stands : Standing bs kw) (is : below ≡ level_below kw bs) (at : limit ≡ most_above bs) where
+    allowed : below.above ≤ limit → hours_at_least kw bs ≤ most_above bs
+    allowed h = let above = level_above kw bs is in omega arith
+
+    pub goes_down : below.above ≤ limit → Standing bs below.kw
+    goes_down h = rw (level_kw kw bs is) (step_down bs each_has_hours kw stands (allowed h))
+
+    pub goes_up : {next : Level} → below.above ≤ limit → next ≡ level_below below.kw bs → below.above < next.above
+    goes_up h then_is =
+        let adds = step_adds bs each_has_hours kw stands (allowed h) in
+        let from = ap (λ v. hours_at_least v bs) (level_kw kw bs is) in
+        let above = level_above kw bs is in
+        let more = level_above below.kw bs then_is in
+        omega arith
+
+    pub ends : limit < below.above → kw ≡ smallest_within most bs
+    ends h = let above = level_above kw bs is in sym (metric_found bs each_has_hours kw stands (omega arith))

@@ -1,6 +1,7 @@
 pub mod RuledOut
 pub mod Metric
 pub mod Blocks
+pub mod ColumnLaws
 pub mod Ordered
 pub mod Lowest
 pub mod Levels

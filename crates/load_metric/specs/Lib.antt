@@ -2,3 +2,4 @@
 pub mod Load
 pub mod Metering
 pub mod Levels
+pub mod Columns

@@ -2,4 +2,5 @@
 #![tactic(auto)]
 
 pub mod block;
+pub mod columns;
 pub mod load;

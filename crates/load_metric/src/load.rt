@@ -18,9 +18,9 @@ pub enum BlockError {
 
 // A step down from a kW: the highest kW below it, 0 if there is none, and the hours at or above it, which lie above the lower one.
 #[derive(Clone, Copy)]
-struct Level {
-    kw: u64,
-    above: u64,
+pub(crate) struct Level {
+    pub(crate) kw: u64,
+    pub(crate) above: u64,
 }
 
 // The hours that blocks cover, where they ascend, do not overlap, have an hour or more and end by hour n. `from` is where the last one ended.

@@ -18,14 +18,14 @@ pub(crate) fn names_unknown(o: &KeptOpening, line: ClassLine) -> bool
 }
 
 // Whether some line names a holder who is not in the book.
-pub(crate) fn any_unknown(o: &KeptOpening, lines: ClassLines) -> bool
+pub fn any_unknown(o: &KeptOpening, lines: ClassLines) -> bool
     ensures { result ≡ unknown_holder_in (opening_of o.entry) (lines_in lines.entry.columns) }
 {
     lines.any(|line| names_unknown(o, line))
 }
 
 // Whether some line has a field outside its range.
-pub(crate) fn any_out_of_range(lines: ClassLines) -> bool
+pub fn any_out_of_range(lines: ClassLines) -> bool
     ensures { result ≡ any_of (lines_in lines.entry.columns) class_line_out_of_range }
 {
     lines.any(|line| line.is_out_of_range())
@@ -40,7 +40,7 @@ fn not_between_lses(o: &KeptOpening, line: ClassLine) -> bool
 }
 
 // Whether some line is not between two different LSEs.
-pub(crate) fn any_not_between_lses(o: &KeptOpening, lines: ClassLines) -> bool
+pub fn any_not_between_lses(o: &KeptOpening, lines: ClassLines) -> bool
     ensures { result ≡ any_of (lines_in lines.entry.columns) (line_not_between_lses (opening_of o.entry)) }
 {
     lines.any(|line| not_between_lses(o, line))

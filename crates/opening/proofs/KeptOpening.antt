@@ -50,11 +50,15 @@ pub legal_by_lines : (o : KeptOpening) → legal (opening_in o) ≡ (counts_fit 
 unfolding legal opening_in
 legal_by_lines o = rw (kept_lists o, and-true (counts_fit (opening_in o)))
 
+-- what is kept of an opening, by the lines that it keeps
+pub kept_by_lines : (o : Opening) (kinds : List ℕ) (sinks : List SinkLine) (paths : List PathLine) → kinds ≡ with_room 0 8 o.holder_kinds → sinks ≡ tabulate 16 (sink_line o) → paths ≡ tabulate 16 (path_line o) → record { holders = o.holders; sources = o.sources; sinks = o.sinks; paths = o.paths; holder_kinds = kinds; sink_lines = sinks; path_lines = paths; settings = o.settings; bases = path_bases o } ≡ kept_opening o
+unfolding kept_opening
+kept_by_lines o kinds sinks paths of_kinds of_sinks of_paths = λ i. record (kept_opening o) { holder_kinds = of_kinds i; sink_lines = of_sinks i; path_lines = of_paths i }
+
 -- the lines of a setup, with room made for as many as a book can have, are those of its opening
 pub lines_kept : (s : BookSetup) (kinds : List ℕ) (sinks : List SinkLine) (paths : List PathLine) → kinds ≡ with_room 0 8 s.holder_kinds.now → sinks ≡ tabulate 16 (λ k. get_or s.sink_lines.now k no_sink) → paths ≡ tabulate 16 (λ k. get_or s.path_lines.now k no_path) → record { holders = s.holders; sources = s.sources; sinks = s.sinks; paths = s.paths; holder_kinds = kinds; sink_lines = sinks; path_lines = paths; settings = s.settings; bases = path_bases (opening_asked s) } ≡ kept_opening (opening_asked s)
-unfolding kept_opening opening_from with_room
-lines_kept s kinds sinks paths of_kinds of_sinks of_paths =
-    λ i. record (kept_opening (opening_asked s)) { holder_kinds = of_kinds i; sink_lines = (of_sinks ∙ ap (tabulate 16) sink_columns) i; path_lines = (of_paths ∙ ap (tabulate 16) path_columns) i }
+unfolding opening_from
+lines_kept s kinds sinks paths of_kinds of_sinks of_paths = kept_by_lines (opening_asked s) kinds sinks paths of_kinds (of_sinks ∙ ap (tabulate 16) sink_columns) (of_paths ∙ ap (tabulate 16) path_columns)
   where
     sink_columns : (λ k. get_or s.sink_lines.now k no_sink) ≡ sink_line (opening_asked s)
     sink_columns i k = record { kind = sym (in_column {A = SinkLine} (λ line. line.kind) s.sink_lines.now no_sink k) i; parent = sym (in_column {A = SinkLine} (λ line. line.parent) s.sink_lines.now no_sink k) i }

@@ -6,6 +6,7 @@ use Rattle.records.specs.declared.refusal.Refusal.TheVariants.{BreaksRules}
 use Rattle.records.specs.declared.setup.KeptOpening.{KeptOpening}
 use Rattle.records.specs.Opening.{kept_opening, empty_opening, opening_from}
 use Rattle.opening.specs.declared.book_setup.BookSetup.{BookSetup}
+use Rattle.opening.specs.declared.setup_lists.SetupLists.{SetupLists}
 
 -- the opening that a caller asks for
 abbrev pub opening_asked : BookSetup → Opening
@@ -16,6 +17,10 @@ opening_asked s =
     (map (λ line. line.source) s.path_lines.now)
     (map (λ line. line.sink) s.path_lines.now)
     s.settings
+
+-- and one that is asked for by lists, each as it is
+abbrev pub opening_listed : SetupLists → Opening
+opening_listed s = opening_from s.holders s.sources s.sinks s.paths s.holder_kinds.now s.sink_kinds.now s.sink_parents.now s.path_sources.now s.path_sinks.now s.settings
 
 -- a legal opening is kept, any other refused
 unfoldable pub opened : Opening → Result KeptOpening Refusal

@@ -5,3 +5,4 @@ pub mod book_setup;
 pub mod kept;
 pub mod legality;
 pub mod opening;
+pub mod setup_lists;

@@ -5,6 +5,7 @@ pub mod answers;
 pub mod calendar;
 pub mod kinds;
 pub mod lists;
+pub mod opening_numbers;
 pub mod ranges;
 pub mod refusal;
 pub mod setup;

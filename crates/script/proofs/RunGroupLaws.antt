@@ -39,7 +39,7 @@ use Rattle.script.proofs.WritableLaws.{outcome_writable, query_writable}
 -- what a group is answered fits its line
 pub group_writable : (b : Book) → Reachable b → (g : Group) → Writable (answer_in (outcome_of_group b g).answer)
 unfolding outcome_of_group answer_in
-group_writable b r unreadable_group = refused_writable 1
+group_writable b r unreadable_group = refused_writable 1 (omega arith)
 group_writable b r (request (call c)) = outcome_writable b r c
 group_writable b r (request (query q)) = query_writable b r q
 

@@ -52,8 +52,8 @@ group_writable script = go (book_readable first left) (legal (opening_of_rows fi
 
     go : (t u : Bool) → Writable (answer_in (group_answer (cond t (cond u (Ok (kept_opening (opening_of_rows first left))) (Err BreaksRules)) (Err Unreadable))))
     go true true = done_writable
-    go true false = refused_writable 16
-    go false u = refused_writable 1
+    go true false = refused_writable 16 (omega arith)
+    go false u = refused_writable 1 (omega arith)
 
 module _ (script : List ℕ) (out : Output) (some : 1 ≤ length script) (few : length (rows_of script) ≤ max_lines) (room : HasRoomForLines out (length (rows_of script))) (x : BookGroup) (is : x ≡ book_group_of script) where
   -- the part of the script that is left

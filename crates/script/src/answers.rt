@@ -1,5 +1,5 @@
 // The line of an answer: ok, ok,V or no,NN (01, Script and host).
-ghost use Rattle.std.specs.Prelude.{Ok};
+ghost use Rattle.std.specs.Prelude.{Ok, ◌<◌};
 ghost use Rattle.ledger.specs.Season.{value, refused};
 ghost use Rattle.records.specs.Answers.{answer_in};
 ghost use Rattle.records.specs.Refusals.{number_of};
@@ -30,15 +30,23 @@ fn write_value(out: &mut Output, v: u64)
     out.write(b"\n");
 }
 
-// Writes `no,` and the two digits of a refusal's number.
+// Writes `no,` and the two digits of a number, which need not be that of a cause.
+pub fn write_refused(out: &mut Output, number: u64)
+    requires two_digits { number < 100 }
+    requires room { HasRoom out.old (text_of (refused number)) }
+    ensures { Wrote out.old out.new (text_of (refused number)) }
+{
+    let tens = digit_byte(number / 10 % 10);
+    let ones = digit_byte(number % 10);
+    out.write(&[b'n', b'o', b',', tens, ones, b'\n']);
+}
+
+// Writes the line of a refusal.
 fn write_refusal(out: &mut Output, refusal: Refusal)
     requires { HasRoom out.old (text_of (refused (number_of refusal))) }
     ensures { Wrote out.old out.new (text_of (refused (number_of refusal))) }
 {
-    let number = refusal.number();
-    let tens = digit_byte(number / 10 % 10);
-    let ones = digit_byte(number % 10);
-    out.write(&[b'n', b'o', b',', tens, ones, b'\n']);
+    write_refused(out, refusal.number());
 }
 
 // Writes `ok`, with the field of a figure where there is one.

@@ -89,3 +89,6 @@ EvidenceStep o f m c answer f' m' = (x : List Entry) → Reachable o f m x → S
 -- the same of a call whose lines stand in slices
 abbrev pub FiguresStepIf : Bool → (o : KeptOpening) (f : List ℕ) → Call → Result (Unit {0}) Refusal → List ℕ → Type 0
 FiguresStepIf same_lengths o f c answer f' = (m : List Bool) (x : List Entry) → Reachable o f m x → StepsIf same_lengths (opening_in o) (ledger_in f m x) c answer f' m x
+
+abbrev pub PostingsStepIf : Bool → (o : KeptOpening) (f : List ℕ) (m : List Bool) → Call → Result (Unit {0}) Refusal → List ℕ → List Bool → Type 0
+PostingsStepIf same_lengths o f m c answer f' m' = (x : List Entry) → Reachable o f m x → StepsIf same_lengths (opening_in o) (ledger_in f m x) c answer f' m' x

@@ -34,7 +34,8 @@ impl ScriptText {
         let Some(blank) = said.iter().position(|&byte| byte == b' ') else {
             return;
         };
-        let times = number_of(&said[..blank]);
+        // A line has a byte or more, so past so many copies none finds room.
+        let times = number_of(&said[..blank]).min(ROOM);
         for _ in 0..times {
             self.append(&said[blank + 1..]);
         }
